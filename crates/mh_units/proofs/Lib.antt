@@ -1,0 +1,9 @@
+pub mod Integers
+pub mod Least
+pub mod Roundings
+pub mod Numbers
+pub mod Digits
+pub mod Apart
+pub mod Answers
+pub mod Scans
+pub mod Fronts

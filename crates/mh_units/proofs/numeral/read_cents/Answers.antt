@@ -1,0 +1,8 @@
+use Rattle.std.proofs.Common.{rules}
+use Rattle.mh_units.specs.Numeral.{cents_of}
+use Rattle.mh_units.proofs.Answers.{cents_answer}
+use Rattle.mh_units.proofs.numeral.read_cents.Goals as goal
+
+pub returns-clause-answer : goal.returns-clause-answer
+unfolding cents_of
+returns-clause-answer c = cents_answer c.args.text.now c.map.result (search rules)

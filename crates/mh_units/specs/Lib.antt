@@ -1,0 +1,6 @@
+pub mod Rounding
+pub mod Least
+pub mod Grammar
+pub mod Scan
+pub mod Numeral
+pub mod Money
