@@ -1,0 +1,4 @@
+pub mod TakesLemmas
+pub mod FaultsLemmas
+pub mod MemoryLemmas
+pub mod FolderLemmas

@@ -1,0 +1,27 @@
+//! Sources, sinks and folders: every byte that comes in or goes out, with counts of the faults met.
+#![tactic(auto)]
+
+mod calls;
+mod folder;
+mod mem_file;
+mod mem_folder;
+mod mem_sink;
+mod mem_source;
+mod reading;
+mod real;
+mod sink;
+mod source;
+mod writing;
+
+pub use folder::{FindRefused, Folder};
+pub use mem_folder::MemFolder;
+pub use mem_sink::MemSink;
+pub use mem_source::MemSource;
+pub use reading::{MOST_BYTES, ReadAllFault, read_all};
+pub use real::{RealFolder, RealSink, RealSource};
+pub use sink::Sink;
+pub use source::{Failed, Source};
+pub use writing::{PutFault, put_all};
+
+#[cfg(test)]
+mod tests;
