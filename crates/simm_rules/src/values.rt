@@ -1,0 +1,71 @@
+use mh_units::Corr6;
+
+/// What one bucket gives to the margin of its class. Amounts are in cents, `q` in cents squared times 10^6.
+#[derive(Clone, Copy, Debug, PartialEq, Eq)]
+pub struct BucketMargin {
+    /// The sum over all ordered pairs of factors of correlation and both weighted sensitivities.
+    pub q: i128,
+    /// The bucket's margin, the root of `q`.
+    pub k: i128,
+    /// The sum of the weighted sensitivities, held between `-k` and `k`.
+    pub s: i128,
+    /// The sum of the weighted sensitivities.
+    pub sum: i128,
+    /// The sum of their sizes.
+    pub gross: i128,
+    /// The currency's concentration factor in interest rates, 1 elsewhere.
+    pub cr: Corr6,
+}
+
+/// A margin with all of its parts, in cents.
+#[derive(Clone, Copy, Debug, PartialEq, Eq)]
+pub struct Breakdown {
+    /// The margin of each risk class in each product class; place `6 * product + class`.
+    pub classes: [i128; 24],
+    /// The margin of each product class.
+    pub products: [i128; 4],
+    /// The add-on of fixed amounts.
+    pub fixed: i128,
+    /// The add-on of notional factors.
+    pub notional: i128,
+    /// The add-on of product class multipliers.
+    pub multiplier: i128,
+    /// The whole margin.
+    pub total: i128,
+}
+
+/// Which quantity of a book is out of range.
+#[derive(Clone, Copy, Debug, PartialEq, Eq)]
+pub enum RangeKind {
+    /// Rows.
+    RowCount,
+    /// Different keys of sensitivities.
+    KeyCount,
+    /// Different keys of one product class, risk class, side and bucket.
+    BucketKeys,
+    /// Weighted sizes of the delta rows of one product and risk class, in cents.
+    DeltaGross,
+    /// Weighted sizes of the volatility rows of one product and risk class, in cents.
+    VegaGross,
+}
+
+impl RangeKind {
+    /// The kind's number in printed text.
+    pub fn number(self) -> u8 {
+        match self {
+            RangeKind::RowCount => 1,
+            RangeKind::KeyCount => 2,
+            RangeKind::BucketKeys => 3,
+            RangeKind::DeltaGross => 4,
+            RangeKind::VegaGross => 5,
+        }
+    }
+}
+
+/// A book that is out of range: the first quantity that is above its limit.
+#[derive(Clone, Copy, Debug, PartialEq, Eq)]
+pub struct RangeFault {
+    pub which: RangeKind,
+    pub value: i128,
+    pub limit: i128,
+}
