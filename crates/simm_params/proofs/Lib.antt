@@ -1,0 +1,5 @@
+pub mod Listing
+pub mod Steps
+pub mod Places
+pub mod Ranged
+pub mod Weighed

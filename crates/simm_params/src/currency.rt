@@ -1,0 +1,68 @@
+ghost use Rattle.std.specs.Prelude.{◌≡◌, true, if◌then◌else◌};
+ghost use Rattle.simm_kinds.specs.NameText.{is_currency};
+ghost use Rattle.simm_params.specs.Values.{currency_text};
+
+use std::marker::Model;
+
+/// A currency: three letters in upper case. Currencies are ordered by their bytes, and contracts see just these.
+#[derive(Clone, Copy, Debug, PartialEq, Eq, PartialOrd, Ord)]
+pub struct Currency {
+    letters: [u8; 3],
+}
+
+impl Model for Currency {
+    ghost use Rattle.std.specs.Prelude.{◌≡◌, List, ℕ, true};
+    ghost use Rattle.simm_kinds.specs.NameText.{is_currency};
+
+    ghost Value = { List ℕ };
+
+    ghost view = { λ c. c.letters };
+
+    ghost invariant = { λ c. is_currency c.letters ≡ true };
+
+    ghost inverse = { λ bytes. record { letters = bytes } };
+}
+
+impl Currency {
+    /// The currency of these letters, if they are three in upper case.
+    pub fn new(letters: &[u8]) -> Option<Currency>
+        ensures { result ≡ (if is_currency letters.now then Some letters.now else None) }
+    {
+        match letters {
+            [first, second, third] => of_three([*first, *second, *third]),
+            _ => None,
+        }
+    }
+
+    /// The currency that a text names in letters of either case, if it does.
+    pub fn read(text: &[u8]) -> Option<Currency>
+        ensures { result ≡ currency_text text.now }
+    {
+        match text {
+            [first, second, third] => of_three([
+                first.to_ascii_uppercase(),
+                second.to_ascii_uppercase(),
+                third.to_ascii_uppercase(),
+            ]),
+            _ => None,
+        }
+    }
+
+    /// Lends the letters.
+    pub fn letters(&self) -> &[u8]
+        ensures value { result.now ≡ self.now }
+        ensures currency { is_currency self.now ≡ true }
+    {
+        &self.letters
+    }
+}
+
+fn of_three(letters: [u8; 3]) -> Option<Currency>
+    ensures { result ≡ (if is_currency letters then Some letters else None) }
+{
+    if letters.iter().all(|letter| letter.is_ascii_uppercase()) {
+        Some(Currency { letters })
+    } else {
+        None
+    }
+}

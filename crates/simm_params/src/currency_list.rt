@@ -1,0 +1,72 @@
+ghost use Rattle.std.specs.Prelude.{◌≡◌, [], ◌∷◌, ◌++◌, OnOk, OnErr, IfOk};
+ghost use Rattle.simm_rules.specs.Lookups.{is_listed};
+
+use crate::currency::Currency;
+use std::alloc::{AllocError, Global};
+use std::collections::BTreeSet;
+use std::marker::Model;
+
+/// Currencies in the order of the file, which contracts see as just that list. Whether a currency is among them is
+/// looked up in a tree.
+#[derive(Debug, Drop)]
+pub struct CurrencyList {
+    listed: Vec<Currency>,
+    different: BTreeSet<Currency>,
+}
+
+impl Model for CurrencyList {
+    ghost use Rattle.std.specs.Prelude.{List, ℕ};
+    ghost use Rattle.simm_params.specs.Listed.{AreListed};
+
+    ghost Value = { List (List ℕ) };
+
+    ghost view = { λ l. l.listed.items };
+
+    ghost invariant = { λ l. AreListed l.listed.items l.different.keys };
+}
+
+impl CurrencyList {
+    /// No currency. It takes no memory.
+    pub fn new(alloc: Global) -> Self
+        ensures { result ≡ [] }
+    {
+        CurrencyList {
+            listed: Vec::new(alloc),
+            different: BTreeSet::new(alloc),
+        }
+    }
+
+    /// Adds a currency at the end. For want of memory nothing changes.
+    pub fn push(&mut self, currency: Currency) -> Result<(), AllocError>
+        ensures ok { OnOk result (self.new ≡ self.old ++ currency ∷ []) }
+        ensures err { OnErr result (self.new ≡ self.old) }
+    {
+        // What is added is a currency.
+        let _letters = currency.letters();
+        self.listed.reserve(1)?;
+        self.different.insert(currency)?;
+        self.listed.push(currency)?;
+        Ok(())
+    }
+
+    /// Whether the list has a currency of this name.
+    pub fn has(&self, name: &[u8]) -> bool
+        ensures { result ≡ is_listed self.now name.now }
+    {
+        match Currency::new(name) {
+            Some(currency) => self.different.contains(&currency),
+            None => false,
+        }
+    }
+
+    /// The same currencies once more.
+    pub fn copy(&self, alloc: Global) -> Result<CurrencyList, AllocError>
+        ensures { IfOk result (λ l. l ≡ self.now) }
+    {
+        let mut copy = CurrencyList::new(alloc);
+        for currency in &self.listed {
+            copy.push(*currency)?;
+        }
+        Ok(copy)
+    }
+}

@@ -1,0 +1,23 @@
+//! The parameters of the margin rule: a TOML file read exactly by its grammar, and the look-ups of the calculators.
+#![tactic(auto)]
+
+mod category;
+mod currency;
+mod currency_list;
+mod document;
+mod fault;
+mod fx;
+mod fx_table;
+mod params;
+mod range;
+mod reading;
+mod value;
+
+pub use category::{ConcentrationCategory, VolatilityCategory};
+pub use currency::Currency;
+pub use fault::ParamFault;
+pub use params::Params;
+pub use reading::read_params;
+
+#[cfg(test)]
+mod tests;
