@@ -1,0 +1,5 @@
+pub mod Parts
+pub mod Currencies
+pub mod Places
+pub mod Gathered
+pub mod Batches
