@@ -1,0 +1,65 @@
+-- The concentration factor is the least number of its rule, and stays below 347; a ratio of two lies between 0 and 1.
+use Rattle.std.proofs.Common.{◌≡◌, ℕ, ◌*◌, ◌^◌, ◌<◌, ◌≤◌, ℤ, pos, negsuc, ◌*ℤ◌, ◌≤ℤ◌, ◌<ℤ◌, unsigned_abs, sym, subst, arith}
+use Rattle.std.proofs.lemmas.Nat.{mul-le}
+use Rattle.std.proofs.lemmas.Int.{ints, clamps}
+use Rattle.std.proofs.Math.IntN.{zero-*ℤ}
+use Rattle.std.specs.Int.{int_max}
+use Rattle.mh_units.specs.Rounding.{up, down, root, IsUp, IsRoot}
+use Rattle.mh_units.proofs.Integers.{below_next, mul-le_ℤ}
+use Rattle.mh_units.proofs.Roundings.{up_is, down_is, root_is}
+use Rattle.simm_rules.specs.Concentration.{IsConcentration, one, cr}
+
+-- ---- the ratio of the lesser over the greater
+
+pub ratio_bounds : (l g : ℤ) → pos 0 ≤ℤ l → pos 0 <ℤ g → l ≤ℤ g → (pos 0 ≤ℤ down (l *ℤ one) g) × (down (l *ℤ one) g ≤ℤ one)
+ratio_bounds l (pos k) low some le =
+    let d = down_is (l *ℤ one) (pos k) some in
+    (d.greatest (pos 0) (omega (arith, ints, zero-*ℤ (pos k))), below_next (down (l *ℤ one) (pos k)) one (l *ℤ one) k d.within (omega (arith, ints)))
+ratio_bounds l (negsuc k) low some le = absurd some.lt
+
+-- ---- the factor
+
+pub square_bound : (n t : ℕ) → 0 < t → n ≤ 120000 * t → up (pos n *ℤ pos (10 ^ 12)) (pos t) ≤ℤ pos (120000 * 10 ^ 12)
+square_bound n t some h =
+    let u = up_is (pos n *ℤ pos (10 ^ 12)) (pos t) (omega (arith, ints)) in
+    u.least (pos (120000 * 10 ^ 12)) (omega (arith, ints))
+
+pub root_bound : (s : ℤ) → s ≤ℤ pos (120000 * 10 ^ 12) → root s ≤ℤ pos 346999999
+root_bound s h = (root_is s).least (pos 346999999) (omega (arith, ints)) (omega (arith, ints))
+
+square_le : (r c : ℤ) → pos 0 ≤ℤ r → r ≤ℤ c → (r *ℤ r) ≤ℤ (c *ℤ c)
+square_le (pos k) (pos m) low h =
+    let le : k ≤ m = omega (arith, ints) in let square : k * k ≤ m * m = mul-le k k m m le le in omega (arith, ints)
+square_le (negsuc k) c low h = absurd low.le
+square_le (pos k) (negsuc m) low h = absurd h.le
+
+-- the greater of 1 and the least root of the least square is the least factor
+factor_is : (x s r : ℤ) (t : ℕ) → IsUp (pos (unsigned_abs x) *ℤ pos (10 ^ 12)) (pos t) s → IsRoot s r → IsConcentration x (pos t) (int_max one r)
+factor_is x s r t u h = record {
+  not_below_one = omega (arith, ints, clamps);
+  enough =
+      let square : s ≤ℤ (int_max one r *ℤ int_max one r) = let grown = square_le r (int_max one r) h.not_negative (omega (arith, ints, clamps)) in omega (arith, ints, h.enough) in
+      let scaled = mul-le_ℤ s (int_max one r *ℤ int_max one r) t square in omega (arith, ints, u.enough);
+  least = λ d from_one reached.
+      let root_least : r ≤ℤ d = h.least d (omega (arith, ints)) (u.least (d *ℤ d) reached) in omega (arith, ints, clamps);
+}
+
+pub cr_is : (x : ℤ) (t : ℕ) → 0 < t → IsConcentration x (pos t) (cr x (pos t))
+cr_is x t some =
+    let s = up (pos (unsigned_abs x) *ℤ pos (10 ^ 12)) (pos t) in
+    factor_is x s (root s) t (up_is (pos (unsigned_abs x) *ℤ pos (10 ^ 12)) (pos t) (omega (arith, ints))) (root_is s)
+
+-- ---- the same of a result that equals the rule's
+
+pub quotient_high : (l g q : ℤ) → pos 0 ≤ℤ l → pos 0 <ℤ g → l ≤ℤ g → q ≡ down (l *ℤ one) g → q ≤ℤ one
+quotient_high l g q low some le e = let bounds = ratio_bounds l g low some le in subst (λ z. z ≤ℤ one) (sym e) bounds.1
+
+pub root_small : (n : ℕ) (T : ℤ) (r : ℕ) → pos 1 ≤ℤ T → n ≤ 120000 * unsigned_abs T → pos r ≡ root (up (pos n *ℤ pos (10 ^ 12)) T) → r ≤ 346999999
+root_small n (pos t) r some h e =
+    let bound = root_bound (up (pos n *ℤ pos (10 ^ 12)) (pos t)) (square_bound n t (omega (arith, ints)) h) in
+    let small : pos r ≤ℤ pos 346999999 = subst (λ z. z ≤ℤ pos 346999999) (sym e) bound in omega (arith, ints)
+root_small n (negsuc t) r some h e = absurd some.le
+
+pub factor_from : (x T c : ℤ) → pos 1 ≤ℤ T → c ≡ cr x T → IsConcentration x T c
+factor_from x (pos t) c some e = subst (λ z. IsConcentration x (pos t) z) (sym e) (cr_is x t (omega (arith, ints)))
+factor_from x (negsuc t) c some e = absurd some.le

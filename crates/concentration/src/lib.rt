@@ -1,0 +1,105 @@
+//! How concentrated a position is: the concentration factor of a net sensitivity over its threshold, the ratio of two such
+//! factors, and the product of two correlations. All are in millionths, and nothing here takes memory.
+//! (ISDA SIMM methodology, concentration risk factors and correlations.)
+#![tactic(auto)]
+
+ghost use Rattle.std.specs.Prelude.{◌≡◌, ◌*◌, ◌≤◌, ◌^◌, pos, ◌≤ℤ◌, ◌<ℤ◌, ◌*ℤ◌, unsigned_abs};
+ghost use Rattle.mh_units.specs.Rounding.{down, root, up};
+ghost use Rattle.simm_rules.specs.Concentration.{IsConcentration, one};
+ghost use Rattle.simm_rules.specs.Concentration.{cr as cr_of, ratio as ratio_of};
+ghost use Rattle.simm_rules.specs.Delta.{combined};
+
+use mh_units::{Corr6, div_up, least_root, mul_corr};
+
+/// A factor or a correlation of 1.
+const ONE: Corr6 = Corr6(1_000_000);
+
+/// The concentration factor of a net sensitivity over its threshold, both in cents: the least `c` from 1 on with
+/// `c * c * threshold` at least the size of `net`, to the millionth.
+pub fn cr(net: i128, threshold: i64) -> Corr6
+    requires positive { pos 1 ≤ℤ threshold }
+    requires threshold_in_range { threshold ≤ℤ pos (10 ^ 15) }
+    requires net_in_range { unsigned_abs net ≤ 120000 * unsigned_abs threshold }
+    ensures value { result.0 ≡ cr_of net threshold }
+    ensures least { IsConcentration net threshold result.0 }
+    ensures from_one { one ≤ℤ result.0 }
+    ensures below { result.0 <ℤ pos 347000000 }
+{
+    let root = root_of_ratio(net.unsigned_abs(), i128::from(threshold));
+    Corr6(ONE.0.max(root as i64))
+}
+
+/// The lesser of two concentration factors over the greater, rounded down: how alike two concentrations are.
+pub fn ratio(a: Corr6, b: Corr6) -> Corr6
+    requires first_from_one { one ≤ℤ a.0 }
+    requires first_below { a.0 <ℤ pos 347000000 }
+    requires second_from_one { one ≤ℤ b.0 }
+    requires second_below { b.0 <ℤ pos 347000000 }
+    ensures value { result.0 ≡ ratio_of a.0 b.0 }
+    ensures not_negative { pos 0 ≤ℤ result.0 }
+    ensures at_most_one { result.0 ≤ℤ one }
+{
+    Corr6(quotient_below_one(a.0.min(b.0), a.0.max(b.0)))
+}
+
+/// The product of two correlations, rounded towards zero.
+pub fn combine(rho: Corr6, f: Corr6) -> Corr6
+    requires first { unsigned_abs rho.0 ≤ 1000000 }
+    requires second { unsigned_abs f.0 ≤ 1000000 }
+    ensures value { result.0 ≡ combined rho.0 f.0 }
+    ensures size { unsigned_abs result.0 ≤ 1000000 }
+{
+    mul_corr(rho, f)
+}
+
+// The root of the size of a net sensitivity over its threshold, upwards to the millionth.
+fn root_of_ratio(size: u128, threshold: i128) -> u128
+    requires positive { pos 1 ≤ℤ threshold }
+    requires threshold_in_range { threshold ≤ℤ pos (10 ^ 15) }
+    requires size_in_range { size ≤ 120000 * unsigned_abs threshold }
+    ensures value { pos result ≡ root (up (pos size *ℤ pos (10 ^ 12)) threshold) }
+    ensures size { result ≤ 346999999 }
+{
+    let square = div_up(size as i128 * 1_000_000_000_000, threshold);
+    least_root(square as u128)
+}
+
+// The lesser of two numbers over the greater, down to the millionth.
+fn quotient_below_one(lesser: i64, greater: i64) -> i64
+    requires low { pos 0 ≤ℤ lesser }
+    requires ordered { lesser ≤ℤ greater }
+    requires positive { pos 0 <ℤ greater }
+    requires high { greater <ℤ pos 347000000 }
+    ensures value { result ≡ down (lesser *ℤ one) greater }
+    ensures not_negative { pos 0 ≤ℤ result }
+    ensures at_most_one { result ≤ℤ one }
+{
+    (lesser * ONE.0).div_euclid(greater)
+}
+
+#[cfg(test)]
+mod tests {
+    use super::*;
+
+    #[test]
+    fn a_factor_is_rounded_up_and_at_least_one(rt: HostRuntime) {
+        assert_eq!(rt; cr(20_000_000_000, 10_000_000_000), Corr6(1_414_214));
+        assert_eq!(rt; cr(-40_000, 10_000), Corr6(2_000_000));
+        assert_eq!(rt; cr(0, 1), ONE);
+        assert_eq!(rt; cr(1_000_000_000_001, 1_000_000_000_000), Corr6(1_000_001));
+        assert_eq!(rt; cr(120_000, 1), Corr6(346_410_162));
+    }
+
+    #[test]
+    fn a_ratio_is_rounded_down(rt: HostRuntime) {
+        assert_eq!(rt; ratio(ONE, Corr6(1_414_214)), Corr6(707_106));
+        assert_eq!(rt; ratio(Corr6(1_414_214), ONE), Corr6(707_106));
+        assert_eq!(rt; ratio(Corr6(2_000_000), Corr6(2_000_000)), ONE);
+    }
+
+    #[test]
+    fn a_product_of_correlations_is_rounded_towards_zero(rt: HostRuntime) {
+        assert_eq!(rt; combine(Corr6(500_000), Corr6(707_107)), Corr6(353_553));
+        assert_eq!(rt; combine(Corr6(-500_000), Corr6(707_107)), Corr6(-353_553));
+    }
+}

@@ -1,0 +1,5 @@
+pub mod Sums
+pub mod Squares
+pub mod RootBounds
+pub mod Outer
+pub mod OverLists

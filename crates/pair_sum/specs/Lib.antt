@@ -1,0 +1,2 @@
+pub mod PairTotal
+pub mod WithItself

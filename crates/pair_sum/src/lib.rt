@@ -1,0 +1,19 @@
+//! Sums over all ordered pairs of weighted amounts, and the roots of such sums: the value of a bucket, and the margin over
+//! buckets. Nothing here takes memory.
+//! (ISDA SIMM methodology, aggregation within a bucket and across buckets.)
+#![tactic(auto)]
+
+mod correlation;
+mod item;
+mod pairs;
+mod roots;
+mod steps;
+#[cfg(test)]
+mod tests;
+
+pub use correlation::Correlation;
+pub use item::Item;
+pub use pairs::{pair_sum, pair_term};
+pub use roots::{bucket_root, outer_root};
+pub use simm_rules::BucketMargin;
+pub use steps::Steps;
