@@ -1,0 +1,208 @@
+-- The order of rows does not matter to their nets, so that a row may be added at the end.
+use Rattle.std.proofs.Common.{◌≡◌, ℕ, List, [], ◌∷◌, ◌++◌, map, length, Bool, true, false, ◌||◌, refl, sym, ap, ◌∙◌, subst, ℤ, ◌+ℤ◌, arith, suc, ◌+◌, ◌*◌, ◌^◌, ◌<◌, ◌≤◌, unsigned_abs, take, drop, get_or, zero, append_assoc, append-nil, mul-le-mul_right}
+use Rattle.std.specs.declared.cmp.Ordering.{Ordering}
+use Rattle.std.specs.declared.cmp.Ordering.TheVariants.{Less, Equal, Greater}
+use Rattle.std.specs.Ordering.{is_eq, ordering_reverse}
+use Rattle.std.specs.List.{filter, list_any, AllByRecursion}
+use Rattle.std.proofs.lemmas.Bool.{false≢true, and_parts, and_from}
+use Rattle.std.specs.BTreeMap.{insert_entry}
+use Rattle.std.proofs.lemmas.Int.{ints}
+use Rattle.std.proofs.lemmas.Cmp.{alike_right}
+use Rattle.std.proofs.lemmas.List.{map-append, take-append-drop, take_more, length-append}
+use Rattle.std.proofs.lemmas.List.Sums.{sum_by-le}
+use Rattle.simm_plain.proofs.Sizes.{total_size, sum_by-filter}
+use Rattle.std.proofs.lemmas.List.Elements.{filter-append, All-from_recursion}
+use Rattle.simm_kinds.specs.declared.row.CrifRow.{CrifRow}
+use Rattle.simm_kinds.specs.Key.{Key, is_key}
+use Rattle.simm_kinds.specs.Order.{same_key, same_kind, key_cmp}
+use Rattle.simm_kinds.specs.declared.kinds.RiskType.TheVariants as kind
+use Rattle.simm_kinds.specs.declared.row.TradeRows.{TradeRows}
+use Rattle.simm_kinds.specs.Batch.{rows_of}
+use Rattle.simm_kinds.specs.contracts.key.FactorKeyOrd.TheImpl as key_order
+use Rattle.simm_rules.specs.Sums.{total_by}
+use Rattle.simm_rules.specs.Net.{net, keys_of, all_fx}
+use Rattle.simm_plain.specs.FxKeys.{IsFxKey, FxRows}
+use Rattle.simm_plain.specs.Nets.{nets_of, AreRows, IsRow, AreWithin}
+use Rattle.simm_plain.proofs.Filters.{each_weaker, total_by-append}
+use Rattle.simm_plain.proofs.Keys.{fx_rows_from, key_total, tied_keys, same_key_refl, is_equal}
+use Rattle.simm_plain.specs.Bucket.{Ascends}
+use Rattle.simm_plain.proofs.Nets.{keys_each, keys_ascend}
+use Rattle.simm_plain.proofs.NetMaps.{any_different, nets_of-cons}
+
+-- ---- two ascending lists with the same keys are one
+
+no_key : (q : Key) (ks : List Key) → AllByRecursion (λ k. key_cmp q k ≡ Less) ks → list_any (same_key q) ks ≡ false
+no_key q [] h = refl
+no_key q (k ∷ ks) h = ap (λ o. is_eq o || list_any (same_key q) ks) h.0 ∙ no_key q ks h.1
+
+past : (q k : Key) (ks : List Key) → key_cmp q k ≡ Less → AllByRecursion (λ l. key_cmp k l ≡ Less) ks → list_any (same_key q) (k ∷ ks) ≡ false
+past q k ks less h = no_key q (k ∷ ks) (less, each_weaker (λ l. key_cmp k l ≡ Less) (λ l. key_cmp q l ≡ Less) (λ l e. key_total.trans q k l less e) ks h)
+
+-- the tails agree where the heads are one key
+tail_agrees : (q k : Key) (xs ys : List Key) (t : Bool) → same_key q k ≡ t → key_cmp q k ≡ key_cmp q k → AllByRecursion (λ l. key_cmp k l ≡ Less) xs → AllByRecursion (λ l. key_cmp k l ≡ Less) ys → (t || list_any (same_key q) xs) ≡ (t || list_any (same_key q) ys) → list_any (same_key q) xs ≡ list_any (same_key q) ys
+tail_agrees q k xs ys false e _ h g i = i
+tail_agrees q k xs ys true e _ h g i = gone xs h ∙ sym (gone ys g)
+  where
+    gone : (ks : List Key) → AllByRecursion (λ l. key_cmp k l ≡ Less) ks → list_any (same_key q) ks ≡ false
+    gone ks h = no_key q ks (each_weaker (λ l. key_cmp k l ≡ Less) (λ l. key_cmp q l ≡ Less) (λ l less. key_total.congr q k l (is_equal (key_cmp q k) e) ∙ less) ks h)
+
+pub ascends_same : (xs ys : List Key) → Ascends key_cmp xs → Ascends key_cmp ys → AllByRecursion IsFxKey xs → AllByRecursion IsFxKey ys → ((q : Key) → list_any (same_key q) xs ≡ list_any (same_key q) ys) → xs ≡ ys
+ascends_same [] [] s t f g same = refl
+ascends_same [] (y ∷ ys) s t f g same = absurd (false≢true (same y ∙ ap (λ b. b || list_any (same_key y) ys) (same_key_refl y)))
+ascends_same (x ∷ xs) [] s t f g same = absurd (false≢true (sym (same x) ∙ ap (λ b. b || list_any (same_key x) xs) (same_key_refl x)))
+ascends_same (x ∷ xs) (y ∷ ys) s t f g same =
+    heads (key_cmp x y) refl (λ rest. ascends_same xs ys s.1 t.1 f.1 g.1 rest)
+  where
+    heads : (o : Ordering) → key_cmp x y ≡ o → (((q : Key) → list_any (same_key q) xs ≡ list_any (same_key q) ys) → xs ≡ ys) → x ∷ xs ≡ y ∷ ys
+    heads Less e rec = absurd (false≢true (sym (past x y ys e t.0) ∙ sym (same x) ∙ ap (λ b. b || list_any (same_key x) xs) (same_key_refl x)))
+    heads Greater e rec = absurd (false≢true (sym (past y x xs (key_total.antisymm y x ∙ ap ordering_reverse e) s.0) ∙ same y ∙ ap (λ b. b || list_any (same_key y) ys) (same_key_refl y)))
+    heads Equal e rec =
+        let one : x ≡ y = tied_keys x y f.0 g.0 e in
+        let tails : (q : Key) → list_any (same_key q) xs ≡ list_any (same_key q) ys =
+        λ q. tail_agrees q x xs ys (same_key q x) refl refl s.0 (subst (λ k. AllByRecursion (λ l. key_cmp k l ≡ Less) ys) (sym one) t.0) (same q ∙ ap (λ k. same_key q k || list_any (same_key q) ys) (sym one)) in
+        ap (λ k. k ∷ xs) one ∙ ap (λ ks. y ∷ ks) (rec tails)
+
+-- ---- one row more at the end
+
+list_any-append : {X : Type 0} (p : X → Bool) (xs ys : List X) → list_any p (xs ++ ys) ≡ (list_any p xs || list_any p ys)
+list_any-append p [] ys = refl
+list_any-append p (x ∷ xs) ys = ap (λ t. p x || t) (list_any-append p xs ys) ∙ or_assoc (p x) (list_any p xs) (list_any p ys)
+  where
+    or_assoc : (r s t : Bool) → (r || (s || t)) ≡ ((r || s) || t)
+    or_assoc true s t = refl
+    or_assoc false s t = refl
+
+or_end : (s t : Bool) → (s || (t || false)) ≡ (t || s)
+or_end true true = refl
+or_end true false = refl
+or_end false true = refl
+or_end false false = refl
+
+same_members : (rows : List CrifRow) (r : CrifRow) (q : Key) → list_any (same_key q) (keys_of (rows ++ r ∷ [])) ≡ list_any (same_key q) (keys_of (r ∷ rows))
+same_members rows r q =
+    any_different (same_key q) alike (map (λ x. x.key) (rows ++ r ∷ []))
+    ∙ ap (list_any (same_key q)) (map-append (λ (x : CrifRow). x.key) rows (r ∷ []))
+    ∙ list_any-append (same_key q) (map (λ x. x.key) rows) (r.key ∷ [])
+    ∙ or_end (list_any (same_key q) (map (λ x. x.key) rows)) (same_key q r.key)
+    ∙ sym (any_different (same_key q) alike (map (λ x. x.key) (r ∷ rows)))
+  where
+    alike : (k l : Key) → key_cmp k l ≡ Equal → same_key q k ≡ same_key q l
+    alike k l e = ap is_eq (alike_right key_total k l q e)
+
+pub net-append : (xs ys : List CrifRow) (k : Key) → net (xs ++ ys) k ≡ net xs k +ℤ net ys k
+net-append xs ys k =
+    ap (total_by (λ r. r.amount)) (filter-append (λ (r : CrifRow). same_key r.key k) xs ys) ∙ total_by-append (λ r. r.amount) (filter (λ r. same_key r.key k) xs) (filter (λ r. same_key r.key k) ys)
+
+same_net : (rows : List CrifRow) (r : CrifRow) (k : Key) → net (rows ++ r ∷ []) k ≡ net (r ∷ rows) k
+same_net rows r k = omega (arith, ints, net-append rows (r ∷ []) k, net-append (r ∷ []) rows k)
+
+map_agrees : {X A : Type 0} (f g : X → A) → ((x : X) → f x ≡ g x) → (xs : List X) → map f xs ≡ map g xs
+map_agrees f g e [] = refl
+map_agrees f g e (x ∷ xs) = ap (λ y. y ∷ map f xs) (e x) ∙ ap (λ ys. g x ∷ ys) (map_agrees f g e xs)
+
+pub nets_of-push : (rows : List CrifRow) (r : CrifRow) → FxRows (rows ++ r ∷ []) → FxRows (r ∷ rows) → nets_of (rows ++ r ∷ []) ≡ nets_of (r ∷ rows)
+nets_of-push rows r h g =
+    map_agrees (entry_of (rows ++ r ∷ [])) (entry_of (r ∷ rows)) (λ k. ap (pair k) (same_net rows r k)) (keys_of (rows ++ r ∷ []))
+    ∙ ap (map (entry_of (r ∷ rows))) (ascends_same (keys_of (rows ++ r ∷ [])) (keys_of (r ∷ rows)) (keys_ascend (rows ++ r ∷ [])) (keys_ascend (r ∷ rows)) (keys_each (rows ++ r ∷ []) h) (keys_each (r ∷ rows) g) (same_members rows r))
+  where
+    pair : Key → ℤ → Key × ℤ
+    pair k n = (k, n)
+
+    entry_of : List CrifRow → Key → Key × ℤ
+    entry_of xs k = (k, net xs k)
+
+fx_push : (rows : List CrifRow) (r : CrifRow) → FxRows rows → IsFxKey r.key → FxRows (rows ++ r ∷ [])
+fx_push [] r h f = (f, tt)
+fx_push (s ∷ rows) r h f = (h.0, fx_push rows r h.1 f)
+
+-- what putting a net into a map leaves
+pub netted_more : (rows : List CrifRow) (r : CrifRow) (old new : List (Key × ℤ)) (k : Key) (n : ℤ) → new ≡ insert_entry (key_order.cmp-value).it old k n → old ≡ nets_of rows → k ≡ r.key → n ≡ net rows r.key +ℤ r.amount → FxRows rows → IsFxKey r.key → new ≡ nets_of (rows ++ r ∷ [])
+netted_more rows r old new k n put is key sum h f =
+    put ∙ ap (λ es. insert_entry (key_order.cmp-value).it es k n) is ∙ ap (λ l. insert_entry (key_order.cmp-value).it (nets_of rows) l n) key
+    ∙ nets_of-cons r rows n (f, h) sum ∙ sym (nets_of-push rows r (fx_push rows r h f) (f, h))
+
+-- ---- rows in front of others
+
+each_front : {X : Type 0} (P : X → Type 0) (xs ys : List X) → AllByRecursion P (xs ++ ys) → AllByRecursion P xs
+each_front P [] ys h = tt
+each_front P (x ∷ xs) ys h = (h.0, each_front P xs ys h.1)
+
+pub fx_front : (xs ys : List CrifRow) → all_fx (xs ++ ys) ≡ true → all_fx xs ≡ true
+fx_front [] ys h = refl
+fx_front (x ∷ xs) ys h =
+    let parts = and_parts (same_kind x.key.kind kind.Fx) (all_fx (xs ++ ys)) h in and_from (same_kind x.key.kind kind.Fx) (all_fx xs) parts.0 (fx_front xs ys parts.1)
+
+-- the rows of the trades so far, and of the trade at i the rows so far
+pub rows_front : (ts : List TradeRows) (i j : ℕ) (t : TradeRows) → i < length ts → t ≡ get_or ts i t → rows_of ts ≡ (rows_of (take i ts) ++ take j t.rows) ++ (drop j t.rows ++ rows_of (drop (suc i) ts))
+rows_front [] i j t h e = absurd (omega arith)
+rows_front (s ∷ ts) zero j t h e =
+    ap (λ (x : TradeRows). x.rows ++ rows_of ts) (sym e) ∙ ap (λ xs. xs ++ rows_of ts) (sym (take-append-drop j t.rows)) ∙ append_assoc (take j t.rows) (drop j t.rows) (rows_of ts)
+rows_front (s ∷ ts) (suc i) j t h e =
+    ap (λ xs. s.rows ++ xs) (rows_front ts i j t (omega arith) e)
+    ∙ sym (append_assoc s.rows (rows_of (take i ts) ++ take j t.rows) (drop j t.rows ++ rows_of (drop (suc i) ts)))
+    ∙ ap (λ xs. xs ++ (drop j t.rows ++ rows_of (drop (suc i) ts))) (sym (append_assoc s.rows (rows_of (take i ts)) (take j t.rows)))
+
+pub rows_more : (ts : List TradeRows) (i : ℕ) (t : TradeRows) → i < length ts → t ≡ get_or ts i t → rows_of (take (i + 1) ts) ≡ rows_of (take i ts) ++ t.rows
+rows_more ts i t h e =
+    ap rows_of (take_more ts i t h ∙ ap (λ x. take i ts ++ x ∷ []) (sym e)) ∙ rows_push (take i ts)
+  where
+    rows_push : (us : List TradeRows) → rows_of (us ++ t ∷ []) ≡ rows_of us ++ t.rows
+    rows_push [] = append-nil t.rows
+    rows_push (u ∷ us) = ap (λ xs. u.rows ++ xs) (rows_push us) ∙ sym (append_assoc u.rows (rows_of us) t.rows)
+
+-- ---- sizes
+
+net_size_by_rows : (rows : List CrifRow) (k : Key) → AreRows rows → unsigned_abs (net rows k) ≤ length rows * 2 ^ 63
+net_size_by_rows rows k h =
+    omega (
+      arith,
+      total_size (λ r. r.amount) (filter (λ r. same_key r.key k) rows),
+      sum_by-filter (λ (r : CrifRow). unsigned_abs r.amount) (λ r. same_key r.key k) rows,
+      sum_by-le (λ (r : CrifRow). unsigned_abs r.amount) (2 ^ 63) rows (All-from_recursion (λ (r : CrifRow). unsigned_abs r.amount ≤ 2 ^ 63) rows (each_weaker IsRow (λ r. unsigned_abs r.amount ≤ 2 ^ 63) (λ r is. is.amount) rows h)),
+    )
+
+pub nets_within : (rows : List CrifRow) → AreRows rows → length rows ≤ 200000 → AreWithin (2 ^ 100) (nets_of rows)
+nets_within rows h few = each_within (keys_of rows)
+  where
+    each_within : (ks : List Key) → AllByRecursion (λ (e : Key × ℤ). unsigned_abs e.1 ≤ 2 ^ 100) (map (λ k. (k, net rows k)) ks)
+    each_within [] = tt
+    each_within (k ∷ ks) = (omega (arith, net_size_by_rows rows k h, mul-le-mul_right (2 ^ 63) few), each_within ks)
+
+-- these are the nets of the rows so far, each of which is a row
+pub record Netted (rows : List CrifRow) (nets : List (Key × ℤ)) : Type 0 where
+  pub value : nets ≡ nets_of rows
+  pub are : AreRows rows
+
+each_back : {X : Type 0} (P : X → Type 0) (xs ys : List X) → AllByRecursion P (xs ++ ys) → AllByRecursion P ys
+each_back P [] ys h = h
+each_back P (x ∷ xs) ys h = each_back P xs ys h.1
+
+are_push : (rows : List CrifRow) (r : CrifRow) → AreRows rows → IsRow r → AreRows (rows ++ r ∷ [])
+are_push [] r h is = (is, tt)
+are_push (s ∷ rows) r h is = (h.0, are_push rows r h.1 is)
+
+pub fx_of_rows : (rows : List CrifRow) → AreRows rows → all_fx rows ≡ true → FxRows rows
+fx_of_rows rows h fx = fx_rows_from rows (each_weaker IsRow (λ r. is_key r.key ≡ true) (λ r is. is.key) rows h) fx
+
+pub front_within : (ts : List TradeRows) (i j : ℕ) (t : TradeRows) (items : List CrifRow) (nets : List (Key × ℤ)) → i < length ts → t ≡ get_or ts i t → items ≡ t.rows → length (rows_of ts) ≤ 200000 → Netted (rows_of (take i ts) ++ take j items) nets → AreWithin (2 ^ 100) nets
+front_within ts i j t items nets h e is few n =
+    let whole : rows_of ts ≡ (rows_of (take i ts) ++ take j items) ++ (drop j t.rows ++ rows_of (drop (suc i) ts)) =
+    rows_front ts i j t h e ∙ ap (λ xs. (rows_of (take i ts) ++ take j xs) ++ (drop j t.rows ++ rows_of (drop (suc i) ts))) (sym is) in
+    let count = length-append (rows_of (take i ts) ++ take j items) (drop j t.rows ++ rows_of (drop (suc i) ts)) in
+    subst (AreWithin (2 ^ 100)) (sym n.value) (nets_within (rows_of (take i ts) ++ take j items) n.are (omega (arith, count, ap length whole)))
+
+pub front_more : (ts : List TradeRows) (i j : ℕ) (t : TradeRows) (items : List CrifRow) (r : CrifRow) (old new : List (Key × ℤ)) → i < length ts → t ≡ get_or ts i t → items ≡ t.rows → j < length items → r ≡ get_or items j r → all_fx (rows_of ts) ≡ true → Netted (rows_of (take i ts) ++ take j items) old → IsRow r
+    → ((rows : List CrifRow) → old ≡ nets_of rows → FxRows rows → IsFxKey r.key → new ≡ nets_of (rows ++ r ∷ [])) → Netted (rows_of (take i ts) ++ take (j + 1) items) new
+front_more ts i j t items r old new h e is below at fx n row put =
+    let more : rows_of (take i ts) ++ take (j + 1) items ≡ (rows_of (take i ts) ++ take j items) ++ r ∷ [] =
+    ap (λ xs. rows_of (take i ts) ++ xs) (take_more items j r below ∙ ap (λ x. take j items ++ x ∷ []) (sym at)) ∙ sym (append_assoc (rows_of (take i ts)) (take j items) (r ∷ [])) in
+    let whole : rows_of ts ≡ (rows_of (take i ts) ++ take (j + 1) items) ++ (drop (j + 1) t.rows ++ rows_of (drop (suc i) ts)) =
+    rows_front ts i (j + 1) t h e ∙ ap (λ xs. (rows_of (take i ts) ++ take (j + 1) xs) ++ (drop (j + 1) t.rows ++ rows_of (drop (suc i) ts))) (sym is) in
+    let front_fx : all_fx (rows_of (take i ts) ++ take (j + 1) items) ≡ true = fx_front (rows_of (take i ts) ++ take (j + 1) items) (drop (j + 1) t.rows ++ rows_of (drop (suc i) ts)) (ap all_fx (sym whole) ∙ fx) in
+    let are : AreRows ((rows_of (take i ts) ++ take j items) ++ r ∷ []) = are_push (rows_of (take i ts) ++ take j items) r n.are row in
+    let fx_rows : FxRows ((rows_of (take i ts) ++ take j items) ++ r ∷ []) = fx_of_rows ((rows_of (take i ts) ++ take j items) ++ r ∷ []) are (ap all_fx (sym more) ∙ front_fx) in
+    subst (λ rows. Netted rows new) (sym more)
+    record {
+      value = put (rows_of (take i ts) ++ take j items) n.value (each_front (λ x. IsFxKey x.key) (rows_of (take i ts) ++ take j items) (r ∷ []) fx_rows) ((each_back (λ x. IsFxKey x.key) (rows_of (take i ts) ++ take j items) (r ∷ []) fx_rows).0);
+      are = are;
+    }

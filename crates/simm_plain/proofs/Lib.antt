@@ -1,0 +1,17 @@
+pub mod Filters
+pub mod Keys
+pub mod Margins
+pub mod Books
+pub mod Ranges
+pub mod Sorting
+pub mod Nets
+pub mod Sizes
+pub mod Weights
+pub mod NetMaps
+pub mod Appending
+pub mod Buckets
+pub mod Places
+pub mod Grosses
+pub mod Weighings
+pub mod Passing
+pub mod Whole

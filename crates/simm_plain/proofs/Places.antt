@@ -1,0 +1,118 @@
+-- The correlations by place are the rule's correlations of the keys.
+use Rattle.std.proofs.Common.{◌≡◌, ℕ, zero, suc, ◌<◌, ◌≤◌, List, [], ◌∷◌, map, length, get_or, Bool, true, false, ◌==◌, ◌&&◌, ◌||◌, ◌*◌, if◌then◌else◌, refl, sym, ap, ◌∙◌, subst, ℤ, pos, ◌*ℤ◌, ◌≤ℤ◌, ◌<ℤ◌, unsigned_abs, All, arith, ⊎_elim}
+use Rattle.std.specs.declared.cmp.Ordering.TheVariants.{Less}
+use Rattle.std.specs.Ordering.{is_eq}
+use Rattle.std.specs.List.{AllByRecursion}
+use Rattle.std.proofs.lemmas.Bool.{cases_order, eq-eqb, ne_eqb}
+use Rattle.std.proofs.lemmas.Int.{ints, clamps}
+use Rattle.std.proofs.lemmas.List.{get_or-map, length-map}
+use Rattle.std.proofs.lemmas.List.Elements.{All-from_recursion}
+use Rattle.pair_sum.specs.PairTotal.{pair_total}
+use Rattle.pair_sum.proofs.OverLists.{pair_total-keys}
+use Rattle.simm_kinds.specs.declared.kinds.ProductClass.TheVariants as product
+use Rattle.simm_kinds.specs.Key.{Key}
+use Rattle.simm_kinds.specs.Order.{same_key, key_cmp}
+use Rattle.simm_rules.specs.Params.{Params}
+use Rattle.simm_rules.specs.Lookups.{weight, delta_threshold, delta_rho, is_high}
+use Rattle.simm_rules.specs.Concentration.{one, ratio, cr}
+use Rattle.simm_rules.specs.Delta.{combined}
+use Rattle.simm_params.specs.declared.category.VolatilityCategory.{VolatilityCategory}
+use Rattle.simm_params.specs.declared.category.VolatilityCategory.TheVariants.{Regular, High}
+use Rattle.simm_params.specs.Categories.{volatility, category_rho}
+use Rattle.simm_params.specs.Facts.{IsParams}
+use Rattle.simm_plain.specs.declared.rhos.Rhos.{Rhos}
+use Rattle.simm_plain.specs.declared.place.Place.{Place}
+use Rattle.simm_plain.specs.FxKeys.{fx_key, IsFxKey}
+use Rattle.simm_plain.specs.Bucket.{factor_cr, factor_weighted, factor_corr, factor_sum, Ascends, IsFactor}
+use Rattle.simm_plain.specs.Correlated.{rho_of, place_corr, no_place, place_at, corr_at}
+use Rattle.simm_plain.specs.Weighing.{place_of}
+use Rattle.simm_plain.proofs.Keys.{same_key_refl, same_key_sym}
+use Rattle.simm_plain.proofs.Weights.{weighed, net_thick, cr_size}
+
+-- ---- places of ascending keys
+
+each_at : {X : Type 0} (P : X → Type 0) (xs : List X) (i : ℕ) (d : X) → AllByRecursion P xs → i < length xs → P (get_or xs i d)
+each_at P [] i d h l = absurd (omega arith)
+each_at P (x ∷ xs) zero d h l = h.0
+each_at P (x ∷ xs) (suc i) d h l = each_at P xs i d h.1 (omega arith)
+
+ascends_at : (ks : List Key) (i j : ℕ) (d : Key) → Ascends key_cmp ks → i < j → j < length ks → key_cmp (get_or ks i d) (get_or ks j d) ≡ Less
+ascends_at [] i j d s l m = absurd (omega arith)
+ascends_at (k ∷ ks) zero zero d s l m = absurd (omega arith)
+ascends_at (k ∷ ks) zero (suc j) d s l m = each_at (λ x. key_cmp k x ≡ Less) ks j d s.0 (omega arith)
+ascends_at (k ∷ ks) (suc i) zero d s l m = absurd (omega arith)
+ascends_at (k ∷ ks) (suc i) (suc j) d s l m = ascends_at ks i j d s.1 (omega arith) (omega arith)
+
+same_place : (ks : List Key) (i j : ℕ) (d : Key) → Ascends key_cmp ks → i < length ks → j < length ks → same_key (get_or ks i d) (get_or ks j d) ≡ (i == j)
+same_place ks i j d s l m =
+    ⊎_elim (λ e. ap (λ n. same_key (get_or ks n d) (get_or ks j d)) e ∙ same_key_refl (get_or ks j d) ∙ sym (eq-eqb i j e))
+    (λ apart. ⊎_elim (λ below. ap is_eq (ascends_at ks i j d s below m) ∙ sym (ne_eqb i j (λ e. omega arith)))
+    (λ above. same_key_sym (get_or ks i d) (get_or ks j d) ∙ ap is_eq (ascends_at ks j i d s above l) ∙ sym (ne_eqb i j (λ e. omega arith))) apart)
+    (cases_order i j)
+
+-- ---- correlations
+
+by_category : (p : Params) (s t : Bool) → category_rho p (if s then High else Regular) (if t then High else Regular) ≡ (if s && t then p.fx.high_rho else (if s || t then p.fx.mixed_rho else p.fx.regular_rho))
+by_category p true true = refl
+by_category p true false = refl
+by_category p false true = refl
+by_category p false false = refl
+
+-- the table's correlation is the parameters'
+table_rho : (p : Params) (rhos : Rhos) → ((a b : VolatilityCategory) → rho_of rhos a b ≡ pos 100 *ℤ category_rho p a b) → (k l : Key) → IsFxKey k → rho_of rhos (volatility p k.qualifier) (volatility p l.qualifier) ≡ delta_rho p k l
+table_rho p rhos table k l f =
+    table (volatility p k.qualifier) (volatility p l.qualifier) ∙ ap (λ z. pos 100 *ℤ z) (by_category p (is_high p k.qualifier) (is_high p l.qualifier))
+    ∙ sym (ap (λ x. delta_rho p x l) f)
+
+pub table_of : (p : Params) (rhos : Rhos) → rhos.regular.0 ≡ pos 100 *ℤ p.fx.regular_rho → rhos.mixed.0 ≡ pos 100 *ℤ p.fx.mixed_rho → rhos.high.0 ≡ pos 100 *ℤ p.fx.high_rho → (a b : VolatilityCategory) → rho_of rhos a b ≡ pos 100 *ℤ category_rho p a b
+table_of p rhos r m h High High = h
+table_of p rhos r m h High Regular = m
+table_of p rhos r m h Regular High = m
+table_of p rhos r m h Regular Regular = r
+
+module _ (p : Params) (rhos : Rhos) (table : (a b : VolatilityCategory) → rho_of rhos a b ≡ pos 100 *ℤ category_rho p a b) where
+  corr_is : (e f : Key × ℤ) → IsFxKey e.0 → place_corr rhos (place_of p e) (place_of p f) ≡ combined (delta_rho p e.0 f.0) (ratio (factor_cr p e) (factor_cr p f))
+  corr_is e f g = ap (λ z. combined z (ratio (factor_cr p e) (factor_cr p f))) (table_rho p rhos table e.0 f.0 g)
+
+  places_corr : (es : List (Key × ℤ)) (places : List Place) (d : Key × ℤ) → places ≡ map (place_of p) es → AllByRecursion (IsFactor p) es → Ascends key_cmp (map (λ e. e.0) es) → (i j : ℕ) → i < length es → j < length es → corr_at rhos places i j ≡ factor_corr p (get_or es i d) (get_or es j d)
+  places_corr es places d e each s i j l m =
+      let first : place_at places i ≡ place_of p (get_or es i d) = ap (λ ps. get_or ps i no_place) e ∙ get_or-map (place_of p) es i d no_place l in
+      let second : place_at places j ≡ place_of p (get_or es j d) = ap (λ ps. get_or ps j no_place) e ∙ get_or-map (place_of p) es j d no_place m in
+      let count : length (map (λ (x : Key × ℤ). x.0) es) ≡ length es = length-map es (λ (x : Key × ℤ). x.0) in
+      let key_i : get_or (map (λ (x : Key × ℤ). x.0) es) i d.0 ≡ (get_or es i d).0 = get_or-map (λ (x : Key × ℤ). x.0) es i d d.0 l in
+      let key_j : get_or (map (λ (x : Key × ℤ). x.0) es) j d.0 ≡ (get_or es j d).0 = get_or-map (λ (x : Key × ℤ). x.0) es j d d.0 m in
+      let same : same_key (get_or es i d).0 (get_or es j d).0 ≡ (i == j) =
+      ap (λ k. same_key k (get_or es j d).0) (sym key_i) ∙ ap (λ k. same_key (get_or (map (λ (x : Key × ℤ). x.0) es) i d.0) k) (sym key_j)
+      ∙ same_place (map (λ (x : Key × ℤ). x.0) es) i j d.0 s (omega arith) (omega arith) in
+      ap (λ a. if i == j then one else place_corr rhos a (place_at places j)) first
+      ∙ ap (λ b. if i == j then one else place_corr rhos (place_of p (get_or es i d)) b) second
+      ∙ ap (λ z. if i == j then one else z) (corr_is (get_or es i d) (get_or es j d) (each_at (IsFactor p) es i d each l).fx)
+      ∙ ap (λ t. if t then one else combined (delta_rho p (get_or es i d).0 (get_or es j d).0) (ratio (factor_cr p (get_or es i d)) (factor_cr p (get_or es j d)))) (sym same)
+
+  -- the sum over places is that over factors
+  pub sum_is : (es : List (Key × ℤ)) (places : List Place) (ws : List ℤ) → places ≡ map (place_of p) es → ws ≡ map (factor_weighted p) es → AllByRecursion (IsFactor p) es → Ascends key_cmp (map (λ e. e.0) es) → pair_total (corr_at rhos places) ws ≡ factor_sum p es
+  sum_is es places ws e w each s =
+      pair_total-keys (factor_corr p) (factor_weighted p) es (fx_key product.RatesFX [], pos 0) (corr_at rhos places) ws w (places_corr es places (fx_key product.RatesFX [], pos 0) e each s)
+
+-- ---- concentrations of places
+
+pub cr_low : (x t : ℤ) → one ≤ℤ cr x t
+cr_low x t = omega (arith, ints, clamps)
+
+pub factor_thick : (p : Params) (e : Key × ℤ) → IsParams p → IsFactor p e → unsigned_abs e.1 ≤ 120000 * unsigned_abs (delta_threshold p e.0)
+factor_thick p e facts f = net_thick e.1 (weight p e.0) (delta_threshold p e.0) (weighed p e.0 facts f.fx f.risky) f.small
+
+pub factor_cr_size : (p : Params) (e : Key × ℤ) → IsParams p → IsFactor p e → unsigned_abs (factor_cr p e) ≤ 346999999
+factor_cr_size p e facts f = cr_size e.1 (delta_threshold p e.0) (weighed p e.0 facts f.fx f.risky).low (factor_thick p e facts f)
+
+each_place : (P : Place → Type 0) (p : Params) (es : List (Key × ℤ)) → ((e : Key × ℤ) → IsFactor p e → P (place_of p e)) → AllByRecursion (IsFactor p) es → AllByRecursion P (map (place_of p) es)
+each_place P p [] f h = tt
+each_place P p (e ∷ es) f h = (f e h.0, each_place P p es f h.1)
+
+pub places_from_one : (p : Params) (es : List (Key × ℤ)) (places : List Place) → places ≡ map (place_of p) es → AllByRecursion (IsFactor p) es → All (λ place. one ≤ℤ place.cr.0) places
+places_from_one p es places e each =
+    All-from_recursion (λ (place : Place). one ≤ℤ place.cr.0) places (subst (AllByRecursion (λ (place : Place). one ≤ℤ place.cr.0)) (sym e) (each_place (λ place. one ≤ℤ place.cr.0) p es (λ x f. cr_low x.1 (delta_threshold p x.0)) each))
+
+pub places_below : (p : Params) (es : List (Key × ℤ)) (places : List Place) → IsParams p → places ≡ map (place_of p) es → AllByRecursion (IsFactor p) es → All (λ place. place.cr.0 <ℤ pos 347000000) places
+places_below p es places facts e each =
+    All-from_recursion (λ (place : Place). place.cr.0 <ℤ pos 347000000) places (subst (AllByRecursion (λ (place : Place). place.cr.0 <ℤ pos 347000000)) (sym e) (each_place (λ place. place.cr.0 <ℤ pos 347000000) p es (λ x f. omega (arith, ints, factor_cr_size p x facts f)) each))

@@ -1,0 +1,115 @@
+-- The answers of the whole call.
+use Rattle.std.proofs.Common.{◌≡◌, ℕ, ◌+◌, ◌<◌, List, [], ◌∷◌, map, length, get_or, take, Option, Some, None, refl, sym, ap, ◌∙◌, subst, not, false, ℤ, pos, ◌+ℤ◌, arith}
+use Rattle.std.proofs.lemmas.Int.{ints}
+use Rattle.std.specs.Prelude.{count_by, is_some}
+use Rattle.std.proofs.lemmas.List.{map_more, length-map}
+use Rattle.std.proofs.lemmas.List.Sums.{length-filter}
+use Rattle.simm_kinds.specs.Order.{same_product}
+use Rattle.simm_plain.proofs.Nets.{map-filter}
+use Rattle.simm_kinds.specs.declared.kinds.ProductClass.{ProductClass}
+use Rattle.simm_kinds.specs.declared.kinds.ProductClass.TheVariants as product
+use Rattle.simm_kinds.specs.declared.row.CrifRow.{CrifRow}
+use Rattle.simm_kinds.specs.Key.{Key}
+use Rattle.simm_rules.specs.declared.values.Breakdown.{Breakdown}
+use Rattle.simm_rules.specs.declared.values.RangeFault.{RangeFault}
+use Rattle.simm_rules.specs.Params.{Params}
+use Rattle.simm_rules.specs.Sums.{first_some}
+use Rattle.simm_rules.specs.Delta.{root_of}
+use Rattle.simm_rules.specs.Net.{rows_in, risky, is_own_currency}
+use Rattle.simm_kinds.specs.declared.kinds.RiskClass.TheVariants as class
+use Rattle.simm_kinds.specs.declared.kinds.Measure.TheVariants as measure
+use Rattle.simm_rules.specs.Simm.{products, simm}
+use Rattle.simm_rules.specs.Range.{range}
+use Rattle.simm_params.specs.Facts.{IsParams}
+use Rattle.simm_plain.specs.FxKeys.{IsFxKey, FxRows}
+use Rattle.simm_plain.specs.Nets.{nets_of}
+use Rattle.simm_plain.specs.Bucket.{product_nets, factors, factor_sum, IsBucket}
+use Rattle.simm_plain.specs.Faults.{either_first, count_fault, key_fault, bucket_fault, gross_fault, nets_fault}
+use Rattle.simm_plain.specs.Parts.{breakdown_of, by_product}
+use Rattle.simm_plain.proofs.Filters.{each_kept}
+use Rattle.simm_plain.proofs.Margins.{fx_margin}
+use Rattle.simm_plain.proofs.Books.{simm_is}
+use Rattle.simm_plain.proofs.Ranges.{first_some-append, fx_in}
+use Rattle.simm_plain.proofs.Buckets.{factors-nets_of, factor_sum-nets_of, range-nets, bucket_ready}
+
+-- ---- the first of several answers
+
+pub first_none_more : {X A : Type 0} (f : X → Option A) (xs : List X) (i : ℕ) (x : X) → i < length xs → x ≡ get_or xs i x → first_some (map f (take i xs)) ≡ None → f x ≡ None → first_some (map f (take (i + 1) xs)) ≡ None
+first_none_more f xs i x h at none e =
+    ap first_some (map_more f xs i x h) ∙ first_some-append (map f (take i xs)) (f (get_or xs i x) ∷ [])
+    ∙ ap (λ o. either_first o (first_some (f (get_or xs i x) ∷ []))) none
+    ∙ ap (λ y. first_some (f y ∷ [])) (sym at) ∙ ap (λ o. first_some (o ∷ [])) e
+
+pub none_from_test : {A : Type 0} (o : Option A) → is_some o ≡ false → o ≡ None
+none_from_test None h = refl
+none_from_test (Some x) h = absurd (cc)
+
+-- how many nets a product class has
+pub count_nets : (c : ProductClass) (nets : List (Key × ℤ)) → count_by (λ k. same_product k.product c) (map (λ e. e.0) nets) ≡ length (product_nets c nets)
+count_nets c nets =
+    sym (length-filter (λ (k : Key). same_product k.product c) (map (λ e. e.0) nets))
+    ∙ ap length (sym (map-filter (λ (e : Key × ℤ). e.0) (λ (k : Key). same_product k.product c) nets))
+    ∙ length-map (product_nets c nets) (λ (e : Key × ℤ). e.0)
+
+none_first : {A : Type 0} (a b : Option A) → either_first a b ≡ None → (a ≡ None) × (b ≡ None)
+none_first None b h = (refl, h)
+none_first (Some x) b h = absurd (cc)
+
+none_cons : {A : Type 0} (o : Option A) (os : List (Option A)) → first_some (o ∷ os) ≡ None → (o ≡ None) × (first_some os ≡ None)
+none_cons None os h = (refl, h)
+none_cons (Some x) os h = absurd (cc)
+
+none_each : {A : Type 0} (f : ProductClass → Option A) → first_some (map f products) ≡ None → (c : ProductClass) → f c ≡ None
+none_each f h c =
+    let a = none_cons (f product.RatesFX) (f product.Credit ∷ f product.Equity ∷ f product.Commodity ∷ []) h in
+    let b = none_cons (f product.Credit) (f product.Equity ∷ f product.Commodity ∷ []) a.1 in
+    let d = none_cons (f product.Equity) (f product.Commodity ∷ []) b.1 in
+    let e = none_cons (f product.Commodity) [] d.1 in
+    elim c as (λ x. f x ≡ None) [ product.RatesFX ↦ a.0 | product.Credit ↦ b.0 | product.Equity ↦ d.0 | product.Commodity ↦ e.0 ]
+
+-- ---- the range
+
+pub range_some : (p : Params) (rows : List CrifRow) (nets : List (Key × ℤ)) (fault : RangeFault) → FxRows rows → nets ≡ nets_of rows → count_fault rows ≡ None → nets_fault p rows nets ≡ Some fault → range p rows ≡ Some fault
+range_some p rows nets fault h is none some =
+    range-nets p rows h ∙ ap (λ o. either_first o (nets_fault p rows (nets_of rows))) none ∙ ap (nets_fault p rows) (sym is) ∙ some
+
+pub range_none : (p : Params) (rows : List CrifRow) (nets : List (Key × ℤ)) → FxRows rows → nets ≡ nets_of rows → count_fault rows ≡ None → nets_fault p rows nets ≡ None → range p rows ≡ None
+range_none p rows nets h is none some =
+    range-nets p rows h ∙ ap (λ o. either_first o (nets_fault p rows (nets_of rows))) none ∙ ap (nets_fault p rows) (sym is) ∙ some
+
+pub ready : (p : Params) (rows : List CrifRow) (nets : List (Key × ℤ)) (c : ProductClass) → IsParams p → FxRows rows → nets ≡ nets_of rows → nets_fault p rows nets ≡ None → IsBucket p (factors p c nets)
+ready p rows nets c facts h is none =
+    let keys = none_first (key_fault nets) (either_first (first_some (map (bucket_fault nets) products)) (first_some (map (gross_fault p rows) products))) none in
+    let both = none_first (first_some (map (bucket_fault nets) products)) (first_some (map (gross_fault p rows) products)) keys.1 in
+    subst (λ es. IsBucket p (factors p c es)) (sym is)
+    (bucket_ready p rows c facts h (ap (λ es. bucket_fault es c) (sym is) ∙ none_each (bucket_fault nets) both.0 c) (none_each (gross_fault p rows) both.1 c))
+
+-- ---- the margin
+
+pub margin_is : (p : Params) (rows : List CrifRow) (nets : List (Key × ℤ)) (c : ProductClass) (m : ℤ) → FxRows rows → nets ≡ nets_of rows → m ≡ root_of (factor_sum p (factors p c nets)) → m ≡ fx_margin p rows c
+margin_is p rows nets c m h is e =
+    e ∙ ap (λ es. root_of (factor_sum p (factors p c es))) is ∙ ap (λ es. root_of (factor_sum p es)) (factors-nets_of p rows c h)
+    ∙ ap root_of (factor_sum-nets_of p (risky p (rows_in c class.FX measure.Delta rows)) (each_kept (λ r. IsFxKey r.key) (λ r. not (is_own_currency p r.key)) (rows_in c class.FX measure.Delta rows) (fx_in c rows h)))
+
+pub simm_from : (p : Params) (rows : List CrifRow) (a b c d : ℤ) → FxRows rows → a ≡ fx_margin p rows product.RatesFX → b ≡ fx_margin p rows product.Credit → c ≡ fx_margin p rows product.Equity → d ≡ fx_margin p rows product.Commodity → breakdown_of (by_product a b c d) ≡ simm p rows
+simm_from p rows a b c d h ea eb ec ed =
+    ap (λ x. breakdown_of (by_product x b c d)) ea ∙ ap (λ x. breakdown_of (by_product (fx_margin p rows product.RatesFX) x c d)) eb
+    ∙ ap (λ x. breakdown_of (by_product (fx_margin p rows product.RatesFX) (fx_margin p rows product.Credit) x d)) ec
+    ∙ ap (λ x. breakdown_of (by_product (fx_margin p rows product.RatesFX) (fx_margin p rows product.Credit) (fx_margin p rows product.Equity) x)) ed
+    ∙ sym (simm_is p rows h)
+
+-- the breakdown as it is written out
+abbrev pub written_out : ℤ → ℤ → ℤ → ℤ → ℤ → Breakdown
+written_out a b c d t = record {
+  classes = pos 0 ∷ pos 0 ∷ pos 0 ∷ pos 0 ∷ pos 0 ∷ a ∷ pos 0 ∷ pos 0 ∷ pos 0 ∷ pos 0 ∷ pos 0 ∷ b ∷ pos 0 ∷ pos 0 ∷ pos 0 ∷ pos 0 ∷ pos 0 ∷ c ∷ pos 0 ∷ pos 0 ∷ pos 0 ∷ pos 0 ∷ pos 0 ∷ d ∷ [];
+  products = a ∷ b ∷ c ∷ d ∷ [];
+  fixed = pos 0;
+  notional = pos 0;
+  multiplier = pos 0;
+  total = t;
+}
+
+pub written : (a b c d a' b' c' d' t : ℤ) → a' ≡ a → b' ≡ b → c' ≡ c → d' ≡ d → t ≡ a +ℤ b +ℤ c +ℤ d → written_out a' b' c' d' t ≡ breakdown_of (by_product a b c d)
+written a b c d a' b' c' d' t ea eb ec ed et =
+    ap (λ x. written_out x b' c' d' t) ea ∙ ap (λ x. written_out a x c' d' t) eb ∙ ap (λ x. written_out a b x d' t) ec ∙ ap (λ x. written_out a b c x t) ed
+    ∙ ap (written_out a b c d) (omega (arith, ints, et))

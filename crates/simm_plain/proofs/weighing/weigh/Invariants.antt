@@ -1,0 +1,7 @@
+use Rattle.std.proofs.Common.{take}
+use Rattle.simm_plain.specs.Entries.{entries}
+use Rattle.simm_plain.proofs.Weighings.{AreWeighed}
+use Rattle.simm_plain.proofs.weighing.weigh.Given as goal
+
+abbrev pub invariant-loop-net : goal.invariant-loop-net
+invariant-loop-net l = AreWeighed l.params (entries (take l.net-index l.nets)) l.places.items l.items.items

@@ -1,0 +1,9 @@
+pub mod FxKeys
+pub mod Nets
+pub mod Bucket
+pub mod Correlated
+pub mod Faults
+pub mod Parts
+pub mod Entries
+pub mod CorrelatedLaws
+pub mod Weighing

@@ -1,0 +1,111 @@
+ghost use Rattle.std.specs.Prelude.{◌≡◌, ◌∷◌, [], ◌≤◌, IfOk, true, length};
+ghost use Rattle.simm_kinds.specs.Batch.{rows_of};
+ghost use Rattle.simm_kinds.specs.Order.{same_kind};
+ghost use Rattle.simm_rules.specs.Net.{all_fx};
+
+use crate::{MarginFault, margin};
+use simm_kinds::{BucketId, CrifRow, FactorKey, Listed, Name, ProductClass, RiskType, TradeRows};
+use simm_params::{Params, read_params};
+use simm_rules::{Breakdown, RangeFault, RangeKind};
+use std::alloc::Global;
+use std::test::Fail;
+
+/// The correlation of two regular currencies is 0.5, of a regular one and one of high volatility 0.25, of two of high
+/// volatility -1.
+const PARAMS: &str =
+    "calculation_currency = \"USD\"\n[fx]\nhigh = [\"BRL\", \"TRY\"]\nweight = [\"7.4\", \"10\"]\n\
+rho = [\"0.5\", \"0.25\", \"-1\"]\nfirst = []\nsecond = []\nthreshold = [100000000, 100000000, 100000000]\n";
+
+/// Two trades with a row each, in cents, and their margin.
+///
+/// 740,000 and -370,000 have the pair sum 410,700,000,000 at 0.5, and 640,858^2 < 410,700,000,000 < 640,859^2. At
+/// twice the threshold the concentration is 1.414214, one cent above it 1.000001. 740,000 and 1,000,000 at 0.25 have the
+/// pair sum 1,917,600,000,000, between 1,384,774^2 and 1,384,775^2. Two of high volatility at -1 cancel.
+const MARGINS: [(&str, i64, &str, i64, i128); 11] = [
+    ("EUR", 100_000, "USD", 7_700, 740_000),
+    ("USD", 7_700, "USD", 1, 0),
+    ("EUR", 100_000, "EUR", -100_000, 0),
+    ("EUR", -60_000, "EUR", -40_000, 740_000),
+    ("EUR", 100_000, "GBP", -50_000, 640_859),
+    ("GBP", -50_000, "EUR", 100_000, 640_859),
+    ("EUR", 10_000_000_000, "USD", 0, 74_000_000_000),
+    ("EUR", 9_999_999_999, "EUR", 2, 74_000_074_008),
+    ("EUR", 20_000_000_000, "USD", 0, 209_303_672_000),
+    ("EUR", 100_000, "BRL", 100_000, 1_384_775),
+    ("BRL", 100_000, "TRY", 100_000, 0),
+];
+
+fn params(alloc: Global) -> Result<Params, Fail> {
+    Ok(
+        read_params(alloc, PARAMS.as_bytes())
+            .ok()
+            .ok_or("parameters")?,
+    )
+}
+
+fn trade(alloc: Global, name: &str, currency: &str, amount: i64) -> Result<TradeRows, Fail>
+    ensures { IfOk result (λ t. (all_fx t.rows ≡ true) × (length t.rows ≡ 1)) }
+{
+    let key = FactorKey::make(
+        ProductClass::RatesFX,
+        RiskType::Fx,
+        read_name(alloc, currency)?,
+        BucketId::Single,
+        None,
+        None,
+        Name::empty(alloc),
+    );
+    let key = key.ok_or("a key")?;
+    let mut rows = Listed::new(alloc);
+    rows.push(CrifRow { key, amount })?;
+    let trade = read_name(alloc, name)?;
+    Ok(TradeRows { trade, rows })
+}
+
+fn read_name(alloc: Global, text: &str) -> Result<Name, Fail> {
+    Ok(Name::read(alloc, text.as_bytes()).ok().ok_or("a name")?)
+}
+
+/// The margin of two trades with a row each.
+fn margin_of(
+    alloc: Global,
+    params: &Params,
+    first: (&str, i64),
+    second: (&str, i64),
+) -> Result<Result<Breakdown, MarginFault>, Fail> {
+    let mut trades = Vec::new(alloc);
+    trades.push(trade(alloc, "T1", first.0, first.1)?)?;
+    trades.push(trade(alloc, "T2", second.0, second.1)?)?;
+    Ok(margin(alloc, params, trades.as_slice()))
+}
+
+#[test]
+fn margins(rt: HostRuntime) -> Result<(), Fail> {
+    let alloc = rt.alloc();
+    let params = params(alloc)?;
+    for (first, amount, second, other, expected) in MARGINS {
+        let answer = margin_of(alloc, &params, (first, amount), (second, other))?;
+        let breakdown = answer.ok().ok_or("a margin")?;
+        assert_eq!(rt; breakdown.total, expected);
+        assert_eq!(rt; breakdown.products, [expected, 0, 0, 0]);
+        assert_eq!(rt; breakdown.classes[5], expected);
+    }
+    Ok(())
+}
+
+#[test]
+fn range(rt: HostRuntime) -> Result<(), Fail> {
+    let alloc = rt.alloc();
+    let params = params(alloc)?;
+    let whole = margin_of(alloc, &params, ("BRL", 1_000_000_000_000), ("USD", 5))?;
+    let breakdown = whole.ok().ok_or("a margin")?;
+    assert_eq!(rt; breakdown.total, 100_000_000_000_000);
+    let above = margin_of(alloc, &params, ("BRL", 1_000_000_000_000), ("BRL", 1))?;
+    let fault = RangeFault {
+        which: RangeKind::DeltaGross,
+        value: 10_000_000_000_010,
+        limit: 10_000_000_000_000,
+    };
+    assert!(rt; above == Err(MarginFault::Range(fault)));
+    Ok(())
+}
