@@ -1,0 +1,14 @@
+pub mod Owns
+pub mod Begins
+pub mod Places
+pub mod Looking
+pub mod Taking
+pub mod Giving
+pub mod Opening
+pub mod Splitting
+pub mod Joining
+pub mod Closing
+pub mod Slots
+pub mod Waiting
+pub mod Cutting
+pub mod Shared

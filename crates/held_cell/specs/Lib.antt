@@ -1,0 +1,6 @@
+pub mod Entries
+pub mod Halts
+pub mod Views
+pub mod Rule
+pub mod Seats
+pub mod Calls
