@@ -1,0 +1,110 @@
+-- The stages of a calculation, one after the other.
+use Rattle.std.proofs.Common.{◌≡◌, ℕ, ◌≤◌, List, [], ◌∷◌, ◌++◌, Option, Some, None, IfSome, option_map, ap, sym, refl, subst, ◌∙◌, inl, inr, ⊎_elim, arith, append-nil}
+use Rattle.std.specs.Io.KnownBytes.{append_known}
+use Rattle.mh_io.specs.Folder.{Telling, File, file_of}
+use Rattle.simm_kinds.specs.declared.row.TradeRows.{TradeRows}
+use Rattle.simm_rules.specs.declared.values.Breakdown.{Breakdown}
+use Rattle.simm_rules.specs.Params.{Params}
+use Rattle.simm_params.specs.Grammar.{params_of}
+use Rattle.crif_reader.specs.Grammar.{crif_of}
+use Rattle.margin_top.specs.declared.status.Status.{Status}
+use Rattle.margin_top.specs.declared.status.Status.TheVariants as status
+use Rattle.margin_top.specs.declared.fault.FileFault.{FileFault}
+use Rattle.margin_top.specs.declared.fault.FileFault.TheVariants as file
+use Rattle.margin_top.specs.declared.fault.CalcFault.{CalcFault}
+use Rattle.margin_top.specs.declared.fault.CalcFault.TheVariants as fault
+use Rattle.margin_top.specs.Files.{FolderSeen, Deeds, no_deeds, with_reading, told_after, Did, IsWhole, IsTooLong, IsRead, Failed}
+use Rattle.margin_top.specs.Calc.{SinkSeen, GotLine, HasBoth, HasMargin, CrifFails, Cause, MarginPrints, status_of, fault_text, CalcEnds}
+use Rattle.margin_top.proofs.FileLemmas.{did_more, rises_earlier}
+
+-- what is told of files later is told of them before
+files_before : (old mid : Option Telling) (deeds : Deeds) (P : List File → Type 0) → mid ≡ option_map (told_after deeds) old → IfSome mid (λ t. P t.files) → IfSome old (λ t. P t.files)
+files_before None mid deeds P e h = tt
+files_before (Some t) mid deeds P e h = subst (λ m. IfSome m (λ t. P t.files)) e h
+
+whole_before : (old mid : FolderSeen) (deeds : Deeds) (name bytes : List ℕ) → Did old mid deeds → IsWhole mid name bytes → IsWhole old name bytes
+whole_before old mid deeds name bytes did h =
+    record { whole = files_before old.told mid.told deeds (λ files. file_of files name ≡ Some bytes) did h.whole; few = h.few }
+
+long_before : (old mid : FolderSeen) (deeds : Deeds) (name taken : List ℕ) → Did old mid deeds → IsTooLong mid name taken → IsTooLong old name taken
+long_before old mid deeds name taken did h =
+    record { front = files_before old.told mid.told deeds (λ files. (rest : List ℕ) × (file_of files name ≡ Some (taken ++ rest))) did h.front; many = h.many }
+
+-- a file's fault after another file was read
+failed_after : (old mid new : FolderSeen) (first bytes name : List ℕ) (faults : ℕ) (IsRefused : List ℕ → Type 0) (f : FileFault) → Did old mid (with_reading no_deeds first bytes faults) → old.finds ≤ mid.finds → old.reads ≤ mid.reads → Failed mid new no_deeds name IsRefused f → Failed old new (with_reading no_deeds first bytes faults) name IsRefused f
+failed_after old mid new first bytes name faults IsRefused file.Missing did finds reads h =
+    record { did = did_more old mid new first bytes faults _ did h.did; rose = rises_earlier old.finds mid.finds new.finds finds h.rose }
+failed_after old mid new first bytes name faults IsRefused file.Unread did finds reads h =
+    record { taken = h.taken; faults = h.faults; did = did_more old mid new first bytes faults (with_reading no_deeds name h.taken h.faults) did h.did; failed = h.failed; rose = rises_earlier old.reads mid.reads new.reads reads h.rose }
+failed_after old mid new first bytes name faults IsRefused file.Long did finds reads h =
+    record { taken = h.taken; faults = h.faults; did = did_more old mid new first bytes faults (with_reading no_deeds name h.taken h.faults) did h.did; long = long_before old mid (with_reading no_deeds first bytes faults) name h.taken did h.long }
+failed_after old mid new first bytes name faults IsRefused file.Refused did finds reads h =
+    record { bytes = h.bytes; faults = h.faults; did = did_more old mid new first bytes faults (with_reading no_deeds name h.bytes h.faults) did h.did; whole = whole_before old mid (with_reading no_deeds first bytes faults) name h.bytes did h.whole; so = h.so }
+failed_after old mid new first bytes name faults IsRefused file.Memory did finds reads h =
+    record {
+      deeds = record { names = first ∷ (h.deeds).names; readings = record { name = first; taken = bytes; faults = faults } ∷ (h.deeds).readings };
+      did = did_more old mid new first bytes faults h.deeds did h.did;
+      asked = ⊎_elim (λ e. inl (ap (λ names. first ∷ names) e)) (λ e. inr (ap (λ names. first ∷ names) e)) h.asked;
+    }
+
+-- the parameters were read, and then the CRIF file gave no batch
+pub crif_failed : (old mid new : FolderSeen) (params_name crif_name : List ℕ) (p : Params) (f : FileFault) → IsRead old mid no_deeds params_name (λ bytes. params_of bytes ≡ Some p) → old.finds ≤ mid.finds → old.reads ≤ mid.reads → Failed mid new no_deeds crif_name (λ bytes. crif_of bytes ≡ None) f → CrifFails params_name crif_name old new f
+crif_failed old mid new params_name crif_name p f first finds reads h = record {
+  param_bytes = first.bytes;
+  param_faults = first.faults;
+  p = p;
+  params = record { whole = first.whole; values = first.so };
+  failed = failed_after old mid new params_name first.bytes crif_name first.faults (λ bytes. crif_of bytes ≡ None) f first.did finds reads h;
+}
+
+-- both files were read
+pub both_read : (old mid new : FolderSeen) (params_name crif_name : List ℕ) (p : Params) (batch trades : List TradeRows) → trades ≡ batch → IsRead old mid no_deeds params_name (λ bytes. params_of bytes ≡ Some p) → IsRead mid new no_deeds crif_name (λ bytes. crif_of bytes ≡ Some batch) → HasBoth params_name crif_name old new p trades
+both_read old mid new params_name crif_name p batch trades e first second = record {
+  param_bytes = first.bytes;
+  param_faults = first.faults;
+  crif_bytes = second.bytes;
+  crif_faults = second.faults;
+  did = did_more old mid new params_name first.bytes first.faults (with_reading no_deeds crif_name second.bytes second.faults) first.did second.did;
+  params = record { whole = first.whole; values = first.so };
+  whole = whole_before old mid (with_reading no_deeds params_name first.bytes first.faults) crif_name second.bytes first.did second.whole;
+  values = second.so ∙ ap Some (sym e);
+}
+
+nothing_held : (known : Option (List ℕ)) → known ≡ append_known known []
+nothing_held None = refl
+nothing_held (Some xs) = ap Some (sym (append-nil xs))
+
+-- how a calculation with a margin ends
+pub ends_with_margin : (params_name crif_name : List ℕ) (old new : FolderSeen) (out_old out_new : SinkSeen) (b : Breakdown) (s : Status) → HasMargin params_name crif_name old new b → MarginPrints b out_old out_new s → CalcEnds params_name crif_name old new out_old out_new s
+ends_with_margin params_name crif_name old new out_old out_new b status.Done margin h = record { b = b; margin = margin; printed = h }
+ends_with_margin params_name crif_name old new out_old out_new b status.Write margin h = record { b = b; margin = margin; printed = h }
+ends_with_margin params_name crif_name old new out_old out_new b status.Memory margin h = record {
+  f = fault.Memory;
+  cause = record { p = margin.p; trades = margin.trades; both = margin.both };
+  status = refl;
+  printed = record { put = 0; front = h ∙ nothing_held out_old.holds; within = omega arith; cut = λ none. absurd (omega (arith, none)) };
+}
+ends_with_margin params_name crif_name old new out_old out_new b status.Words margin h = absurd h
+ends_with_margin params_name crif_name old new out_old out_new b status.Params margin h = absurd h
+ends_with_margin params_name crif_name old new out_old out_new b status.Terms margin h = absurd h
+ends_with_margin params_name crif_name old new out_old out_new b status.Find margin h = absurd h
+ends_with_margin params_name crif_name old new out_old out_new b status.Read margin h = absurd h
+
+-- how a calculation with a fault ends
+pub ends_at_fault : (params_name crif_name : List ℕ) (old new : FolderSeen) (out_old out_new : SinkSeen) (f : CalcFault) (s : Status) → Cause params_name crif_name old new f → s ≡ status_of f → GotLine out_old out_new (fault_text params_name crif_name f) → CalcEnds params_name crif_name old new out_old out_new s
+ends_at_fault params_name crif_name old new out_old out_new f s cause e printed =
+    subst (CalcEnds params_name crif_name old new out_old out_new) (sym e) (at f cause printed)
+  where
+    at : (f : CalcFault) → Cause params_name crif_name old new f → GotLine out_old out_new (fault_text params_name crif_name f) → CalcEnds params_name crif_name old new out_old out_new (status_of f)
+    at (fault.OfParams file.Missing) cause printed = record { f = fault.OfParams file.Missing; cause = cause; status = refl; printed = printed }
+    at (fault.OfParams file.Unread) cause printed = record { f = fault.OfParams file.Unread; cause = cause; status = refl; printed = printed }
+    at (fault.OfParams file.Long) cause printed = record { f = fault.OfParams file.Long; cause = cause; status = refl; printed = printed }
+    at (fault.OfParams file.Refused) cause printed = record { f = fault.OfParams file.Refused; cause = cause; status = refl; printed = printed }
+    at (fault.OfParams file.Memory) cause printed = record { f = fault.OfParams file.Memory; cause = cause; status = refl; printed = printed }
+    at (fault.OfCrif file.Missing) cause printed = record { f = fault.OfCrif file.Missing; cause = cause; status = refl; printed = printed }
+    at (fault.OfCrif file.Unread) cause printed = record { f = fault.OfCrif file.Unread; cause = cause; status = refl; printed = printed }
+    at (fault.OfCrif file.Long) cause printed = record { f = fault.OfCrif file.Long; cause = cause; status = refl; printed = printed }
+    at (fault.OfCrif file.Refused) cause printed = record { f = fault.OfCrif file.Refused; cause = cause; status = refl; printed = printed }
+    at (fault.OfCrif file.Memory) cause printed = record { f = fault.OfCrif file.Memory; cause = cause; status = refl; printed = printed }
+    at fault.OutOfRange cause printed = record { f = fault.OutOfRange; cause = cause; status = refl; printed = printed }
+    at fault.Memory cause printed = record { f = fault.Memory; cause = cause; status = refl; printed = printed }

@@ -1,0 +1,6 @@
+pub mod LinesLemmas
+pub mod FileLemmas
+pub mod PrintLemmas
+pub mod CalcLemmas
+pub mod CompleteLemmas
+pub mod RowLemmas

@@ -1,0 +1,17 @@
+use Rattle.margin_top.proofs.CalcLemmas.{ends_with_margin, ends_at_fault}
+use Rattle.margin_top.proofs.CompleteLemmas.{ends_well}
+use Rattle.margin_top.proofs.calculation.calc.Goals as goal
+
+pub returns-in-Ok-clause-ends : goal.returns-in-Ok-clause-ends
+returns-in-Ok-clause-ends g c =
+    ends_with_margin c.args.params.now c.args.crif.now _ _ _ _ c.in-Ok.margin c.print_margin.result c.in-Ok.ensures.ends c.print_margin.ensures.printed
+
+pub returns-in-Ok-clause-complete : goal.returns-in-Ok-clause-complete
+returns-in-Ok-clause-complete g c w =
+    ends_well c.args.params.now c.args.crif.now _ _ _ _ c.print_margin.result
+    (ends_with_margin c.args.params.now c.args.crif.now _ _ _ _ c.in-Ok.margin c.print_margin.result c.in-Ok.ensures.ends c.print_margin.ensures.printed) w
+
+pub returns-in-Err-clause-complete : goal.returns-in-Err-clause-complete
+returns-in-Err-clause-complete g c w =
+    ends_well c.args.params.now c.args.crif.now _ _ _ _ c.print_fault.result
+    (ends_at_fault c.args.params.now c.args.crif.now _ _ _ _ c.in-Err.fault c.print_fault.result c.in-Err.ensures.ends c.print_fault.ensures.status c.print_fault.ensures.printed) w

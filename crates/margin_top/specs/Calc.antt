@@ -1,0 +1,163 @@
+-- What a margin calculation does: for each status what happened, and what was printed.
+use Rattle.std.specs.Prelude.{ℕ, ◌≡◌, ◌<◌, ◌≤◌, List, [], length, take, Option, Some, None, Result, Ok, Err}
+use Rattle.std.specs.Io.KnownBytes.{append_known}
+use Rattle.mh_io.specs.Faults.{Rises}
+use Rattle.mh_io.specs.Sink.{BreaksOff}
+use Rattle.simm_kinds.specs.declared.row.TradeRows.{TradeRows}
+use Rattle.simm_kinds.specs.Batch.{rows_of}
+use Rattle.simm_rules.specs.declared.values.Breakdown.{Breakdown}
+use Rattle.simm_rules.specs.declared.values.RangeFault.{RangeFault}
+use Rattle.simm_rules.specs.Params.{Params}
+use Rattle.simm_rules.specs.Simm.{simm}
+use Rattle.simm_rules.specs.Range.{range}
+use Rattle.simm_params.specs.Grammar.{params_of}
+use Rattle.crif_reader.specs.Grammar.{crif_of}
+use Rattle.margin_top.specs.declared.status.Status.{Status}
+use Rattle.margin_top.specs.declared.status.Status.TheVariants as status
+use Rattle.margin_top.specs.declared.fault.FileFault.{FileFault}
+use Rattle.margin_top.specs.declared.fault.FileFault.TheVariants as file
+use Rattle.margin_top.specs.declared.fault.CalcFault.{CalcFault}
+use Rattle.margin_top.specs.declared.fault.CalcFault.TheVariants as fault
+use Rattle.margin_top.specs.Lines.{margin_text, params_fault, crif_fault, refused_fault, find_fault, read_fault, long_fault}
+use Rattle.margin_top.specs.Files.{FolderSeen, no_deeds, with_reading, Did, IsWhole, Failed}
+
+-- what is seen of a sink: what it holds, where it tells, and its count of faults
+pub record SinkSeen : Type 0 where
+  pub holds : Option (List ℕ)
+  pub faults : ℕ
+
+-- the sink got the whole text
+abbrev pub Got : SinkSeen → SinkSeen → List ℕ → Type 0
+Got old new text = new.holds ≡ append_known old.holds text
+
+-- the sink failed before it had the whole text
+pub record GotFront (old new : SinkSeen) (text : List ℕ) : Type 0 where
+  pub put : ℕ
+  pub breaks : BreaksOff old.holds new.holds text put
+  pub rose : Rises old.faults new.faults
+
+-- the sink got the text, or a front of it where its count of faults rose
+pub record GotLine (old new : SinkSeen) (text : List ℕ) : Type 0 where
+  pub put : ℕ
+  pub front : Got old new (take put text)
+  pub within : put ≤ length text
+  pub cut : put < length text → Rises old.faults new.faults
+
+-- the parameter file was read whole, with these bytes, faults and values
+pub record HasParams (folder : FolderSeen) (name bytes : List ℕ) (p : Params) : Type 0 where
+  pub whole : IsWhole folder name bytes
+  pub values : params_of bytes ≡ Some p
+
+-- both files were read whole; the one has these parameters, the other these trades
+pub record HasBoth (params_name crif_name : List ℕ) (old new : FolderSeen) (p : Params) (trades : List TradeRows) : Type 0 where
+  pub param_bytes : List ℕ
+  pub param_faults : ℕ
+  pub crif_bytes : List ℕ
+  pub crif_faults : ℕ
+  pub did : Did old new (with_reading (with_reading no_deeds params_name param_bytes param_faults) crif_name crif_bytes crif_faults)
+  pub params : HasParams old params_name param_bytes p
+  pub whole : IsWhole old crif_name crif_bytes
+  pub values : crif_of crif_bytes ≡ Some trades
+
+-- The margin is that of the written rule, over the parameters and the book that the two files have by their grammars.
+pub record HasMargin (params_name crif_name : List ℕ) (old new : FolderSeen) (b : Breakdown) : Type 0 where
+  pub p : Params
+  pub trades : List TradeRows
+  pub both : HasBoth params_name crif_name old new p trades
+  pub in_range : range p (rows_of trades) ≡ None
+  pub margin : b ≡ simm p (rows_of trades)
+
+-- the parameters were read, and then the CRIF file gave no batch
+pub record CrifFails (params_name crif_name : List ℕ) (old new : FolderSeen) (f : FileFault) : Type 0 where
+  pub param_bytes : List ℕ
+  pub param_faults : ℕ
+  pub p : Params
+  pub params : HasParams old params_name param_bytes p
+  pub failed : Failed old new (with_reading no_deeds params_name param_bytes param_faults) crif_name (λ bytes. crif_of bytes ≡ None) f
+
+-- both files were read, and the book is out of range
+pub record IsOutOfRange (params_name crif_name : List ℕ) (old new : FolderSeen) : Type 0 where
+  pub p : Params
+  pub trades : List TradeRows
+  pub f : RangeFault
+  pub both : HasBoth params_name crif_name old new p trades
+  pub exceeded : range p (rows_of trades) ≡ Some f
+
+-- both files were read, and then memory ran out
+pub record IsStarved (params_name crif_name : List ℕ) (old new : FolderSeen) : Type 0 where
+  pub p : Params
+  pub trades : List TradeRows
+  pub both : HasBoth params_name crif_name old new p trades
+
+-- what happened at each fault of a calculation
+abbrev pub Cause : List ℕ → List ℕ → FolderSeen → FolderSeen → CalcFault → Type 0
+Cause params_name crif_name old new (fault.OfParams f) = Failed old new no_deeds params_name (λ bytes. params_of bytes ≡ None) f
+Cause params_name crif_name old new (fault.OfCrif f) = CrifFails params_name crif_name old new f
+Cause params_name crif_name old new fault.OutOfRange = IsOutOfRange params_name crif_name old new
+Cause params_name crif_name old new fault.Memory = IsStarved params_name crif_name old new
+
+-- what working out a margin does: the margin, or why there is none
+abbrev pub MarginEnds : List ℕ → List ℕ → FolderSeen → FolderSeen → Result Breakdown CalcFault → Type 0
+MarginEnds params_name crif_name old new (Ok b) = HasMargin params_name crif_name old new b
+MarginEnds params_name crif_name old new (Err f) = Cause params_name crif_name old new f
+
+abbrev pub status_of_file : Status → FileFault → Status
+status_of_file refused file.Missing = status.Find
+status_of_file refused file.Unread = status.Read
+status_of_file refused file.Long = refused
+status_of_file refused file.Refused = refused
+status_of_file refused file.Memory = status.Memory
+
+-- the status of each fault
+abbrev pub status_of : CalcFault → Status
+status_of (fault.OfParams f) = status_of_file status.Params f
+status_of (fault.OfCrif f) = status_of_file status.Terms f
+status_of fault.OutOfRange = status.Terms
+status_of fault.Memory = status.Memory
+
+abbrev pub line_of_file : List ℕ → List ℕ → FileFault → List ℕ
+line_of_file name refused file.Missing = find_fault name
+line_of_file name refused file.Unread = read_fault name
+line_of_file name refused file.Long = long_fault name
+line_of_file name refused file.Refused = refused
+line_of_file name refused file.Memory = []
+
+-- the one line that is printed at each fault; for want of memory none
+abbrev pub fault_text : List ℕ → List ℕ → CalcFault → List ℕ
+fault_text params_name crif_name (fault.OfParams f) = line_of_file params_name params_fault f
+fault_text params_name crif_name (fault.OfCrif f) = line_of_file crif_name crif_fault f
+fault_text params_name crif_name fault.OutOfRange = refused_fault
+fault_text params_name crif_name fault.Memory = []
+
+-- what printing a margin does, by its status
+abbrev pub MarginPrints : Breakdown → SinkSeen → SinkSeen → Status → Type 0
+MarginPrints b old new status.Done = Got old new (margin_text b)
+MarginPrints b old new status.Write = GotFront old new (margin_text b)
+MarginPrints b old new status.Memory = new.holds ≡ old.holds
+MarginPrints b old new _ = ⊥
+
+-- a fault came, with its cause, its status and its line
+pub record EndsAtFault (params_name crif_name : List ℕ) (old new : FolderSeen) (out_old out_new : SinkSeen) (s : Status) : Type 0 where
+  pub f : CalcFault
+  pub cause : Cause params_name crif_name old new f
+  pub status : status_of f ≡ s
+  pub printed : GotLine out_old out_new (fault_text params_name crif_name f)
+
+-- the margin was worked out, and the sink failed before it had all of its text
+pub record EndsAtWrite (params_name crif_name : List ℕ) (old new : FolderSeen) (out_old out_new : SinkSeen) : Type 0 where
+  pub b : Breakdown
+  pub margin : HasMargin params_name crif_name old new b
+  pub printed : GotFront out_old out_new (margin_text b)
+
+-- the margin was worked out and printed
+pub record EndsDone (params_name crif_name : List ℕ) (old new : FolderSeen) (out_old out_new : SinkSeen) : Type 0 where
+  pub b : Breakdown
+  pub margin : HasMargin params_name crif_name old new b
+  pub printed : Got out_old out_new (margin_text b)
+
+-- what a calculation with this status did
+abbrev pub CalcEnds : List ℕ → List ℕ → FolderSeen → FolderSeen → SinkSeen → SinkSeen → Status → Type 0
+CalcEnds params_name crif_name old new out_old out_new status.Done = EndsDone params_name crif_name old new out_old out_new
+CalcEnds params_name crif_name old new out_old out_new status.Words = ⊥
+CalcEnds params_name crif_name old new out_old out_new status.Write = EndsAtWrite params_name crif_name old new out_old out_new
+CalcEnds params_name crif_name old new out_old out_new s = EndsAtFault params_name crif_name old new out_old out_new s

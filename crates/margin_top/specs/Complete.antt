@@ -1,0 +1,41 @@
+-- When a calculation has to succeed.
+use Rattle.std.specs.Prelude.{ℕ, ◌≡◌, ◌≤◌, List, length, Some, None}
+use Rattle.mh_io.specs.Faults.{Rises}
+use Rattle.mh_io.specs.Folder.{Telling, file_of}
+use Rattle.mh_io.specs.declared.reading.TheConstants.{MOST_BYTES}
+use Rattle.simm_kinds.specs.declared.row.TradeRows.{TradeRows}
+use Rattle.simm_kinds.specs.Batch.{rows_of}
+use Rattle.simm_rules.specs.Params.{Params}
+use Rattle.simm_rules.specs.Range.{range}
+use Rattle.simm_params.specs.Grammar.{params_of}
+use Rattle.crif_reader.specs.Grammar.{crif_of}
+use Rattle.margin_top.specs.declared.status.Status.{Status}
+use Rattle.margin_top.specs.declared.status.Status.TheVariants as status
+use Rattle.margin_top.specs.Files.{FolderSeen}
+use Rattle.margin_top.specs.Calc.{SinkSeen}
+
+-- the folder has both files, neither is too long, both are inside their grammars, the book is in range, and no count
+-- of faults rose
+pub record IsWell (params_name crif_name : List ℕ) (old new : FolderSeen) (out_old out_new : SinkSeen) : Type 0 where
+  pub t : Telling
+  pub param_bytes : List ℕ
+  pub crif_bytes : List ℕ
+  pub p : Params
+  pub trades : List TradeRows
+  pub told : old.told ≡ Some t
+  pub has_params : file_of t.files params_name ≡ Some param_bytes
+  pub has_crif : file_of t.files crif_name ≡ Some crif_bytes
+  pub params_fit : length param_bytes ≤ MOST_BYTES
+  pub crif_fits : length crif_bytes ≤ MOST_BYTES
+  pub params_read : params_of param_bytes ≡ Some p
+  pub crif_read : crif_of crif_bytes ≡ Some trades
+  pub in_range : range p (rows_of trades) ≡ None
+  pub finds_stood : Rises old.finds new.finds → ⊥
+  pub reads_stood : Rises old.reads new.reads → ⊥
+  pub puts_stood : Rises out_old.faults out_new.faults → ⊥
+
+-- the margin is printed whole, or memory ran out
+abbrev pub EndsWell : Status → Type 0
+EndsWell status.Done = Unit {0}
+EndsWell status.Memory = Unit {0}
+EndsWell _ = ⊥

@@ -1,0 +1,101 @@
+-- What a command does to a folder: the names that it asks for, and the readings of files that it adds.
+use Rattle.std.specs.Prelude.{ℕ, ◌≡◌, ◌+◌, ◌<◌, ◌≤◌, List, [], ◌∷◌, ◌++◌, length, Option, Some, None, IfSome, option_map, ◌⊎◌, Result, Ok, Err}
+use Rattle.mh_io.specs.Faults.{Rises}
+use Rattle.mh_io.specs.Folder.{Telling, Reading, file_of}
+use Rattle.mh_io.specs.declared.reading.TheConstants.{MOST_BYTES}
+use Rattle.margin_top.specs.declared.fault.FileFault.{FileFault}
+use Rattle.margin_top.specs.declared.fault.FileFault.TheVariants as fault
+
+-- what is seen of a folder: all that it tells, and its counts of faults
+pub record FolderSeen : Type 0 where
+  pub told : Option Telling
+  pub finds : ℕ
+  pub reads : ℕ
+
+-- names that a folder was asked for, and readings of its files
+pub record Deeds : Type 0 where
+  pub names : List (List ℕ)
+  pub readings : List Reading
+
+abbrev pub no_deeds : Deeds
+no_deeds = record { names = []; readings = [] }
+
+-- a file was found, and so much of it was taken, with so many faults
+abbrev pub with_reading : Deeds → List ℕ → List ℕ → ℕ → Deeds
+with_reading deeds name taken faults = record {
+  names = deeds.names ++ name ∷ [];
+  readings = deeds.readings ++ record { name = name; taken = taken; faults = faults } ∷ [];
+}
+
+-- a name was asked for, and nothing was read
+abbrev pub with_name : Deeds → List ℕ → Deeds
+with_name deeds name = record deeds { names = deeds.names ++ name ∷ [] }
+
+abbrev pub told_after : Deeds → Telling → Telling
+told_after deeds t = record t { asked = t.asked ++ deeds.names; reads = t.reads ++ deeds.readings }
+
+-- where the folder tells of itself, this is all that was done to it
+abbrev pub Did : FolderSeen → FolderSeen → Deeds → Type 0
+Did old new deeds = new.told ≡ option_map (told_after deeds) old.told
+
+-- the bytes are the whole file of this name, where the folder tells its files
+pub record IsWhole (folder : FolderSeen) (name bytes : List ℕ) : Type 0 where
+  pub whole : IfSome folder.told (λ t. file_of t.files name ≡ Some bytes)
+  pub few : length bytes ≤ MOST_BYTES
+
+-- the bytes are the front of a file that is too long
+pub record IsTooLong (folder : FolderSeen) (name taken : List ℕ) : Type 0 where
+  pub front : IfSome folder.told (λ t. (rest : List ℕ) × (file_of t.files name ≡ Some (taken ++ rest)))
+  pub many : length taken ≡ MOST_BYTES + 1
+
+-- a file was asked for, and isn't there or couldn't be opened
+pub record IsMissing (old new : FolderSeen) (before : Deeds) (name : List ℕ) : Type 0 where
+  pub did : Did old new (with_name before name)
+  pub rose : Rises old.finds new.finds
+
+-- a file couldn't be read to its end
+pub record IsUnread (old new : FolderSeen) (before : Deeds) (name : List ℕ) : Type 0 where
+  pub taken : List ℕ
+  pub faults : ℕ
+  pub did : Did old new (with_reading before name taken faults)
+  pub failed : 0 < faults
+  pub rose : Rises old.reads new.reads
+
+-- a file is longer than any that is read
+pub record IsLong (old new : FolderSeen) (before : Deeds) (name : List ℕ) : Type 0 where
+  pub taken : List ℕ
+  pub faults : ℕ
+  pub did : Did old new (with_reading before name taken faults)
+  pub long : IsTooLong old name taken
+
+-- a file was read whole, and its bytes are so
+pub record IsRead (old new : FolderSeen) (before : Deeds) (name : List ℕ) (AreSo : List ℕ → Type 0) : Type 0 where
+  pub bytes : List ℕ
+  pub faults : ℕ
+  pub did : Did old new (with_reading before name bytes faults)
+  pub whole : IsWhole old name bytes
+  pub so : AreSo bytes
+
+-- memory ran out: of the names at most this one was asked for
+pub record IsCutShort (old new : FolderSeen) (before : Deeds) (name : List ℕ) : Type 0 where
+  pub deeds : Deeds
+  pub did : Did old new deeds
+  pub asked : (deeds.names ≡ before.names) ⊎ (deeds.names ≡ before.names ++ name ∷ [])
+
+-- why a file gave no value, after what was done before, where IsRefused says which bytes have none
+abbrev pub Failed : FolderSeen → FolderSeen → Deeds → List ℕ → (List ℕ → Type 0) → FileFault → Type 0
+Failed old new before name IsRefused fault.Missing = IsMissing old new before name
+Failed old new before name IsRefused fault.Unread = IsUnread old new before name
+Failed old new before name IsRefused fault.Long = IsLong old new before name
+Failed old new before name IsRefused fault.Refused = IsRead old new before name IsRefused
+Failed old new before name IsRefused fault.Memory = IsCutShort old new before name
+
+-- what reading a whole file does: its bytes, or why there are none
+abbrev pub FileEnds : FolderSeen → FolderSeen → List ℕ → Result (List ℕ) FileFault → Type 0
+FileEnds old new name (Ok bytes) = IsRead old new no_deeds name (λ read. read ≡ bytes)
+FileEnds old new name (Err f) = Failed old new no_deeds name (λ _. ⊥) f
+
+-- what reading a file by its grammar does: its value, or why there is none
+abbrev pub ValueEnds : {A : Type 0} → (List ℕ → Option A) → FolderSeen → FolderSeen → List ℕ → Result A FileFault → Type 0
+ValueEnds grammar old new name (Ok value) = IsRead old new no_deeds name (λ bytes. grammar bytes ≡ Some value)
+ValueEnds grammar old new name (Err f) = Failed old new no_deeds name (λ bytes. grammar bytes ≡ None) f

@@ -1,0 +1,47 @@
+ghost use Rattle.std.specs.Prelude.{◌≡◌, ◌≤◌, ℕ, List, Some, map};
+ghost use Rattle.std.specs.String.{string_bytes};
+ghost use Rattle.margin_top.specs.Files.{FolderSeen};
+ghost use Rattle.margin_top.specs.Calc.{SinkSeen};
+ghost use Rattle.margin_top.specs.Complete.{IsWell, EndsWell};
+ghost use Rattle.margin_top.specs.House.{HouseEnds};
+ghost use Rattle.margin_top.specs.Words.{Calc, form_of};
+
+use crate::calculation::calc;
+use crate::printing::print_line;
+use crate::status::Status;
+use crate::words::calc_files;
+use mh_io::{Folder, Sink};
+use std::alloc::Global;
+
+/// All that the program does: `calc PARAMS CRIF` prints the margin of one batch, as `calc` says. Words that are no
+/// form of a command are status `Words`, with one fault line; then the folder isn't asked for anything.
+pub fn margin_house<F: Folder, K: Sink>(
+    alloc: Global,
+    words: &[String],
+    folder: &mut F,
+    out: &mut K,
+) -> Status
+    ensures finds { F.find_faults folder.old ≤ F.find_faults folder.new }
+    ensures reads { F.read_faults folder.old ≤ F.read_faults folder.new }
+    ensures due { F.due folder.new ≡ F.due folder.old }
+    ensures count { K.faults out.old ≤ K.faults out.new }
+    ensures ends { HouseEnds (map string_bytes words.now)
+        (record { told = F.told folder.old; finds = F.find_faults folder.old; reads = F.read_faults folder.old })
+        (record { told = F.told folder.new; finds = F.find_faults folder.new; reads = F.read_faults folder.new })
+        (record { holds = K.holds out.old; faults = K.faults out.old })
+        (record { holds = K.holds out.new; faults = K.faults out.new }) result }
+    // Where the words are a calculation for which all is well its margin is printed, or memory ran out.
+    ensures complete { (params crif : List ℕ) → form_of (map string_bytes words.now) ≡ Some (Calc params crif) → IsWell params crif
+        (record { told = F.told folder.old; finds = F.find_faults folder.old; reads = F.read_faults folder.old })
+        (record { told = F.told folder.new; finds = F.find_faults folder.new; reads = F.read_faults folder.new })
+        (record { holds = K.holds out.old; faults = K.faults out.old })
+        (record { holds = K.holds out.new; faults = K.faults out.new }) → EndsWell result }
+{
+    match calc_files(words) {
+        Some(files) => calc(alloc, files.params, files.crif, folder, out),
+        None => {
+            print_line(out, b"FAULT\tWORDS\n");
+            Status::Words
+        }
+    }
+}

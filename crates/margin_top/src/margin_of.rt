@@ -1,0 +1,88 @@
+ghost use Rattle.std.specs.Prelude.{◌≡◌, ◌≤◌, IfOk, true};
+ghost use Rattle.simm_params.specs.Grammar.{params_of};
+ghost use Rattle.crif_reader.specs.Grammar.{crif_of};
+ghost use Rattle.simm_kinds.specs.Batch.{rows_of};
+ghost use Rattle.simm_rules.specs.Net.{all_fx};
+ghost use Rattle.margin_top.specs.Files.{FolderSeen, ValueEnds};
+ghost use Rattle.margin_top.specs.Calc.{MarginEnds};
+
+use crate::fault::{CalcFault, FileFault};
+use crate::file::read_file;
+use crif_reader::{CrifFault, read_batch};
+use mh_io::Folder;
+use simm_kinds::Batch;
+use simm_params::{ParamFault, Params, read_params};
+use simm_plain::{MarginFault, margin};
+use simm_rules::Breakdown;
+use std::alloc::Global;
+
+/// Reads the parameter file of this name.
+fn read_param_file<F: Folder>(
+    alloc: Global,
+    folder: &mut F,
+    name: &str,
+) -> Result<Params, FileFault>
+    ensures finds { F.find_faults folder.old ≤ F.find_faults folder.new }
+    ensures reads { F.read_faults folder.old ≤ F.read_faults folder.new }
+    ensures due { F.due folder.new ≡ F.due folder.old }
+    ensures ends { ValueEnds params_of
+        (record { told = F.told folder.old; finds = F.find_faults folder.old; reads = F.read_faults folder.old })
+        (record { told = F.told folder.new; finds = F.find_faults folder.new; reads = F.read_faults folder.new })
+        name.now result }
+{
+    let bytes = read_file(alloc, folder, name)?;
+    match read_params(alloc, bytes.as_slice()) {
+        Ok(params) => Ok(params),
+        Err(ParamFault::Refused) => Err(FileFault::Refused),
+        Err(ParamFault::Memory) => Err(FileFault::Memory),
+    }
+}
+
+/// Reads the CRIF file of this name.
+fn read_crif_file<F: Folder>(alloc: Global, folder: &mut F, name: &str) -> Result<Batch, FileFault>
+    ensures finds { F.find_faults folder.old ≤ F.find_faults folder.new }
+    ensures reads { F.read_faults folder.old ≤ F.read_faults folder.new }
+    ensures due { F.due folder.new ≡ F.due folder.old }
+    ensures ends { ValueEnds crif_of
+        (record { told = F.told folder.old; finds = F.find_faults folder.old; reads = F.read_faults folder.old })
+        (record { told = F.told folder.new; finds = F.find_faults folder.new; reads = F.read_faults folder.new })
+        name.now result }
+    ensures fx { IfOk result (λ trades. all_fx (rows_of trades) ≡ true) }
+{
+    let bytes = read_file(alloc, folder, name)?;
+    match read_batch(alloc, bytes.as_slice()) {
+        Ok(batch) => Ok(batch),
+        Err(CrifFault::Refused) => Err(FileFault::Refused),
+        Err(CrifFault::Memory) => Err(FileFault::Memory),
+    }
+}
+
+/// Reads both files, and works out the margin of the batch.
+pub(crate) fn margin_of_files<F: Folder>(
+    alloc: Global,
+    params: &str,
+    crif: &str,
+    folder: &mut F,
+) -> Result<Breakdown, CalcFault>
+    ensures finds { F.find_faults folder.old ≤ F.find_faults folder.new }
+    ensures reads { F.read_faults folder.old ≤ F.read_faults folder.new }
+    ensures due { F.due folder.new ≡ F.due folder.old }
+    ensures ends { MarginEnds params.now crif.now
+        (record { told = F.told folder.old; finds = F.find_faults folder.old; reads = F.read_faults folder.old })
+        (record { told = F.told folder.new; finds = F.find_faults folder.new; reads = F.read_faults folder.new })
+        result }
+{
+    let values = match read_param_file(alloc, folder, params) {
+        Ok(values) => values,
+        Err(fault) => return Err(CalcFault::OfParams(fault)),
+    };
+    let batch = match read_crif_file(alloc, folder, crif) {
+        Ok(batch) => batch,
+        Err(fault) => return Err(CalcFault::OfCrif(fault)),
+    };
+    match margin(alloc, &values, batch.trades()) {
+        Ok(margin) => Ok(margin),
+        Err(MarginFault::Range(_)) => Err(CalcFault::OutOfRange),
+        Err(MarginFault::Memory) => Err(CalcFault::Memory),
+    }
+}

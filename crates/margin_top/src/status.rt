@@ -1,0 +1,36 @@
+/// How a command ended.
+#[derive(Clone, Copy, Debug, PartialEq, Eq)]
+pub enum Status {
+    /// The command did its work, and all of its text is out.
+    Done,
+    /// The words are no form of a command.
+    Words,
+    /// The parameter file is too long, or its grammar refuses it.
+    Params,
+    /// The CRIF file is too long, or refused by its grammar or for its range.
+    Terms,
+    /// A file isn't there or can't be opened.
+    Find,
+    /// A file can't be read to its end.
+    Read,
+    /// The text couldn't be written whole.
+    Write,
+    /// Memory ran out.
+    Memory,
+}
+
+impl Status {
+    /// The status with which the process ends.
+    pub fn code(self) -> u8 {
+        match self {
+            Status::Done => 0,
+            Status::Words => 2,
+            Status::Params => 3,
+            Status::Terms => 4,
+            Status::Find => 5,
+            Status::Read => 7,
+            Status::Write => 8,
+            Status::Memory => 9,
+        }
+    }
+}

@@ -1,0 +1,39 @@
+ghost use Rattle.std.specs.Prelude.{◌≡◌, map};
+ghost use Rattle.std.specs.String.{string_bytes};
+ghost use Rattle.margin_top.specs.Words.{is_name_word, form_of};
+ghost use Rattle.margin_top.specs.WordsRead.{IsForm};
+
+/// The files of a margin calculation.
+#[derive(Clone, Copy, Debug)]
+pub(crate) struct CalcFiles<'a> {
+    /// The name of the parameter file.
+    pub params: &'a str,
+    /// The name of the CRIF file.
+    pub crif: &'a str,
+}
+
+/// A word that names something: it isn't empty, and doesn't begin with `-`.
+fn is_name(word: &str) -> bool
+    ensures { result ≡ is_name_word word.now }
+{
+    match word.as_bytes() {
+        [] => false,
+        [first, ..] => *first != b'-',
+    }
+}
+
+/// The files of `calc PARAMS CRIF`, if the words are that form.
+pub(crate) fn calc_files(words: &[String]) -> Option<CalcFiles<'_>>
+    ensures { IsForm result (form_of (map string_bytes words.now)) }
+{
+    match words {
+        [command, params, crif]
+            if command.as_str() == "calc" && is_name(params.as_str()) && is_name(crif.as_str()) => {
+            Some(CalcFiles {
+                params: params.as_str(),
+                crif: crif.as_str(),
+            })
+        }
+        _ => None,
+    }
+}
