@@ -1,0 +1,9 @@
+//! Cases that run the whole house: files in memory in, printed text and a status out.
+#![tactic(auto)]
+
+#[cfg(test)]
+mod calculations;
+#[cfg(test)]
+mod faults;
+#[cfg(test)]
+mod house;
