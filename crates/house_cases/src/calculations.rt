@@ -4,7 +4,7 @@ use std::test::Fail;
 
 // Rows, the margin that they have and its product class. Each margin was worked out by hand: net, concentration,
 // weighted sensitivity, pair sum, root.
-const MARGINS: [(&str, &str, &str); 9] = [
+const MARGINS: [(&str, &str, &str); 10] = [
     // 7.4 times 1,000.00, with and without an LF at the end, and with spaces round the fields.
     (
         "T1,RatesFX,Risk_FX,EUR,,,,1000,USD,1000\n",
@@ -36,6 +36,12 @@ const MARGINS: [(&str, &str, &str); 9] = [
     // Twice the threshold: the concentration factor is 1.414214.
     (
         "T1,Equity,Risk_FX,EUR,,,,,,200000000\n",
+        "2093036720.00",
+        "Equity",
+    ),
+    // The same in two rows: the factor is that of the net, and not of each row.
+    (
+        "T1,Equity,Risk_FX,EUR,,,,,,150000000\nT2,Equity,Risk_FX,EUR,,,,,,50000000\n",
         "2093036720.00",
         "Equity",
     ),
