@@ -6,3 +6,4 @@ pub mod Files
 pub mod Calc
 pub mod Complete
 pub mod House
+pub mod StatusCode

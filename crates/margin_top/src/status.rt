@@ -1,3 +1,6 @@
+ghost use Rattle.std.specs.Prelude.{◌≡◌};
+ghost use Rattle.margin_top.specs.StatusCode.{status_code};
+
 /// How a command ended.
 #[derive(Clone, Copy, Debug, PartialEq, Eq)]
 pub enum Status {
@@ -21,7 +24,9 @@ pub enum Status {
 
 impl Status {
     /// The status with which the process ends.
-    pub fn code(self) -> u8 {
+    pub fn code(self) -> u8
+        ensures { result ≡ status_code self }
+    {
         match self {
             Status::Done => 0,
             Status::Words => 2,

@@ -42,6 +42,13 @@ impl Bytes {
         self.bytes.as_slice()
     }
 
+    /// Takes all bytes out and keeps their room. It takes no memory.
+    pub fn clear(&mut self)
+        ensures { self.new ≡ [] }
+    {
+        self.bytes.clear();
+    }
+
     /// Adds a byte at the end. For want of memory nothing changes.
     pub fn push(&mut self, byte: u8) -> Result<(), AllocError>
         ensures ok { OnOk result (self.new ≡ self.old ++ byte ∷ []) }

@@ -90,6 +90,7 @@ impl FactorKey {
         let _kind = &self.kind;
     }
 
+    /// The product class; it means nothing for a notional or a parameter other than the multiplier.
     pub fn product(&self) -> ProductClass
         ensures { result ≡ self.now.product }
     {
@@ -103,30 +104,35 @@ impl FactorKey {
         self.kind
     }
 
+    /// Lends the qualifier: a currency, a pair of currencies, a name, or empty.
     pub fn qualifier(&self) -> &Name
         ensures { result.now ≡ self.now.qualifier }
     {
         &self.qualifier
     }
 
+    /// The bucket; `Single` where the risk type has none.
     pub fn bucket(&self) -> BucketId
         ensures { result ≡ self.now.bucket }
     {
         self.bucket
     }
 
+    /// The tenor, where the risk type has one.
     pub fn tenor(&self) -> Option<Tenor>
         ensures { result ≡ self.now.tenor }
     {
         self.tenor
     }
 
+    /// The sub-curve of an interest rate.
     pub fn sub(&self) -> Option<SubCurve>
         ensures { result ≡ self.now.sub }
     {
         self.sub
     }
 
+    /// Lends the second label; empty where the risk type has none.
     pub fn label2(&self) -> &Name
         ensures { result.now ≡ self.now.label2 }
     {

@@ -6,3 +6,4 @@ pub mod Concentration
 pub mod Delta
 pub mod Simm
 pub mod Range
+pub mod RangeNumber

@@ -1,3 +1,6 @@
+ghost use Rattle.std.specs.Prelude.{◌≡◌};
+ghost use Rattle.simm_rules.specs.RangeNumber.{range_number};
+
 use mh_units::Corr6;
 
 /// What one bucket gives to the margin of its class. Amounts are in cents, `q` in cents squared times 10^6.
@@ -51,7 +54,9 @@ pub enum RangeKind {
 
 impl RangeKind {
     /// The kind's number in printed text.
-    pub fn number(self) -> u8 {
+    pub fn number(self) -> u8
+        ensures { result ≡ range_number self }
+    {
         match self {
             RangeKind::RowCount => 1,
             RangeKind::KeyCount => 2,
