@@ -1,0 +1,11 @@
+//! A netting set: trades are submitted, replaced and withdrawn, its margin is asked, and a journal holds each call with
+//! its answer. Each answer is the written rule, from scratch, over the journal's earlier accepted entries.
+#![tactic(auto)]
+
+mod event;
+mod refusal;
+mod reply;
+
+pub use event::Event;
+pub use refusal::Refusal;
+pub use reply::{Entry, Reply};
