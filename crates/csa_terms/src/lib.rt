@@ -1,0 +1,11 @@
+//! The terms of an agreement for collateral: a TOML file read exactly by its grammar, the look-ups of a netting set, and the
+//! day on which a call is due.
+#![tactic(auto)]
+
+mod haircut_table;
+mod holiday_list;
+mod set_terms;
+
+pub use haircut_table::HaircutTable;
+pub use holiday_list::HolidayList;
+pub use set_terms::{Amounts, SetTerms};
