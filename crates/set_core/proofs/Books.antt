@@ -16,9 +16,10 @@ use Rattle.set_core.specs.declared.event.Event.TheVariants as event
 use Rattle.set_core.specs.declared.reply.Reply.{Reply}
 use Rattle.set_core.specs.declared.reply.Reply.TheVariants as reply
 use Rattle.set_core.specs.Book.{Word, Given, Taken, Silent, word_of_batch, word_of_event, is_named, is_accepted, word, then_said, last_word, is_given, is_taken, rows_given, is_current, with_rows_after, trades_of_event, accepted_trades, is_withdrawn, starts_at, starts, book}
+use Rattle.set_core.specs.Kept.{AreDifferent}
 use Rattle.set_core.proofs.Names.{one_name, same_name_refl, same_name_sym}
 use Rattle.set_core.proofs.Words.{Log, stays, last_word-push, starts-push}
-use Rattle.set_core.proofs.Puts.{AreDifferent, renewed_by, renewed, new_in, map_agrees, map-map, map_same, has_trade-map, different-map, silent_of, put_trades_is}
+use Rattle.set_core.proofs.Puts.{renewed_by, renewed, new_in, map_agrees, map-map, map_same, has_trade-map, different-map, silent_of, put_trades_is}
 
 -- ---- which trades an entry names
 

@@ -2,3 +2,6 @@ pub mod Names
 pub mod Words
 pub mod Puts
 pub mod Books
+pub mod Batches
+pub mod Legal
+pub mod Applies

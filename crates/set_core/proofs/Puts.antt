@@ -10,12 +10,8 @@ use Rattle.simm_kinds.specs.declared.row.TradeRows.{TradeRows}
 use Rattle.simm_kinds.specs.Order.{same_name}
 use Rattle.bucket_cache.specs.Live.{put_trade, put_trades, is_current as has_trade}
 use Rattle.set_core.specs.Book.{Word, Given, Taken, Silent, word_of_batch}
+use Rattle.set_core.specs.Kept.{AreDifferent}
 use Rattle.set_core.proofs.Names.{one_name, same_name_refl, same_name_sym}
-
--- no trade stands twice
-abbrev pub AreDifferent : List TradeRows → Type 0
-AreDifferent [] = Unit {0}
-AreDifferent (t ∷ ts) = (has_trade ts t.trade ≡ false) × AreDifferent ts
 
 -- a trade after a batch
 abbrev pub renewed_by : Word → TradeRows → TradeRows

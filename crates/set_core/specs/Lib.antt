@@ -1,3 +1,7 @@
 pub mod Book
 pub mod Answer
+pub mod Events
 pub mod Room
+pub mod Set
+pub mod Live
+pub mod Kept

@@ -2,10 +2,15 @@
 //! its answer. Each answer is the written rule, from scratch, over the journal's earlier accepted entries.
 #![tactic(auto)]
 
+mod answering;
 mod event;
+mod fault;
 mod refusal;
 mod reply;
+mod set_state;
 
 pub use event::Event;
+pub use fault::ApplyFault;
 pub use refusal::Refusal;
 pub use reply::{Entry, Reply};
+pub use set_state::SetState;
