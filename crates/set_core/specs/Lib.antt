@@ -5,3 +5,4 @@ pub mod Room
 pub mod Set
 pub mod Live
 pub mod Kept
+pub mod Text

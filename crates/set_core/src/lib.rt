@@ -7,10 +7,12 @@ mod event;
 mod fault;
 mod refusal;
 mod reply;
+mod reply_words;
 mod set_state;
 
 pub use event::Event;
 pub use fault::ApplyFault;
 pub use refusal::Refusal;
 pub use reply::{Entry, Reply};
+pub use reply_words::reply_text;
 pub use set_state::SetState;

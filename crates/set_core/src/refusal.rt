@@ -1,3 +1,6 @@
+ghost use Rattle.std.specs.Prelude.{◌≡◌};
+ghost use Rattle.set_core.specs.Text.{refusal_number};
+
 use simm_rules::RangeFault;
 
 /// Why an event was refused. It stands in the journal with the event, and nothing else changed.
@@ -7,4 +10,16 @@ pub enum Refusal {
     UnknownTrade { place: u64 },
     /// The book with this batch would be out of range; the first quantity that is above its limit.
     Range(RangeFault),
+}
+
+impl Refusal {
+    /// The refusal's number in printed text.
+    pub fn number(self) -> u8
+        ensures { result ≡ refusal_number self }
+    {
+        match self {
+            Refusal::UnknownTrade { .. } => 1,
+            Refusal::Range(_) => 3,
+        }
+    }
 }
