@@ -77,6 +77,15 @@ pub range_none : (p : Params) (rows : List CrifRow) (nets : List (Key × ℤ)) �
 range_none p rows nets h is none some =
     range-nets p rows h ∙ ap (λ o. either_first o (nets_fault p rows (nets_of rows))) none ∙ ap (nets_fault p rows) (sym is) ∙ some
 
+pub range_from : (p : Params) (rows : List CrifRow) (nets : List (Key × ℤ)) (answer : Option RangeFault) → FxRows rows → nets ≡ nets_of rows → count_fault rows ≡ None → answer ≡ nets_fault p rows nets → answer ≡ range p rows
+range_from p rows nets answer h is none e =
+    e ∙ ap (nets_fault p rows) is ∙ sym (range-nets p rows h ∙ ap (λ o. either_first o (nets_fault p rows (nets_of rows))) none)
+
+-- a book in range has no fault of its nets
+pub no_nets_fault : (p : Params) (rows : List CrifRow) (nets : List (Key × ℤ)) → FxRows rows → nets ≡ nets_of rows → range p rows ≡ None → nets_fault p rows nets ≡ None
+no_nets_fault p rows nets h is none =
+    ap (nets_fault p rows) is ∙ (none_first (count_fault rows) (nets_fault p rows (nets_of rows)) (sym (range-nets p rows h) ∙ none)).1
+
 pub ready : (p : Params) (rows : List CrifRow) (nets : List (Key × ℤ)) (c : ProductClass) → IsParams p → FxRows rows → nets ≡ nets_of rows → nets_fault p rows nets ≡ None → IsBucket p (factors p c nets)
 ready p rows nets c facts h is none =
     let keys = none_first (key_fault nets) (either_first (first_some (map (bucket_fault nets) products)) (first_some (map (gross_fault p rows) products))) none in
