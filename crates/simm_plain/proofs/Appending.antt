@@ -31,11 +31,11 @@ use Rattle.simm_plain.proofs.NetMaps.{any_different, nets_of-cons}
 
 -- ---- two ascending lists with the same keys are one
 
-no_key : (q : Key) (ks : List Key) → AllByRecursion (λ k. key_cmp q k ≡ Less) ks → list_any (same_key q) ks ≡ false
+pub no_key : (q : Key) (ks : List Key) → AllByRecursion (λ k. key_cmp q k ≡ Less) ks → list_any (same_key q) ks ≡ false
 no_key q [] h = refl
 no_key q (k ∷ ks) h = ap (λ o. is_eq o || list_any (same_key q) ks) h.0 ∙ no_key q ks h.1
 
-past : (q k : Key) (ks : List Key) → key_cmp q k ≡ Less → AllByRecursion (λ l. key_cmp k l ≡ Less) ks → list_any (same_key q) (k ∷ ks) ≡ false
+pub past : (q k : Key) (ks : List Key) → key_cmp q k ≡ Less → AllByRecursion (λ l. key_cmp k l ≡ Less) ks → list_any (same_key q) (k ∷ ks) ≡ false
 past q k ks less h = no_key q (k ∷ ks) (less, each_weaker (λ l. key_cmp k l ≡ Less) (λ l. key_cmp q l ≡ Less) (λ l e. key_total.trans q k l less e) ks h)
 
 -- the tails agree where the heads are one key

@@ -51,7 +51,7 @@ count_nets c nets =
     ∙ ap length (sym (map-filter (λ (e : Key × ℤ). e.0) (λ (k : Key). same_product k.product c) nets))
     ∙ length-map (product_nets c nets) (λ (e : Key × ℤ). e.0)
 
-none_first : {A : Type 0} (a b : Option A) → either_first a b ≡ None → (a ≡ None) × (b ≡ None)
+pub none_first : {A : Type 0} (a b : Option A) → either_first a b ≡ None → (a ≡ None) × (b ≡ None)
 none_first None b h = (refl, h)
 none_first (Some x) b h = absurd (cc)
 
@@ -59,7 +59,7 @@ none_cons : {A : Type 0} (o : Option A) (os : List (Option A)) → first_some (o
 none_cons None os h = (refl, h)
 none_cons (Some x) os h = absurd (cc)
 
-none_each : {A : Type 0} (f : ProductClass → Option A) → first_some (map f products) ≡ None → (c : ProductClass) → f c ≡ None
+pub none_each : {A : Type 0} (f : ProductClass → Option A) → first_some (map f products) ≡ None → (c : ProductClass) → f c ≡ None
 none_each f h c =
     let a = none_cons (f product.RatesFX) (f product.Credit ∷ f product.Equity ∷ f product.Commodity ∷ []) h in
     let b = none_cons (f product.Credit) (f product.Equity ∷ f product.Commodity ∷ []) a.1 in

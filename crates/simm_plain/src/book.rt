@@ -9,7 +9,7 @@ ghost use Rattle.simm_rules.specs.Range.{range};
 ghost use Rattle.simm_plain.specs.Bucket.{IsBucket, factors};
 ghost use Rattle.simm_plain.specs.FxKeys.{FxRows};
 ghost use Rattle.simm_plain.specs.Lent.{all_rows};
-ghost use Rattle.simm_plain.specs.Nets.{nets_of};
+ghost use Rattle.simm_plain.specs.Nets.{nets_of, AreRows};
 
 use crate::breakdown::breakdown;
 use crate::bucket::fx_margin;
@@ -50,7 +50,8 @@ pub fn range_fault(
 ) -> Result<Option<RangeFault>, AllocError>
     requires fx { IsTrue (all_fx (all_rows lent.now)) }
     requires few { length (all_rows lent.now) < 2 ^ 63 }
-    ensures { IfOk result (λ fault. fault ≡ range params.now (all_rows lent.now)) }
+    ensures fault { IfOk result (λ fault. fault ≡ range params.now (all_rows lent.now)) }
+    ensures rows { IfOk result (λ fault. fault ≡ None → AreRows (all_rows lent.now)) }
 {
     if let Some(fault) = count_fault(lent) {
         return Ok(Some(fault));
