@@ -1,8 +1,9 @@
 -- What each batch keeps: at most 100,000 rows, and no trade twice.
-use Rattle.std.proofs.Common.{◌≡◌, ℕ, ◌≤◌, List, [], ◌∷◌, length, Bool, true, false, ◌||◌, cond, map, ◌==◌, Option, Some, None, refl, sym, ap, ◌∙◌, nat_lt}
+use Rattle.std.proofs.Common.{◌≡◌, ℕ, ◌≤◌, List, [], ◌∷◌, length, Bool, true, false, ◌||◌, cond, map, ◌==◌, ◌+◌, ◌<◌, take, get_or, arith, Option, Some, None, refl, sym, ap, ◌∙◌, nat_lt}
 use Rattle.std.specs.List.{list_any}
 use Rattle.std.specs.Option.{is_some}
 use Rattle.std.proofs.lemmas.Bool.{true≢false, or_parts, ltb-false}
+use Rattle.std.proofs.lemmas.List.Folds.{length-flat_map-take}
 use Rattle.simm_kinds.specs.declared.row.TradeRows.{TradeRows}
 use Rattle.simm_kinds.specs.declared.fault.MakeFault.{MakeFault}
 use Rattle.simm_kinds.specs.declared.fault.MakeFault.TheVariants as fault
@@ -37,3 +38,7 @@ different_trades trades h =
     let first = past (length trades == 0) fault.Empty _ h in
     let second = past (repeats same_name (map (λ t. t.trade) trades) || repeats same_key (single_params trades)) fault.Same _ first.1 in
     different_names trades (or_parts (repeats same_name (map (λ t. t.trade) trades)) (repeats same_key (single_params trades)) second.0).0
+
+-- the rows of the trades before one and its own are among all
+pub trade_count : (trades : List TradeRows) (i : ℕ) (t : TradeRows) → i < length trades → t ≡ get_or trades i t → length (rows_of (take i trades)) + length t.rows ≤ length (rows_of trades)
+trade_count trades i t h e = omega (arith, length-flat_map-take (λ u. u.rows) trades i t h, ap (λ u. length u.rows) e)

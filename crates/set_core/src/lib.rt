@@ -16,3 +16,7 @@ pub use refusal::Refusal;
 pub use reply::{Entry, Reply};
 pub use reply_words::reply_text;
 pub use set_state::SetState;
+
+
+#[cfg(test)]
+mod tests;

@@ -1,6 +1,5 @@
 use Rattle.std.proofs.Common.{arith}
-use Rattle.simm_plain.proofs.Grosses.{trade_count}
-use Rattle.set_core.proofs.Batches.{few_rows}
+use Rattle.set_core.proofs.Batches.{few_rows, trade_count}
 use Rattle.set_core.proofs.event.count_rows.Goals as goal
 
 pub overflow_add-count : goal.overflow_add-count
