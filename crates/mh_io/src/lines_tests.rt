@@ -131,16 +131,25 @@ impl Source for Rows {
 
     fn take(&mut self, buf: &mut [u8]) -> Result<usize, Failed> {
         let taken = self.left.min(buf.len());
-        for place in &mut buf[..taken] {
-            self.at = self.at.wrapping_add(1);
-            *place = if self.at >= self.width { b'\n' } else { b'x' };
-            if self.at >= self.width {
-                self.at = 0;
-            }
-        }
         self.left -= taken;
+        self.at = write_rows(&mut buf[..taken], self.width, self.at);
         Ok(taken)
     }
+}
+
+// Writes rows from this place in a row on, and answers the place behind.
+fn write_rows(buf: &mut [u8], width: usize, start: usize) -> usize {
+    let mut at = start;
+    for place in buf {
+        at = at.wrapping_add(1);
+        if at >= width {
+            *place = b'\n';
+            at = 0;
+        } else {
+            *place = b'x';
+        }
+    }
+    at
 }
 
 // How many lines there are, and what is answered then.
