@@ -1,4 +1,4 @@
-ghost use Rattle.std.specs.Prelude.{◌≡◌, ℕ, ◌+◌, ◌-◌, ◌<◌, ◌≤◌, [], ◌∷◌, take, length, position, IfOk, IfErr, OnOk, OnErr};
+ghost use Rattle.std.specs.Prelude.{◌≡◌, ℕ, ◌+◌, ◌-◌, ◌<◌, ◌≤◌, [], ◌∷◌, take, length, position, Ok, IfOk, IfErr, OnOk, OnErr};
 ghost use Rattle.mh_io.specs.Lines.{Stop, is_lf, without_cr};
 ghost use Rattle.mh_io.specs.Lined.{Lined, Gave, IsStopped, ComesWhere, IsLineOnly, lines_given, answer_at};
 ghost use Rattle.mh_io.specs.LinesSteps.{HasNoLf, BeginsLine, IsPart, Shows, Reached, TookMore, turns_left, past};
@@ -139,7 +139,8 @@ impl<S: Source> Lines<S> {
         requires some { 0 < count }
         requires there { count ≤ length self.old.pending }
         requires near { self.old.passed + count ≤ MOST_BYTES }
-        ensures { self.new ≡ past self.old count }
+        ensures past { self.new ≡ past self.old count }
+        ensures few { self.new.given ≤ MOST_BYTES }
     {
         self.window.skip(count);
         self.passed += count;
@@ -151,6 +152,7 @@ impl<S: Source> Lines<S> {
         requires empty { line.old ≡ [] }
         requires begins { BeginsLine self.old.passed self.old.pending count }
         ensures ok { OnOk result ((self.new ≡ past self.old (count + 1)) × (line.new ≡ without_cr (take count self.old.pending))) }
+        ensures few { OnOk result (self.new.given ≤ MOST_BYTES) }
         ensures err { OnErr result ((self.new ≡ self.old) × (line.new ≡ [])) }
     {
         line.extend(without_cr(&self.window.bytes()[..count]))?;
@@ -164,6 +166,7 @@ impl<S: Source> Lines<S> {
         requires part { IsPart self.old.passed self.old.pending }
         requires some { 0 < length self.old.pending }
         ensures ok { OnOk result ((self.new ≡ past self.old (length self.old.pending)) × (line.new ≡ self.old.pending)) }
+        ensures few { OnOk result (self.new.given ≤ MOST_BYTES) }
         ensures err { OnErr result ((self.new ≡ self.old) × (line.new ≡ [])) }
     {
         let rest = self.window.bytes();
@@ -188,6 +191,7 @@ impl<S: Source> Lines<S> {
         ensures gave { Gave S.faults S.name S.gave S.left self.old self.new (lines_given result line.new) }
         ensures comes { ComesWhere result self.new }
         ensures line_only { IsLineOnly result line.new }
+        ensures few { result ≡ Ok LineStep.Line → self.new.given ≤ MOST_BYTES }
         // Where no line is left, and the bytes stop for good, the answer is the one of the way in which they stop.
         ensures again { (stop : Stop) → IsStopped self.old stop → (self.new ≡ self.old) × (result ≡ answer_at stop) }
     {
@@ -202,7 +206,8 @@ impl<S: Source> Lines<S> {
 
     /// How many lines were given. It takes no memory.
     pub fn given(&self) -> u32
-        ensures { result ≡ self.now.given }
+        ensures value { result ≡ self.now.given }
+        ensures few { result ≤ MOST_BYTES }
     {
         self.given
     }
