@@ -1,1 +1,4 @@
 pub mod Numbers
+pub mod Calls
+pub mod Refused
+pub mod Sets

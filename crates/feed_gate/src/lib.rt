@@ -1,6 +1,7 @@
 //! A feed's messages as calls on the netting sets that they name.
 #![tactic(auto)]
 
+mod calling;
 mod report;
 
 pub use report::{FeedEnd, FeedReport, RefusedMessage};

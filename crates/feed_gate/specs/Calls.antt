@@ -1,0 +1,50 @@
+-- The calls of a feed on a set, and the journal that they make.
+use Rattle.std.specs.Prelude.{ℕ, List, [], ◌∷◌, ◌++◌, Option, Some, None, option_map, if◌then◌else◌}
+use Rattle.std.specs.List.{filter_map}
+use Rattle.simm_kinds.specs.Order.{same_name}
+use Rattle.simm_rules.specs.Params.{Params}
+use Rattle.crif_reader.specs.Grammar.{crif_of}
+use Rattle.feed_reader.specs.declared.message.Message.{Message}
+use Rattle.feed_reader.specs.declared.message.Message.TheVariants as message
+use Rattle.feed_reader.specs.Feed.{Item, Sent, BadAt}
+use Rattle.held_cell.specs.declared.entry.Entry.{Entry}
+use Rattle.held_cell.specs.Entries.{entry}
+use Rattle.set_core.specs.declared.event.Event.{Event}
+use Rattle.set_core.specs.declared.event.Event.TheVariants as event
+use Rattle.set_core.specs.declared.reply.Reply.{Reply}
+use Rattle.set_core.specs.Answer.{answer}
+use Rattle.set_core.specs.Room.{is_full}
+use Rattle.set_core.specs.Set.{Set, with_entry}
+
+-- the set that a message names
+abbrev pub set_of : Message → List ℕ
+set_of (message.Crif set block) = set
+set_of (message.Withdraw set names) = set
+set_of (message.Ask set) = set
+
+-- the event of a message; a block of records that is no batch has none
+abbrev pub event_of : Message → Option Event
+event_of (message.Crif set block) = option_map event.Submit (crif_of block)
+event_of (message.Withdraw set names) = Some (event.Withdraw names)
+event_of (message.Ask set) = Some event.AskMargin
+
+-- the call of an item on the set of this name, if it makes one
+abbrev pub call_on : List ℕ → Item → Option Event
+call_on name (Sent fed) = if same_name (set_of fed.message) name then event_of fed.message else None
+call_on name (BadAt line) = None
+
+-- the calls on a set: each message that names it makes its one call, in the feed's order
+abbrev pub calls : List ℕ → List Item → List Event
+calls name items = filter_map (call_on name) items
+
+-- a set after a call of caller 0: its answer joins the journal, unless the journal is full
+abbrev pub called : Set → Event → Set
+called s e = if is_full s.journal e then s else with_entry s 0 e (answer s.params s.journal e)
+
+abbrev pub after_calls : Set → List Event → Set
+after_calls s [] = s
+after_calls s (e ∷ events) = after_calls (called s e) events
+
+-- a set after a feed
+abbrev pub after_feed : List Item → Set → Set
+after_feed items s = after_calls s (calls s.terms.name items)

@@ -1,0 +1,9 @@
+-- Sets that a feed can call: at most sixteen, of different names.
+use Rattle.std.specs.Prelude.{List, ◌≤◌, length, map}
+use Rattle.std.specs.List.{IsDistinct}
+use Rattle.simm_kinds.specs.Order.{same_name}
+use Rattle.set_core.specs.Set.{Set}
+
+pub record AreApart (sets : List Set) : Type 0 where
+  pub few : length sets ≤ 16
+  pub different : IsDistinct same_name (map (λ s. s.terms.name) sets)

@@ -1,0 +1,103 @@
+//! One message as a call on the set that it names.
+ghost use Rattle.std.specs.Prelude.{◌≡◌, ◌∷◌, [], map, option_map, IfOk, IfSome, OnOk, OnErr};
+ghost use Rattle.feed_reader.specs.Feed.{Sent};
+ghost use Rattle.crif_reader.specs.Grammar.{crif_of};
+ghost use Rattle.set_core.specs.declared.event.Event.TheVariants as events;
+ghost use Rattle.set_core.specs.Events.{IsFx};
+ghost use Rattle.feed_gate.specs.Calls.{set_of, event_of, called, after_feed};
+ghost use Rattle.feed_gate.specs.Refused.{place_of, unless_full, refusal};
+ghost use Rattle.feed_gate.specs.Sets.{AreApart};
+
+use crate::RefusedMessage;
+use crif_reader::{CrifFault, read_batch};
+use feed_reader::{Fed, Message};
+use mh_units::Bytes;
+use set_core::{ApplyFault, Event, SetState};
+use simm_kinds::Name;
+use std::alloc::{AllocError, Global};
+
+/// Makes the call of a message, or tells why it makes none. For want of memory no set changes.
+pub(crate) fn make_call(
+    alloc: Global,
+    sets: &mut [SetState],
+    fed: Fed,
+) -> Result<Option<RefusedMessage>, AllocError>
+    requires { AreApart sets.old }
+    ensures refused { IfOk result (λ answer. answer ≡ refusal sets.old (Sent fed)) }
+    ensures sets { OnOk result (sets.new ≡ map (after_feed (Sent fed ∷ [])) sets.old) }
+    ensures unchanged { OnErr result (sets.new ≡ sets.old) }
+{
+    let line = fed.line;
+    let Some(place) = find_set(sets, set_of(&fed.message)) else {
+        return Ok(Some(RefusedMessage::UnknownSet { line }));
+    };
+    let Some(event) = event_of(alloc, fed.message)? else {
+        return Ok(Some(RefusedMessage::BadBatch { line }));
+    };
+    call(alloc, &mut sets[place], line, place as u32, event)
+}
+
+/// The set that a message names.
+fn set_of(message: &Message) -> &Name
+    ensures { result.now ≡ set_of message.now }
+{
+    match message {
+        Message::Crif { set, .. } | Message::Withdraw { set, .. } | Message::Ask { set } => set,
+    }
+}
+
+fn find_set(sets: &[SetState], name: &Name) -> Option<usize>
+    ensures { result ≡ place_of name.now sets.now }
+{
+    sets
+        .iter()
+        .position(|set| name.cmp(set.terms().name()).is_eq())
+}
+
+/// The event of a message; `None` where its block is no batch.
+fn event_of(alloc: Global, message: Message) -> Result<Option<Event>, AllocError>
+    ensures event { IfOk result (λ event. event ≡ event_of message) }
+    ensures fx { IfOk result (λ event. IfSome event IsFx) }
+{
+    match message {
+        Message::Crif { block, .. } => submit_of(alloc, &block),
+        Message::Withdraw { names, .. } => Ok(Some(Event::Withdraw(names))),
+        Message::Ask { .. } => Ok(Some(Event::AskMargin)),
+    }
+}
+
+fn submit_of(alloc: Global, block: &Bytes) -> Result<Option<Event>, AllocError>
+    ensures event { IfOk result (λ event. event ≡ option_map events.Submit (crif_of block.now)) }
+    ensures fx { IfOk result (λ event. IfSome event IsFx) }
+{
+    match read_batch(alloc, block.as_slice()) {
+        Ok(batch) => Ok(Some(Event::Submit(batch))),
+        Err(CrifFault::Refused) => Ok(None),
+        Err(CrifFault::Memory) => Err(AllocError),
+    }
+}
+
+/// Calls a set as caller 0.
+fn call(
+    alloc: Global,
+    set: &mut SetState,
+    line: u32,
+    place: u32,
+    event: Event,
+) -> Result<Option<RefusedMessage>, AllocError>
+    requires { IsFx event }
+    ensures refused { IfOk result (λ answer. answer ≡ unless_full line place set.old event) }
+    ensures set { OnOk result (set.new ≡ called set.old event) }
+    ensures unchanged { OnErr result (set.new ≡ set.old) }
+{
+    match set.apply(alloc, 0, event) {
+        Ok(_) => Ok(None),
+        Err(ApplyFault::JournalFull { entries, rows, .. }) => Ok(Some(RefusedMessage::Full {
+            line,
+            set: place,
+            entries,
+            rows,
+        })),
+        Err(ApplyFault::Memory { .. }) => Err(AllocError),
+    }
+}
