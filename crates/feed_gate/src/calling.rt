@@ -25,6 +25,7 @@ pub(crate) fn make_call(
     requires { AreApart sets.old }
     ensures refused { IfOk result (λ answer. answer ≡ refusal sets.old (Sent fed)) }
     ensures sets { OnOk result (sets.new ≡ map (after_feed (Sent fed ∷ [])) sets.old) }
+    ensures stand { IfOk result (λ answer. IfSome answer (λ _. sets.new ≡ sets.old)) }
     ensures unchanged { OnErr result (sets.new ≡ sets.old) }
 {
     let line = fed.line;
@@ -88,6 +89,7 @@ fn call(
     requires { IsFx event }
     ensures refused { IfOk result (λ answer. answer ≡ unless_full line place set.old event) }
     ensures set { OnOk result (set.new ≡ called set.old event) }
+    ensures stands { IfOk result (λ answer. IfSome answer (λ _. set.new ≡ set.old)) }
     ensures unchanged { OnErr result (set.new ≡ set.old) }
 {
     match set.apply(alloc, 0, event) {

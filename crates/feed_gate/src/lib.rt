@@ -3,5 +3,7 @@
 
 mod calling;
 mod report;
+mod run;
 
 pub use report::{FeedEnd, FeedReport, RefusedMessage};
+pub use run::run_feed;

@@ -1,7 +1,9 @@
 ghost use Rattle.std.specs.Prelude.{◌≡◌};
 ghost use Rattle.feed_gate.specs.Numbers.{refused_number};
+ghost use Rattle.feed_gate.specs.Run.{no_report};
 
 use simm_kinds::Listed;
+use std::alloc::Global;
 
 /// A message that made no call. `line` is the number of its first line, from 1.
 #[derive(Clone, Copy, Debug, PartialEq, Eq)]
@@ -60,4 +62,17 @@ pub struct FeedReport {
     /// The others, in the order of their lines.
     pub refused: Listed<RefusedMessage>,
     pub end: FeedEnd,
+}
+
+impl FeedReport {
+    /// Of no message. It takes no memory.
+    pub(crate) fn new(alloc: Global) -> FeedReport
+        ensures { result ≡ no_report }
+    {
+        FeedReport {
+            done: 0,
+            refused: Listed::new(alloc),
+            end: FeedEnd::End,
+        }
+    }
 }

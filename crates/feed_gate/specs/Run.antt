@@ -1,0 +1,116 @@
+-- What running a feed does to its lines, to the sets and to its report.
+use Rattle.std.specs.Prelude.{◌≡◌, ℕ, ◌+◌, ◌≤◌, List, [], ◌∷◌, ◌++◌, Bool, Option, Some, None, true, map}
+use Rattle.std.specs.List.{AllByRecursion}
+use Rattle.std.specs.Io.KnownBytes.{IsAtEnd}
+use Rattle.mh_io.specs.Faults.{Rises}
+use Rattle.mh_io.specs.Source as source
+use Rattle.mh_io.specs.Lined.{Lined}
+use Rattle.mh_io.specs.declared.lines_answer.Supply.TheVariants as supply
+use Rattle.mh_io.specs.declared.reading.TheConstants.{MOST_BYTES}
+use Rattle.feed_reader.specs.Feed as message
+use Rattle.feed_reader.specs.Feed.{Item, FeedRun, FeedStop, feed}
+use Rattle.feed_reader.specs.Answers.{TellsItems, TellsStop, TellsNone, line_of}
+use Rattle.set_core.specs.Set.{Set}
+use Rattle.feed_gate.specs.declared.report.RefusedMessage.{RefusedMessage}
+use Rattle.feed_gate.specs.declared.report.FeedEnd.{FeedEnd}
+use Rattle.feed_gate.specs.declared.report.FeedEnd.TheVariants as end_at
+use Rattle.feed_gate.specs.declared.report.FeedReport.{FeedReport}
+use Rattle.feed_gate.specs.Calls.{after_feed}
+use Rattle.feed_gate.specs.Refused.{refusal, done_of, refused_of}
+
+-- nothing is done yet
+abbrev pub no_report : FeedReport
+no_report = record { done = 0; refused = []; end = end_at.End }
+
+-- a message more: it made its call, or is refused
+abbrev pub with_answer : FeedReport → Option RefusedMessage → FeedReport
+with_answer r None = record r { done = r.done + 1 }
+with_answer r (Some refused) = record r { refused = r.refused ++ refused ∷ [] }
+
+-- an item was reported, or there was no memory in its line, and the report stands
+abbrev pub Reports : FeedReport → FeedReport → ℕ → Option RefusedMessage → Option FeedEnd → Type 0
+Reports old new line answer None = new ≡ with_answer old answer
+Reports old new line answer (Some why) = (new ≡ old) × (why ≡ end_at.Memory line)
+
+-- an item met the sets, or there was no memory in its line, and all stands
+abbrev pub Meets : Item → List Set → List Set → FeedReport → FeedReport → Option FeedEnd → Type 0
+Meets item old_sets new_sets old new None = (new_sets ≡ map (after_feed (item ∷ [])) old_sets) × (new ≡ with_answer old (refusal old_sets item))
+Meets item old_sets new_sets old new (Some why) = (new_sets ≡ old_sets) × (new ≡ old) × (why ≡ end_at.Memory (line_of item))
+
+-- ---- from one moment to a later one
+
+module _ {S : Type 0} (faults : S → ℕ) (name gave left : S → Option (List ℕ)) where
+  -- why no item came any more
+  abbrev pub EndsAt : FeedEnd → Lined S → Lined S → Type 0
+  EndsAt end_at.End old new = TellsStop faults name gave left old new message.Whole × (new.supply ≡ supply.Ended)
+  EndsAt (end_at.Cut line) old new = TellsStop faults name gave left old new (message.Cut line) × (new.supply ≡ supply.Ended)
+  EndsAt (end_at.LineLong line) old new = TellsStop faults name gave left old new (message.LineLong line)
+  EndsAt (end_at.TooLong taken) old new = TellsStop faults name gave left old new message.TooLong × (taken ≡ MOST_BYTES + 1)
+  EndsAt end_at.ReadFault old new = TellsStop faults name gave left old new message.Open × (new.supply ≡ supply.Failed)
+  EndsAt (end_at.Memory line) old new = TellsNone faults name gave left old new line
+
+  -- one item was told and met the sets
+  pub record TakesItem (old new : Lined S) (old_sets new_sets : List Set) (old_report new_report : FeedReport) : Type 0 where
+    pub item : Item
+    pub told : TellsItems faults name gave left old new (item ∷ [])
+    pub sets : new_sets ≡ map (after_feed (item ∷ [])) old_sets
+    pub report : new_report ≡ with_answer old_report (refusal old_sets item)
+    pub later : old.given + 1 ≤ new.given
+
+  -- no item came, and nothing else changed
+  pub record TakesNone (old new : Lined S) (old_sets new_sets : List Set) (old_report new_report : FeedReport) (why : FeedEnd) : Type 0 where
+    pub ends : EndsAt why old new
+    pub sets : new_sets ≡ old_sets
+    pub report : new_report ≡ old_report
+
+  abbrev pub Takes : Lined S → Lined S → List Set → List Set → FeedReport → FeedReport → Option FeedEnd → Type 0
+  Takes old new old_sets new_sets old_report new_report None = TakesItem old new old_sets new_sets old_report new_report
+  Takes old new old_sets new_sets old_report new_report (Some why) = TakesNone old new old_sets new_sets old_report new_report why
+
+  -- these items were told so far, and each met the sets
+  pub record RanTo (old new : Lined S) (old_sets new_sets : List Set) (r : FeedReport) (items : List Item) : Type 0 where
+    pub told : TellsItems faults name gave left old new items
+    pub sets : new_sets ≡ map (after_feed items) old_sets
+    pub done : r.done ≡ done_of old_sets items
+    pub refused : r.refused ≡ refused_of old_sets items
+
+  -- all items were told, and then none came
+  pub record RanLines (old new : Lined S) (old_sets new_sets : List Set) (r : FeedReport) : Type 0 where
+    pub items : List Item
+    pub held : Lined S
+    pub ran : RanTo old held old_sets new_sets r items
+    pub ends : EndsAt r.end held new
+
+-- ---- from the first byte to the last
+
+-- The items that were done are those of the feed grammar, and the end is the way in which the bytes stop. For want of
+-- memory in the message of a line the items are those before that line.
+abbrev pub IsEnd : FeedEnd → List Item → FeedRun → Type 0
+IsEnd end_at.End items run = run ≡ record { items = items; stop = message.Whole }
+IsEnd (end_at.Cut line) items run = run ≡ record { items = items; stop = message.Cut line }
+IsEnd (end_at.LineLong line) items run = run ≡ record { items = items; stop = message.LineLong line }
+IsEnd (end_at.TooLong taken) items run = (run ≡ record { items = items; stop = message.TooLong }) × (taken ≡ MOST_BYTES + 1)
+IsEnd end_at.ReadFault items run = run ≡ record { items = items; stop = message.Open }
+IsEnd (end_at.Memory line) items run = (rest : List Item) × (run.items ≡ items ++ rest) × AllByRecursion (λ item. line ≤ line_of item) rest
+
+-- what became of the bytes of a feed, where `ended` says that they are all
+pub record RanOver (taken : List ℕ) (ended : Bool) (old_sets new_sets : List Set) (r : FeedReport) : Type 0 where
+  pub items : List Item
+  pub stop : IsEnd r.end items (feed taken ended)
+  pub sets : new_sets ≡ map (after_feed items) old_sets
+  pub done : r.done ≡ done_of old_sets items
+  pub refused : r.refused ≡ refused_of old_sets items
+
+-- a source that was run: the bytes that were taken from it are done, all of them where it ended; it failed only where a
+-- fault was met
+module _ {S : Type 0} (faults : S → ℕ) (name gave left : S → Option (List ℕ)) where
+  pub record RanSource (old new : S) (old_sets new_sets : List Set) (r : FeedReport) : Type 0 where
+    pub taken : List ℕ
+    pub ended : Bool
+    pub takes : source.Takes (gave old) (gave new) (left old) (left new) taken
+    pub count : faults old ≤ faults new
+    pub named : name new ≡ name old
+    pub ran : RanOver taken ended old_sets new_sets r
+    pub at_end : ended ≡ true → IsAtEnd (left new)
+    pub whole : r.end ≡ end_at.End → ended ≡ true
+    pub failed : r.end ≡ end_at.ReadFault → Rises (faults old) (faults new)
