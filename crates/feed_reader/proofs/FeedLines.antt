@@ -1,0 +1,59 @@
+-- Lines that are given one after another.
+use Rattle.std.proofs.Common.{◌≡◌, ℕ, ◌+◌, ◌<◌, Bool, true, false, List, [], ◌∷◌, ◌++◌, Option, Result, Ok, Err, length, flat_map, refl, sym, ap, ◌∙◌, subst, arith, append_assoc}
+use Rattle.std.proofs.lemmas.List.{append-nil}
+use Rattle.std.proofs.lemmas.List.Elements.{All-nil, All-append, All-cons}
+use Rattle.std.proofs.lemmas.Grind.{flat_map-append}
+use Rattle.mh_io.specs.Lines.{Stop, Whole, Open, Long, Over}
+use Rattle.mh_io.specs.Lined.{Lined, Gave, lines_given, answer_at}
+use Rattle.mh_io.specs.declared.lines_answer.LineStep.{LineStep}
+use Rattle.mh_io.specs.declared.lines_answer.LineStep.TheVariants.{Line, End}
+use Rattle.mh_io.specs.declared.lines_answer.LineFault.{LineFault}
+use Rattle.mh_io.proofs.LinesTaken.{gave_none, then_gave}
+use Rattle.feed_reader.specs.Line.{is_passed_over, is_end}
+use Rattle.feed_reader.specs.Feed.{block_of}
+use Rattle.feed_reader.specs.Steps.{ArePassed, AreInside, Skips, Encloses}
+
+pub no_lines_passed : ArePassed []
+no_lines_passed = All-nil (λ line. is_passed_over line ≡ true)
+
+pub one_more_passed : (passed : List (List ℕ)) (line : List ℕ) → ArePassed passed → is_passed_over line ≡ true → ArePassed (passed ++ line ∷ [])
+one_more_passed passed line over is =
+    All-append (λ l. is_passed_over l ≡ true) passed (line ∷ []) over (All-cons (λ l. is_passed_over l ≡ true) line [] is no_lines_passed)
+
+pub no_lines_inside : AreInside []
+no_lines_inside = All-nil (λ line. is_end line ≡ false)
+
+pub one_more_inside : (inside : List (List ℕ)) (line : List ℕ) → AreInside inside → is_end line ≡ false → AreInside (inside ++ line ∷ [])
+one_more_inside inside line within is =
+    All-append (λ l. is_end l ≡ false) inside (line ∷ []) within (All-cons (λ l. is_end l ≡ false) line [] is no_lines_inside)
+
+-- a line that the test for the block's end refused
+pub inner_line : (bytes line : List ℕ) (ends : Bool) → bytes ≡ line → ends ≡ is_end bytes → ends ≡ false → is_end line ≡ false
+inner_line bytes line ends same is refused = sym (ap is_end same) ∙ (sym is ∙ refused)
+
+-- a block with one more line
+pub block_and : (before : List ℕ) (inside : List (List ℕ)) (line : List ℕ) → (before ++ block_of inside) ++ (line ++ 10 ∷ []) ≡ before ++ block_of (inside ++ line ∷ [])
+block_and before inside line = rw (append_assoc, flat_map-append, append-nil) refl
+
+-- where the lines stopped no line is answered
+pub no_line_at : (stop : Stop) → Ok Line ≡ answer_at stop → ⊥
+no_line_at Whole e = cc e
+no_line_at Open e = cc e
+no_line_at Long e = cc e
+no_line_at Over e = cc e
+
+module _ {S : Type 0} (faults : S → ℕ) (name gave left : S → Option (List ℕ)) where
+  pub then_skips : {a b c : Lined S} (answer : Result LineStep LineFault) (line : List ℕ) → (passed : List (List ℕ)) × ArePassed passed × Gave faults name gave left a b passed → Gave faults name gave left b c (lines_given answer line) → Skips faults name gave left a c answer line
+  then_skips answer line so_far next = record { passed = so_far.0; over = so_far.1; lines = then_gave faults name gave left so_far.2 next }
+
+  pub then_encloses : {a b c : Lined S} (answer : Result LineStep LineFault) (line before after : List ℕ) → (inside : List (List ℕ)) × AreInside inside × Gave faults name gave left a b inside × (after ≡ before ++ block_of inside) → Gave faults name gave left b c (lines_given answer line) → Encloses faults name gave left a c answer line before after
+  then_encloses answer line before after so_far next = record { inside = so_far.0; within = so_far.1; lines = then_gave faults name gave left so_far.2 next; block = λ _. so_far.3 }
+
+  -- memory was wanted for a line of a block
+  pub line_lost : {a b c : Lined S} (fault : LineFault) (line before after : List ℕ) → (inside : List (List ℕ)) × AreInside inside × Gave faults name gave left a b inside → Gave faults name gave left b c (line ∷ []) → is_end line ≡ false → Encloses faults name gave left a c (Err fault) line before after
+  line_lost fault line before after so_far next is = record {
+    inside = so_far.0 ++ line ∷ [];
+    within = one_more_inside so_far.0 line so_far.1 is;
+    lines = subst (Gave faults name gave left _ _) (sym (append-nil (so_far.0 ++ line ∷ []))) (then_gave faults name gave left so_far.2 next);
+    block = λ e. absurd (cc e);
+  }

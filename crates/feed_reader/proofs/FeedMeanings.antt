@@ -1,0 +1,41 @@
+-- What a line means together with those behind it.
+use Rattle.std.proofs.Common.{◌≡◌, ℕ, ◌+◌, Bool, true, false, List, [], ◌∷◌, ◌++◌, Option, Some, None, Result, Ok, Err, length, refl, sym, ap, ◌∙◌, subst, arith}
+use Rattle.mh_io.specs.Lines as cut
+use Rattle.mh_io.specs.Lined.{Lined, IsStopped}
+use Rattle.mh_io.specs.declared.lines_answer.LineFault.{LineFault}
+use Rattle.mh_io.specs.declared.lines_answer.LineFault.TheVariants as line_fault
+use Rattle.feed_reader.specs.declared.message.Fed.{Fed}
+use Rattle.feed_reader.specs.declared.message.Message.{Message}
+use Rattle.feed_reader.specs.declared.message.Message.TheVariants.{Crif}
+use Rattle.feed_reader.specs.declared.message.Meaning.{Meaning}
+use Rattle.feed_reader.specs.declared.message.Meaning.TheVariants.{Opens, Tells, Bad}
+use Rattle.feed_reader.specs.declared.fault.FeedFault.{FeedFault}
+use Rattle.feed_reader.specs.declared.fault.FeedFault.TheVariants as fault
+use Rattle.feed_reader.specs.Line.{is_passed_over, meaning_of, is_end}
+use Rattle.feed_reader.specs.Feed.{Item, Sent, BadAt, FeedStop, Cut, LineLong, no_items, items_of, block_of}
+use Rattle.feed_reader.specs.Steps.{AreInside, StopsAt, IsItem, Means, feed_fault}
+use Rattle.feed_reader.proofs.FeedItems.{message_line, bad_line, block_lines, open_block}
+
+module _ {S : Type 0} where
+  pub message_means : (held : Lined S) (n first : ℕ) (line : List ℕ) (message : Message) → is_passed_over line ≡ false → meaning_of line ≡ Tells message → first ≡ n → Means n (line ∷ []) held (Ok (Some (record { line = first; message = message })))
+  message_means held n first line message full is same = rw same (message_line n line message full is, refl)
+
+  pub bad_means : (held : Lined S) (n first : ℕ) (line : List ℕ) → is_passed_over line ≡ false → meaning_of line ≡ Bad → first ≡ n → Means n (line ∷ []) held (Err (fault.BadLine first))
+  bad_means held n first line full is same = rw same (bad_line n line full is, refl, refl)
+
+  pub block_means : (held : Lined S) (n first : ℕ) (line set : List ℕ) (inside : List (List ℕ)) (last block : List ℕ) → is_passed_over line ≡ false → meaning_of line ≡ Opens set → AreInside inside → is_end last ≡ true → first ≡ n → block ≡ block_of inside → Means n (line ∷ (inside ++ last ∷ [])) held (Ok (Some (record { line = first; message = Crif set block })))
+  block_means held n first line set inside last block full is within ends same whole =
+      rw (same, whole) (block_lines n line set inside last full is within ends, refl)
+
+  pub cut_means : (held : Lined S) (n first : ℕ) (line set : List ℕ) (inside : List (List ℕ)) → is_passed_over line ≡ false → meaning_of line ≡ Opens set → AreInside inside → IsStopped held cut.Whole → first ≡ n → Means n (line ∷ inside) held (Err (fault.Cut first))
+  cut_means held n first line set inside full is within is_stopped same =
+      rw same (open_block n line set inside cut.Whole full is within, is_stopped, refl)
+
+  pub fault_means : (held : Lined S) (f : LineFault) (n first next : ℕ) (line set : List ℕ) (inside : List (List ℕ)) → is_passed_over line ≡ false → meaning_of line ≡ Opens set → AreInside inside → StopsAt (Err f) held → first ≡ n → next ≡ n + 1 + length inside → Means n (line ∷ inside) held (Err (feed_fault f next first))
+  fault_means held line_fault.ReadFault n first next line set inside full is within is_stopped same number =
+      (open_block n line set inside cut.Open full is within, is_stopped)
+  fault_means held line_fault.LineLong n first next line set inside full is within is_stopped same number =
+      (open_block n line set inside cut.Long full is within ∙ ap (λ k. no_items (LineLong k)) (sym number), is_stopped, omega arith)
+  fault_means held (line_fault.TooLong taken) n first next line set inside full is within is_stopped same number =
+      (open_block n line set inside cut.Over full is within, is_stopped.0, is_stopped.1)
+  fault_means held line_fault.Memory n first next line set inside full is within is_stopped same number = same

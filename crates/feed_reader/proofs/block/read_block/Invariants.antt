@@ -1,0 +1,13 @@
+use Rattle.std.proofs.Common.{◌≡◌, ℕ, ◌-◌, ◌++◌, List}
+use Rattle.mh_io.specs.Lined.{Gave}
+use Rattle.mh_io.specs.declared.reading.TheConstants.{MOST_BYTES}
+use Rattle.feed_reader.specs.Feed.{block_of}
+use Rattle.feed_reader.specs.Steps.{AreInside}
+use Rattle.feed_reader.proofs.block.read_block.Given as goal
+
+-- the lines so far lie within the block
+abbrev pub invariant-loop-line : goal.invariant-loop-line
+invariant-loop-line g l = (inside : List (List ℕ)) × AreInside inside × Gave g.S.Source.faults g.S.Source.name g.S.Source.gave g.S.Source.left l.initial.lines l.lines inside × (l.block ≡ l.initial.block ++ block_of inside)
+
+abbrev pub decreases-loop-line : goal.decreases-loop-line
+decreases-loop-line g l = MOST_BYTES - l.lines.given

@@ -1,0 +1,5 @@
+pub mod Fault
+pub mod Line
+pub mod Feed
+pub mod Answers
+pub mod Steps

@@ -1,0 +1,16 @@
+//! Reads the messages of a feed, one by one, from its lines.
+#![tactic(auto)]
+
+mod block;
+mod fault;
+mod fields;
+mod message;
+mod read;
+mod words;
+
+pub use fault::FeedFault;
+pub use message::{Fed, Message};
+pub use read::next_message;
+
+#[cfg(test)]
+mod tests;

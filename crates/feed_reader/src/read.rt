@@ -1,0 +1,105 @@
+ghost use Rattle.std.specs.Prelude.{◌≡◌, ℕ, ◌+◌, List, [], ◌∷◌, ◌++◌, false};
+ghost use Rattle.mh_io.specs.Lines.{Stop};
+ghost use Rattle.mh_io.specs.Lined.{Gave, IsStopped};
+ghost use Rattle.feed_reader.specs.Line.{is_passed_over, meaning_of};
+ghost use Rattle.feed_reader.specs.Answers.{Answers, StopsLines, IsPlaced, answer_at};
+ghost use Rattle.feed_reader.specs.Steps.{Tells, feed_fault};
+
+use crate::block::{read_block, skip_to_line};
+use crate::fields::read_line;
+use crate::message::Meaning;
+use crate::{Fed, FeedFault, Message};
+use mh_io::{LineFault, LineStep, Lines, Source};
+use mh_units::Bytes;
+use simm_kinds::Name;
+use std::alloc::Global;
+
+/// A line's fault as one of the feed: a long line is the one numbered `next`, and memory was wanted for the message that
+/// begins in the line `first`.
+fn feed_fault(fault: LineFault, next: u32, first: u32) -> FeedFault
+    ensures { result ≡ feed_fault fault next first }
+{
+    match fault {
+        LineFault::ReadFault => FeedFault::ReadFault,
+        LineFault::LineLong => FeedFault::LineLong { line: next },
+        LineFault::TooLong { taken } => FeedFault::TooLong { taken },
+        LineFault::Memory => FeedFault::Memory { line: first },
+    }
+}
+
+/// Reads the block of this set, which the line before began.
+fn read_crif<S: Source>(
+    alloc: Global,
+    lines: &mut Lines<S>,
+    line: &mut Bytes,
+    set: Name,
+) -> Result<Option<Fed>, FeedFault>
+    requires opens { meaning_of line.old ≡ Meaning.Opens set }
+    requires full { is_passed_over line.old ≡ false }
+    ensures { Tells S.faults S.name S.gave S.left lines.old lines.new line.old result }
+{
+    let first = lines.given();
+    let mut block = Bytes::new(alloc);
+    match read_block(lines, line, &mut block) {
+        Ok(LineStep::Line) => Ok(Some(Fed {
+            line: first,
+            message: Message::Crif { set, block },
+        })),
+        Ok(LineStep::End) => Err(FeedFault::Cut { line: first }),
+        Err(fault) => Err(feed_fault(fault, lines.given() + 1, first)),
+    }
+}
+
+/// Reads the message that begins in the line that was given last.
+fn read_message<S: Source>(
+    alloc: Global,
+    lines: &mut Lines<S>,
+    line: &mut Bytes,
+) -> Result<Option<Fed>, FeedFault>
+    requires { is_passed_over line.old ≡ false }
+    ensures { Tells S.faults S.name S.gave S.left lines.old lines.new line.old result }
+{
+    let first = lines.given();
+    match read_line(alloc, line.as_slice()) {
+        Ok(Meaning::Opens { set }) => read_crif(alloc, lines, line, set),
+        Ok(Meaning::Tells { message }) => Ok(Some(Fed {
+            line: first,
+            message,
+        })),
+        Ok(Meaning::Bad) => Err(FeedFault::BadLine { line: first }),
+        Err(_) => Err(FeedFault::Memory { line: first }),
+    }
+}
+
+/// Gives the next message of a feed, or `None` where the input ended outside a block.
+///
+/// Outside a block an empty line and one that begins with `#` is passed over. Every other line that is no message is
+/// `BadLine`. Lines are counted from 1.
+///
+/// # Errors
+///
+/// `BadLine` ends only that message: the next call reads on with the next line. `Cut` exactly where the input ended inside
+/// a block; the next call answers `None`. `LineLong` and `TooLong` exactly as `mh_io::Lines` has them, after every message
+/// before. `ReadFault` only where the source's count of faults rose since these lines were made. After these three each
+/// further call answers the same. `Memory` for want of memory, in the message that begins in its line; the lines that this
+/// call was given aren't given again.
+pub fn next_message<S: Source>(
+    alloc: Global,
+    lines: &mut Lines<S>,
+) -> Result<Option<Fed>, FeedFault>
+    ensures answers { Answers S.faults S.name S.gave S.left lines.old lines.new result }
+    ensures stops { StopsLines result lines.new }
+    ensures placed { IsPlaced result lines.old lines.new }
+    // Where the lines stopped before, the answer is the one of the way in which they stopped, and nothing changes.
+    ensures again { (stop : Stop) → IsStopped lines.old stop → (lines.new ≡ lines.old) × (result ≡ answer_at lines.old.given stop) }
+{
+    let mut line = Bytes::new(alloc);
+    match skip_to_line(lines, &mut line) {
+        Ok(LineStep::Line) => read_message(alloc, lines, &mut line),
+        Ok(LineStep::End) => Ok(None),
+        Err(fault) => {
+            let next = lines.given() + 1;
+            Err(feed_fault(fault, next, next))
+        }
+    }
+}
