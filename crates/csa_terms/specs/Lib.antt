@@ -1,3 +1,4 @@
 pub mod Terms
 pub mod Held
 pub mod SetView
+pub mod Calendar
