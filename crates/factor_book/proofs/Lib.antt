@@ -1,0 +1,5 @@
+pub mod Standing
+pub mod Sorting
+pub mod Keys
+pub mod Held
+pub mod Filed
