@@ -1,6 +1,6 @@
 -- What the rows of a key come to, and that it is what the factors of the rows say.
 use Rattle.std.proofs.Common.{◌≡◌, ℕ, zero, suc, ◌+◌, ◌-◌, ◌*◌, ◌^◌, ◌<◌, ◌≤◌, List, [], ◌∷◌, ◌++◌, map, length, Bool, true, false, ◌||◌, cond, Option, Some, None, refl, sym, ap, ◌∙◌, subst, ℤ, pos, ◌+ℤ◌, ◌-ℤ◌, unsigned_abs, arith, length-append}
-use Rattle.std.specs.Prelude.{◌==◌}
+use Rattle.std.specs.Prelude.{◌==◌, is_some}
 use Rattle.std.specs.List.{filter, list_any, AllByRecursion}
 use Rattle.std.specs.List.Sorted.{IsStrictlySortedBy}
 use Rattle.std.specs.Map.{lookup, keys_of as keys_in}
@@ -174,6 +174,16 @@ holding_some n (suc c) h = refl
 has_come : (held : List CrifRow) (k : Key) (t : Bool) → list_any (same_key k) (map (λ r. r.key) held) ≡ t → cond t (Some (record { net = net held k; rows = count_of held k })) None ≡ come_to held k
 has_come held k true e = holding_some (net held k) (count_of held k) (has_some held k e)
 has_come held k false e = holding_none (net held k) (count_of held k) (has_none held k e)
+
+is_some_cond : {X : Type 0} (t : Bool) (x : X) → is_some (cond t (Some x) None) ≡ t
+is_some_cond true x = refl
+is_some_cond false x = refl
+
+-- a key comes to something where rows have it
+pub is_some-come_to : (held : List CrifRow) (k : Key) → is_some (come_to held k) ≡ list_any (same_key k) (map (λ r. r.key) held)
+is_some-come_to held k =
+    ap is_some (sym (has_come held k (list_any (same_key k) (map (λ r. r.key) held)) refl))
+    ∙ is_some_cond (list_any (same_key k) (map (λ r. r.key) held)) (record { net = net held k; rows = count_of held k })
 
 -- ---- the factors of rows as pairs
 

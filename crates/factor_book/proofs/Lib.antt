@@ -3,3 +3,5 @@ pub mod Sorting
 pub mod Keys
 pub mod Held
 pub mod Filed
+pub mod Books
+pub mod BucketKeys

@@ -45,4 +45,4 @@ pub record AreHeld (taken : List CrifRow) (factors : List Factor) : Type 0 where
   pub before : List CrifRow
   pub after : List CrifRow
   pub are : factors ≡ factors_of (before ++ taken ++ after)
-  pub amounts : AreAmounts (before ++ after)
+  pub amounts : AreAmounts (before ++ taken ++ after)

@@ -1,4 +1,4 @@
-ghost use Rattle.std.specs.Prelude.{◌≡◌, ◌∷◌, ◌++◌, List, [], length, IfOk, OnOk, OnErr};
+ghost use Rattle.std.specs.Prelude.{◌≡◌, ◌≤◌, ◌^◌, ◌∷◌, ◌++◌, List, [], length, unsigned_abs, IfOk, OnOk, OnErr};
 ghost use Rattle.simm_kinds.specs.declared.row.CrifRow.{CrifRow as Row};
 ghost use Rattle.simm_rules.specs.Net.{net, keys_of, rows_in, in_bucket};
 ghost use Rattle.factor_book.specs.Factors.{factors_of, AreAmounts, AreHeld, HasRoom, IsBook};
@@ -53,7 +53,7 @@ impl Factors {
         requires { HasRoom self.old (length rows.now) }
         ensures ok { (held : List Row) → self.old ≡ factors_of held → OnOk result (self.new ≡ factors_of (held ++ rows.now)) }
         ensures err { OnErr result (self.new ≡ self.old) }
-        ensures amounts { AreAmounts rows.now }
+        ensures amounts { OnOk result (AreAmounts rows.now) }
     {
         self.facts();
         for (index, row) in rows.iter().enumerate() {
@@ -116,7 +116,10 @@ impl Factors {
         requires { HasRoom self.old 1 }
         ensures ok { (held : List Row) → self.old ≡ factors_of held → OnOk result (self.new ≡ factors_of (held ++ row.now ∷ [])) }
         ensures err { OnErr result (self.new ≡ self.old) }
+        ensures amount { unsigned_abs row.now.amount ≤ 2 ^ 63 }
     {
+        // read, so that it is known to have 64 bits
+        let _amount = row.amount;
         add_row(&mut self.by_place, alloc, row)
     }
 

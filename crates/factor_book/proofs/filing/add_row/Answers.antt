@@ -72,16 +72,16 @@ pub returns-in_ok-insert-in-None-clause-filing : goal.returns-in_ok-insert-in-No
 returns-in_ok-insert-in-None-clause-filing c =
     let before = c.get_mut.follows.lender-at-none.entries in
     let none = c.in-None.ensures.value ∙ lookup_place c.of-place.result c.args.filed.now.entries in
-    first_filed c.args.filed.now.entries before c.insert.new.self.entries c.of-place.result c.args.row.now.key c.new-factors.result c.add.new.self c.args.row.now.amount
+    first_filed c.args.filed.now.entries before c.insert.new.self.entries c.of-place.result c.args.row.now.key c.new-factors.result c.add-in-None.new.self c.args.row.now.amount
     (ap (λ m. m.entries) c.get_mut.follows.holds-at-none) c.of-place.ensures none c.new-factors.ensures
-    (updated_place before c.insert.new.self.entries c.of-place.result (place_of c.args.row.now.key) (Some c.add.new.self) c.of-place.ensures c.in_ok-insert-in-None.ensures.updates.0)
+    (updated_place before c.insert.new.self.entries c.of-place.result (place_of c.args.row.now.key) (Some c.add-in-None.new.self) c.of-place.ensures c.in_ok-insert-in-None.ensures.updates.0)
     c.in_ok-add-in-None.ensures.ok c.requires.filing (ordered_places c.insert.new.self.entries c.in_ok-insert-in-None.ensures.ordered)
 
 pub returns-in_ok-insert-in-None-clause-ok : goal.returns-in_ok-insert-in-None-clause-ok
 returns-in_ok-insert-in-None-clause-ok c =
     let before = c.get_mut.follows.lender-at-none.entries in
     let none = c.in-None.ensures.value ∙ lookup_place c.of-place.result c.args.filed.now.entries in
-    first_found c.args.filed.now.entries before c.insert.new.self.entries c.of-place.result c.args.row.now.key c.new-factors.result c.add.new.self c.args.row.now.amount
+    first_found c.args.filed.now.entries before c.insert.new.self.entries c.of-place.result c.args.row.now.key c.new-factors.result c.add-in-None.new.self c.args.row.now.amount
     (ap (λ m. m.entries) c.get_mut.follows.holds-at-none) c.of-place.ensures none c.new-factors.ensures
-    (updated_place before c.insert.new.self.entries c.of-place.result (place_of c.args.row.now.key) (Some c.add.new.self) c.of-place.ensures c.in_ok-insert-in-None.ensures.updates.0)
+    (updated_place before c.insert.new.self.entries c.of-place.result (place_of c.args.row.now.key) (Some c.add-in-None.new.self) c.of-place.ensures c.in_ok-insert-in-None.ensures.updates.0)
     c.in_ok-add-in-None.ensures.ok
