@@ -2,6 +2,7 @@
 use Rattle.std.proofs.Common.{◌≡◌, ℕ, zero, suc, ◌+◌, ◌*◌, ◌^◌, ◌<◌, ◌≤◌, List, [], ◌∷◌, ◌++◌, map, length, cond, Option, Some, None, IfSome, IsSomeAnd, sym, ap, ◌∙◌, subst, refl, ℤ, ◌+ℤ◌, unsigned_abs, arith, take, drop, get_or, append_assoc, append-nil, add-one, drop-cons}
 use Rattle.std.specs.List.{AllByRecursion}
 use Rattle.std.specs.Map.{lookup}
+use Rattle.std.proofs.lemmas.Int.{ints}
 use Rattle.std.proofs.lemmas.List.{length-append, take_more, drop_all}
 use Rattle.simm_kinds.specs.declared.row.CrifRow.{CrifRow}
 use Rattle.simm_kinds.specs.Key.{Key}
@@ -14,7 +15,7 @@ use Rattle.factor_book.specs.Factors.{Factor, factors_of, count_of, AreAmounts, 
 use Rattle.factor_book.specs.Holdings.{grown, shrunk, CanGrow, CanShrink}
 use Rattle.factor_book.specs.Filing.{found, AreFiled, IsFiledBook, as_factor, factors_in}
 use Rattle.factor_book.proofs.Sorting.{same_entries}
-use Rattle.factor_book.proofs.Held.{holding, come_to, come_to-more, come_to-less, come_to-same, last_first, taken_first, net_size, count_below, pairs_of, pairs_ascend, lookup-pairs_of, factors-pairs}
+use Rattle.factor_book.proofs.Held.{holding, net-append, count-append, come_to, come_to-more, come_to-less, come_to-same, last_first, taken_first, net_size, count_below, pairs_of, pairs_ascend, lookup-pairs_of, factors-pairs}
 use Rattle.factor_book.proofs.Filed.{found-from, factors-from}
 
 -- ---- rows that come to the same have the same factors
@@ -227,3 +228,14 @@ pub front_taken : (first now last : List Factor) (rows : List CrifRow) → IsBoo
     → ((before after : List CrifRow) → now ≡ factors_of (before ++ rows ++ after) → last ≡ factors_of (before ++ after)) → last ≡ first
 front_taken first now last rows b a back =
     back b.held [] (a.factors b.held b.are ∙ ap factors_of (sym (append-nil (b.held ++ rows)))) ∙ ap factors_of (append-nil b.held) ∙ sym b.are
+
+-- ---- rows in another order
+
+pub same_sums : (xs ys : List CrifRow) → ((k : Key) → net xs k ≡ net ys k) → ((k : Key) → count_of xs k ≡ count_of ys k) → factors_of xs ≡ factors_of ys
+same_sums xs ys nets counts = same_factors xs ys (λ k. ap (λ n. holding n (count_of xs k)) (nets k) ∙ ap (holding (net ys k)) (counts k))
+
+pub part_moved : (before part after : List CrifRow) → factors_of (before ++ part ++ after) ≡ factors_of (before ++ after ++ part)
+part_moved before part after =
+    same_sums (before ++ part ++ after) (before ++ after ++ part)
+    (λ k. omega (arith, ints, net-append (before ++ part) after k, net-append before part k, net-append (before ++ after) part k, net-append before after k))
+    (λ k. omega (arith, count-append (before ++ part) after k, count-append before part k, count-append (before ++ after) part k, count-append before after k))

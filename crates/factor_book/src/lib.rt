@@ -7,10 +7,12 @@ mod bucket_factors;
 mod factors;
 mod filing;
 mod holding;
+mod laws;
 mod place;
 
 pub use at::{BucketAt, ClassAt};
 pub use factors::Factors;
+pub use laws::order_is_free;
 
 #[cfg(test)]
 mod tests;
