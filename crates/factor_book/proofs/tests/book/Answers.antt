@@ -1,5 +1,5 @@
-use Rattle.std.proofs.Common.{◌≡◌, ◌++◌, ◌∙◌, [], List, sym, ap, subst, arith, take, drop, append-nil}
-use Rattle.std.proofs.lemmas.List.{take-append-drop}
+use Rattle.std.proofs.Common.{◌≡◌, ◌++◌, ◌-◌, ◌≤◌, ◌∙◌, [], List, length, sym, ap, subst, arith, take, drop, append-nil}
+use Rattle.std.proofs.lemmas.List.{take-append-drop, take_all, length-drop}
 use Rattle.simm_kinds.specs.declared.row.CrifRow.{CrifRow as Row}
 use Rattle.factor_book.specs.Factors.{factors_of, AreAmounts}
 use Rattle.factor_book.proofs.tests.book.Goals as goal
@@ -10,9 +10,13 @@ add_rows-requires c = record { held = []; are = c.new-factors.ensures; few = ome
 pub take_rows-requires : goal.take_rows-requires
 take_rows-requires c =
     let rows = c.args.rows.now in
-    let whole : rows ≡ take c.args.stay rows ++ drop c.args.stay rows ++ [] = sym (append-nil (take c.args.stay rows ++ drop c.args.stay rows) ∙ take-append-drop c.args.stay rows) in
+    let front = take c.args.stay rows in
+    let back = take (length rows - c.args.stay) (drop c.args.stay rows) in
+    let few : length (drop c.args.stay rows) ≤ length rows - c.args.stay = omega (arith, length-drop c.args.stay rows) in
+    let whole : rows ≡ front ++ back ++ [] =
+    sym (append-nil (front ++ back) ∙ ap (λ xs. front ++ xs) (take_all (length rows - c.args.stay) (drop c.args.stay rows) few) ∙ take-append-drop c.args.stay rows) in
     record {
-      before = take c.args.stay rows;
+      before = front;
       after = [];
       are = c.in_ok-add_rows.ensures.ok [] c.new-factors.ensures ∙ ap factors_of whole;
       amounts = subst AreAmounts whole c.in_ok-add_rows.ensures.amounts;
