@@ -4,3 +4,6 @@ pub mod Source
 pub mod Sink
 pub mod Folder
 pub mod Memory
+pub mod Lines
+pub mod Lined
+pub mod LinesSteps

@@ -3,6 +3,9 @@
 
 mod calls;
 mod folder;
+mod lines_answer;
+mod lines_read;
+mod lines_window;
 mod mem_file;
 mod mem_folder;
 mod mem_sink;
@@ -14,6 +17,9 @@ mod source;
 mod writing;
 
 pub use folder::{FindRefused, Folder};
+pub use lines_answer::{LineFault, LineStep, MemoryBack, Supply};
+pub use lines_read::{Lines, lines_of};
+pub use lines_window::LINE_BYTES;
 pub use mem_folder::MemFolder;
 pub use mem_sink::MemSink;
 pub use mem_source::MemSource;
@@ -23,5 +29,7 @@ pub use sink::Sink;
 pub use source::{Failed, Source};
 pub use writing::{PutFault, put_all};
 
+#[cfg(test)]
+mod lines_tests;
 #[cfg(test)]
 mod tests;

@@ -1,0 +1,18 @@
+use Rattle.std.proofs.Common.{◌≡◌, ℕ, ◌-◌, ◌≤◌, length, take}
+use Rattle.mh_io.specs.Lines.{Stop}
+use Rattle.mh_io.specs.Lined.{IsStopped}
+use Rattle.mh_io.specs.LinesSteps.{HasNoLf, TookMore, turns_left}
+use Rattle.mh_io.specs.declared.reading.TheConstants.{MOST_BYTES}
+use Rattle.mh_io.proofs.lines_read.Lines.reach.Given as goal
+
+abbrev pub invariant-loop-front : goal.invariant-loop-front
+invariant-loop-front g l = record {
+  there : l.looked ≤ length l.self.pending;
+  near : l.looked ≤ MOST_BYTES - l.self.passed;
+  text : HasNoLf (take l.looked l.self.pending);
+  took : TookMore g.S.Source.faults g.S.Source.name g.S.Source.gave g.S.Source.left l.initial.self l.self;
+  again : (stop : Stop) → IsStopped l.initial.self stop → l.self ≡ l.initial.self;
+}
+
+abbrev pub decreases-loop-front : goal.decreases-loop-front
+decreases-loop-front g l = turns_left l.self

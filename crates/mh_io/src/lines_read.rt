@@ -1,0 +1,228 @@
+ghost use Rattle.std.specs.Prelude.{◌≡◌, ℕ, ◌+◌, ◌-◌, ◌<◌, ◌≤◌, [], ◌∷◌, take, length, position, Ok, IfOk, IfErr, OnOk, OnErr};
+ghost use Rattle.mh_io.specs.Lines.{Stop, is_lf, without_cr};
+ghost use Rattle.mh_io.specs.Lined.{Lined, Gave, IsStopped, ComesWhere, IsLineOnly, lines_given, answer_at};
+ghost use Rattle.mh_io.specs.LinesSteps.{HasNoLf, BeginsLine, IsPart, Shows, Reached, TookMore, turns_left, past};
+
+use crate::lines_answer::{Front, LineFault, LineStep, MemoryBack, Supply};
+use crate::lines_window::{LINE_BYTES, Window};
+use crate::reading::MOST_BYTES;
+use crate::source::Source;
+use mh_units::Bytes;
+use std::alloc::{AllocError, Global};
+use std::marker::Model;
+
+/// The lines of a source, one after another, over a window of 65,536 bytes.
+///
+/// A line ends before LF, and a CR before that LF is left off. The last bytes before the end of input are a line too, as
+/// they are. Contracts see the source, the bytes that were taken and not yet given, how many bytes and lines were given,
+/// and whether more can be taken.
+#[derive(Debug, Drop)]
+pub struct Lines<S: Source> {
+    source: S,
+    window: Window,
+    passed: usize,
+    given: u32,
+    supply: Supply,
+}
+
+impl<S: Source> Model for Lines<S> {
+    ghost use Rattle.std.specs.Prelude.{ℕ, ◌+◌, ◌≤◌, length};
+    ghost use Rattle.mh_io.specs.declared.reading.TheConstants.{MOST_BYTES};
+    ghost use Rattle.mh_io.specs.Lined.{Lined};
+
+    ghost Value = { Lined S };
+
+    ghost view = { λ l. record { source = l.source; pending = l.window; passed = l.passed; given = l.given; supply = l.supply } };
+
+    ghost invariant = { λ l. (l.passed ≤ MOST_BYTES) × (l.passed + length l.window ≤ MOST_BYTES + 1) × (l.given ≤ l.passed) };
+}
+
+/// The lines of a source, of which nothing was taken here yet. For want of memory the source comes back.
+pub fn lines_of<S: Source>(alloc: Global, source: S) -> Result<Lines<S>, MemoryBack<S>>
+    ensures ok { IfOk result (λ lines. lines ≡ record { source = source; pending = []; passed = 0; given = 0; supply = Supply.Open }) }
+    ensures memory { IfErr result (λ memory. memory.back ≡ source) }
+{
+    match Window::new(alloc) {
+        Ok(window) => Ok(Lines {
+            source,
+            window,
+            passed: 0,
+            given: 0,
+            supply: Supply::Open,
+        }),
+        Err(_) => Err(MemoryBack { back: source }),
+    }
+}
+
+/// The place of the first LF.
+fn find_lf(bytes: &[u8]) -> Option<usize>
+    ensures { result ≡ position is_lf bytes.now }
+{
+    bytes.iter().position(|byte| *byte == b'\n')
+}
+
+/// Leaves a CR at the end off.
+fn without_cr(text: &[u8]) -> &[u8]
+    ensures { result.now ≡ without_cr text.now }
+{
+    match text {
+        [front @ .., b'\r'] => front,
+        _ => text,
+    }
+}
+
+impl<S: Source> Lines<S> {
+    /// Tells what stands at the front, where no LF is among the first `looked` bytes, or `None` where more is wanted.
+    fn look(&self, looked: usize) -> Result<Option<Front>, LineFault>
+        requires there { looked ≤ length self.now.pending }
+        requires near { looked ≤ MOST_BYTES - self.now.passed }
+        requires text { HasNoLf (take looked self.now.pending) }
+        ensures { Shows self.now result }
+    {
+        let bytes = self.window.bytes();
+        let near = bytes.len().min(MOST_BYTES - self.passed);
+        if let Some(place) = find_lf(&bytes[looked..near]) {
+            return Ok(Some(Front::Line {
+                count: looked + place,
+            }));
+        }
+        if near == LINE_BYTES {
+            return Err(LineFault::LineLong);
+        }
+        if near < bytes.len() {
+            return Err(LineFault::TooLong {
+                taken: (MOST_BYTES + 1) as u64,
+            });
+        }
+        match self.supply {
+            Supply::Open => Ok(None),
+            Supply::Ended => Ok(Some(Front::Last)),
+            Supply::Failed => Err(LineFault::ReadFault),
+        }
+    }
+
+    /// Takes more bytes.
+    fn refill(&mut self)
+        requires part { IsPart self.old.passed self.old.pending }
+        requires supply { self.old.supply ≡ Supply.Open }
+        ensures took { TookMore S.faults S.name S.gave S.left self.old self.new }
+        ensures turns { turns_left self.new < turns_left self.old }
+    {
+        let most = MOST_BYTES + 1 - self.passed - self.window.bytes().len();
+        match self.window.fill(&mut self.source, most) {
+            Ok(0) => self.supply = Supply::Ended,
+            Ok(_) => {}
+            Err(_) => self.supply = Supply::Failed,
+        }
+    }
+
+    /// Takes bytes until it can be told what stands at the front.
+    fn reach(&mut self) -> Result<Front, LineFault>
+        ensures took { TookMore S.faults S.name S.gave S.left self.old self.new }
+        ensures reached { Reached self.new result }
+        ensures again { (stop : Stop) → IsStopped self.old stop → self.new ≡ self.old }
+    {
+        let mut looked = 0;
+        loop {
+            match self.look(looked) {
+                Ok(None) => {}
+                Ok(Some(front)) => return Ok(front),
+                Err(fault) => return Err(fault),
+            }
+            looked = self.window.bytes().len();
+            self.refill();
+        }
+    }
+
+    /// Leaves the bytes of a line off, which was given.
+    fn pass(&mut self, count: usize)
+        requires some { 0 < count }
+        requires there { count ≤ length self.old.pending }
+        requires near { self.old.passed + count ≤ MOST_BYTES }
+        ensures past { self.new ≡ past self.old count }
+        ensures few { self.new.given ≤ MOST_BYTES }
+    {
+        self.window.skip(count);
+        self.passed += count;
+        self.given += 1;
+    }
+
+    /// Gives the line at the front that an LF ends.
+    fn give_line(&mut self, line: &mut Bytes, count: usize) -> Result<(), AllocError>
+        requires empty { line.old ≡ [] }
+        requires begins { BeginsLine self.old.passed self.old.pending count }
+        ensures ok { OnOk result ((self.new ≡ past self.old (count + 1)) × (line.new ≡ without_cr (take count self.old.pending))) }
+        ensures few { OnOk result (self.new.given ≤ MOST_BYTES) }
+        ensures err { OnErr result ((self.new ≡ self.old) × (line.new ≡ [])) }
+    {
+        line.extend(without_cr(&self.window.bytes()[..count]))?;
+        self.pass(count + 1);
+        Ok(())
+    }
+
+    /// Gives the last bytes as a line, of which there are some.
+    fn give_last(&mut self, line: &mut Bytes) -> Result<(), AllocError>
+        requires empty { line.old ≡ [] }
+        requires part { IsPart self.old.passed self.old.pending }
+        requires some { 0 < length self.old.pending }
+        ensures ok { OnOk result ((self.new ≡ past self.old (length self.old.pending)) × (line.new ≡ self.old.pending)) }
+        ensures few { OnOk result (self.new.given ≤ MOST_BYTES) }
+        ensures err { OnErr result ((self.new ≡ self.old) × (line.new ≡ [])) }
+    {
+        let rest = self.window.bytes();
+        let count = rest.len();
+        line.extend(rest)?;
+        self.pass(count);
+        Ok(())
+    }
+
+    /// Gives the next line, without its LF and a CR before it, into `line`; at every other answer `line` is empty.
+    ///
+    /// `End` comes where the source gave its end of input and every line was given.
+    ///
+    /// # Errors
+    ///
+    /// `ReadFault` only where the source's count of faults rose since these lines were made, after every line that was
+    /// taken with its LF. `LineLong` exactly where the next line has no LF among its first 65,536 bytes. `TooLong` exactly
+    /// where the source gave one byte more than `MOST_BYTES` and every line with its LF before that byte was given. After
+    /// these three nothing changes, and each further call answers the same. `Memory` for want of memory; the next call
+    /// answers the same line.
+    pub fn next_line(&mut self, line: &mut Bytes) -> Result<LineStep, LineFault>
+        ensures gave { Gave S.faults S.name S.gave S.left self.old self.new (lines_given result line.new) }
+        ensures comes { ComesWhere result self.new }
+        ensures line_only { IsLineOnly result line.new }
+        ensures few { result ≡ Ok LineStep.Line → self.new.given ≤ MOST_BYTES }
+        // Where no line is left, and the bytes stop for good, the answer is the one of the way in which they stop.
+        ensures again { (stop : Stop) → IsStopped self.old stop → (self.new ≡ self.old) × (result ≡ answer_at stop) }
+    {
+        line.clear();
+        match self.reach()? {
+            Front::Line { count } => self.give_line(line, count)?,
+            Front::Last if self.window.bytes().is_empty() => return Ok(LineStep::End),
+            Front::Last => self.give_last(line)?,
+        }
+        Ok(LineStep::Line)
+    }
+
+    /// How many lines were given. It takes no memory.
+    pub fn given(&self) -> u32
+        ensures value { result ≡ self.now.given }
+        ensures few { result ≤ MOST_BYTES }
+    {
+        self.given
+    }
+
+    /// Hands the source back. It takes no memory.
+    pub fn give_back(self) -> S
+        ensures { result ≡ self.source }
+    {
+        let Lines {
+            source,
+            window: _,
+            passed: _,
+            given: _,
+            supply: _,
+        } = self;
+        source
+    }
+}
