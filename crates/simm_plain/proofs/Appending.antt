@@ -16,8 +16,8 @@ use Rattle.simm_kinds.specs.declared.row.CrifRow.{CrifRow}
 use Rattle.simm_kinds.specs.Key.{Key, is_key}
 use Rattle.simm_kinds.specs.Order.{same_key, same_kind, key_cmp}
 use Rattle.simm_kinds.specs.declared.kinds.RiskType.TheVariants as kind
-use Rattle.simm_kinds.specs.declared.row.TradeRows.{TradeRows}
-use Rattle.simm_kinds.specs.Batch.{rows_of}
+use Rattle.simm_plain.specs.declared.lent.LentRows.{LentRows}
+use Rattle.simm_plain.specs.Lent.{all_rows}
 use Rattle.simm_kinds.specs.contracts.key.FactorKeyOrd.TheImpl as key_order
 use Rattle.simm_rules.specs.Sums.{total_by}
 use Rattle.simm_rules.specs.Net.{net, keys_of, all_fx}
@@ -31,11 +31,11 @@ use Rattle.simm_plain.proofs.NetMaps.{any_different, nets_of-cons}
 
 -- ---- two ascending lists with the same keys are one
 
-no_key : (q : Key) (ks : List Key) → AllByRecursion (λ k. key_cmp q k ≡ Less) ks → list_any (same_key q) ks ≡ false
+pub no_key : (q : Key) (ks : List Key) → AllByRecursion (λ k. key_cmp q k ≡ Less) ks → list_any (same_key q) ks ≡ false
 no_key q [] h = refl
 no_key q (k ∷ ks) h = ap (λ o. is_eq o || list_any (same_key q) ks) h.0 ∙ no_key q ks h.1
 
-past : (q k : Key) (ks : List Key) → key_cmp q k ≡ Less → AllByRecursion (λ l. key_cmp k l ≡ Less) ks → list_any (same_key q) (k ∷ ks) ≡ false
+pub past : (q k : Key) (ks : List Key) → key_cmp q k ≡ Less → AllByRecursion (λ l. key_cmp k l ≡ Less) ks → list_any (same_key q) (k ∷ ks) ≡ false
 past q k ks less h = no_key q (k ∷ ks) (less, each_weaker (λ l. key_cmp k l ≡ Less) (λ l. key_cmp q l ≡ Less) (λ l e. key_total.trans q k l less e) ks h)
 
 -- the tails agree where the heads are one key
@@ -133,22 +133,22 @@ fx_front (x ∷ xs) ys h =
     let parts = and_parts (same_kind x.key.kind kind.Fx) (all_fx (xs ++ ys)) h in and_from (same_kind x.key.kind kind.Fx) (all_fx xs) parts.0 (fx_front xs ys parts.1)
 
 -- the rows of the trades so far, and of the trade at i the rows so far
-pub rows_front : (ts : List TradeRows) (i j : ℕ) (t : TradeRows) → i < length ts → t ≡ get_or ts i t → rows_of ts ≡ (rows_of (take i ts) ++ take j t.rows) ++ (drop j t.rows ++ rows_of (drop (suc i) ts))
+pub rows_front : (ts : List LentRows) (i j : ℕ) (t : LentRows) → i < length ts → t ≡ get_or ts i t → all_rows ts ≡ (all_rows (take i ts) ++ take j t.rows.now) ++ (drop j t.rows.now ++ all_rows (drop (suc i) ts))
 rows_front [] i j t h e = absurd (omega arith)
 rows_front (s ∷ ts) zero j t h e =
-    ap (λ (x : TradeRows). x.rows ++ rows_of ts) (sym e) ∙ ap (λ xs. xs ++ rows_of ts) (sym (take-append-drop j t.rows)) ∙ append_assoc (take j t.rows) (drop j t.rows) (rows_of ts)
+    ap (λ (x : LentRows). x.rows.now ++ all_rows ts) (sym e) ∙ ap (λ xs. xs ++ all_rows ts) (sym (take-append-drop j t.rows.now)) ∙ append_assoc (take j t.rows.now) (drop j t.rows.now) (all_rows ts)
 rows_front (s ∷ ts) (suc i) j t h e =
-    ap (λ xs. s.rows ++ xs) (rows_front ts i j t (omega arith) e)
-    ∙ sym (append_assoc s.rows (rows_of (take i ts) ++ take j t.rows) (drop j t.rows ++ rows_of (drop (suc i) ts)))
-    ∙ ap (λ xs. xs ++ (drop j t.rows ++ rows_of (drop (suc i) ts))) (sym (append_assoc s.rows (rows_of (take i ts)) (take j t.rows)))
+    ap (λ xs. s.rows.now ++ xs) (rows_front ts i j t (omega arith) e)
+    ∙ sym (append_assoc s.rows.now (all_rows (take i ts) ++ take j t.rows.now) (drop j t.rows.now ++ all_rows (drop (suc i) ts)))
+    ∙ ap (λ xs. xs ++ (drop j t.rows.now ++ all_rows (drop (suc i) ts))) (sym (append_assoc s.rows.now (all_rows (take i ts)) (take j t.rows.now)))
 
-pub rows_more : (ts : List TradeRows) (i : ℕ) (t : TradeRows) → i < length ts → t ≡ get_or ts i t → rows_of (take (i + 1) ts) ≡ rows_of (take i ts) ++ t.rows
+pub rows_more : (ts : List LentRows) (i : ℕ) (t : LentRows) → i < length ts → t ≡ get_or ts i t → all_rows (take (i + 1) ts) ≡ all_rows (take i ts) ++ t.rows.now
 rows_more ts i t h e =
-    ap rows_of (take_more ts i t h ∙ ap (λ x. take i ts ++ x ∷ []) (sym e)) ∙ rows_push (take i ts)
+    ap all_rows (take_more ts i t h ∙ ap (λ x. take i ts ++ x ∷ []) (sym e)) ∙ rows_push (take i ts)
   where
-    rows_push : (us : List TradeRows) → rows_of (us ++ t ∷ []) ≡ rows_of us ++ t.rows
-    rows_push [] = append-nil t.rows
-    rows_push (u ∷ us) = ap (λ xs. u.rows ++ xs) (rows_push us) ∙ sym (append_assoc u.rows (rows_of us) t.rows)
+    rows_push : (us : List LentRows) → all_rows (us ++ t ∷ []) ≡ all_rows us ++ t.rows.now
+    rows_push [] = append-nil t.rows.now
+    rows_push (u ∷ us) = ap (λ xs. u.rows.now ++ xs) (rows_push us) ∙ sym (append_assoc u.rows.now (all_rows us) t.rows.now)
 
 -- ---- sizes
 
@@ -184,25 +184,25 @@ are_push (s ∷ rows) r h is = (h.0, are_push rows r h.1 is)
 pub fx_of_rows : (rows : List CrifRow) → AreRows rows → all_fx rows ≡ true → FxRows rows
 fx_of_rows rows h fx = fx_rows_from rows (each_weaker IsRow (λ r. is_key r.key ≡ true) (λ r is. is.key) rows h) fx
 
-pub front_within : (ts : List TradeRows) (i j : ℕ) (t : TradeRows) (items : List CrifRow) (nets : List (Key × ℤ)) → i < length ts → t ≡ get_or ts i t → items ≡ t.rows → length (rows_of ts) ≤ 200000 → Netted (rows_of (take i ts) ++ take j items) nets → AreWithin (2 ^ 100) nets
+pub front_within : (ts : List LentRows) (i j : ℕ) (t : LentRows) (items : List CrifRow) (nets : List (Key × ℤ)) → i < length ts → t ≡ get_or ts i t → items ≡ t.rows.now → length (all_rows ts) ≤ 200000 → Netted (all_rows (take i ts) ++ take j items) nets → AreWithin (2 ^ 100) nets
 front_within ts i j t items nets h e is few n =
-    let whole : rows_of ts ≡ (rows_of (take i ts) ++ take j items) ++ (drop j t.rows ++ rows_of (drop (suc i) ts)) =
-    rows_front ts i j t h e ∙ ap (λ xs. (rows_of (take i ts) ++ take j xs) ++ (drop j t.rows ++ rows_of (drop (suc i) ts))) (sym is) in
-    let count = length-append (rows_of (take i ts) ++ take j items) (drop j t.rows ++ rows_of (drop (suc i) ts)) in
-    subst (AreWithin (2 ^ 100)) (sym n.value) (nets_within (rows_of (take i ts) ++ take j items) n.are (omega (arith, count, ap length whole)))
+    let whole : all_rows ts ≡ (all_rows (take i ts) ++ take j items) ++ (drop j t.rows.now ++ all_rows (drop (suc i) ts)) =
+    rows_front ts i j t h e ∙ ap (λ xs. (all_rows (take i ts) ++ take j xs) ++ (drop j t.rows.now ++ all_rows (drop (suc i) ts))) (sym is) in
+    let count = length-append (all_rows (take i ts) ++ take j items) (drop j t.rows.now ++ all_rows (drop (suc i) ts)) in
+    subst (AreWithin (2 ^ 100)) (sym n.value) (nets_within (all_rows (take i ts) ++ take j items) n.are (omega (arith, count, ap length whole)))
 
-pub front_more : (ts : List TradeRows) (i j : ℕ) (t : TradeRows) (items : List CrifRow) (r : CrifRow) (old new : List (Key × ℤ)) → i < length ts → t ≡ get_or ts i t → items ≡ t.rows → j < length items → r ≡ get_or items j r → all_fx (rows_of ts) ≡ true → Netted (rows_of (take i ts) ++ take j items) old → IsRow r
-    → ((rows : List CrifRow) → old ≡ nets_of rows → FxRows rows → IsFxKey r.key → new ≡ nets_of (rows ++ r ∷ [])) → Netted (rows_of (take i ts) ++ take (j + 1) items) new
+pub front_more : (ts : List LentRows) (i j : ℕ) (t : LentRows) (items : List CrifRow) (r : CrifRow) (old new : List (Key × ℤ)) → i < length ts → t ≡ get_or ts i t → items ≡ t.rows.now → j < length items → r ≡ get_or items j r → all_fx (all_rows ts) ≡ true → Netted (all_rows (take i ts) ++ take j items) old → IsRow r
+    → ((rows : List CrifRow) → old ≡ nets_of rows → FxRows rows → IsFxKey r.key → new ≡ nets_of (rows ++ r ∷ [])) → Netted (all_rows (take i ts) ++ take (j + 1) items) new
 front_more ts i j t items r old new h e is below at fx n row put =
-    let more : rows_of (take i ts) ++ take (j + 1) items ≡ (rows_of (take i ts) ++ take j items) ++ r ∷ [] =
-    ap (λ xs. rows_of (take i ts) ++ xs) (take_more items j r below ∙ ap (λ x. take j items ++ x ∷ []) (sym at)) ∙ sym (append_assoc (rows_of (take i ts)) (take j items) (r ∷ [])) in
-    let whole : rows_of ts ≡ (rows_of (take i ts) ++ take (j + 1) items) ++ (drop (j + 1) t.rows ++ rows_of (drop (suc i) ts)) =
-    rows_front ts i (j + 1) t h e ∙ ap (λ xs. (rows_of (take i ts) ++ take (j + 1) xs) ++ (drop (j + 1) t.rows ++ rows_of (drop (suc i) ts))) (sym is) in
-    let front_fx : all_fx (rows_of (take i ts) ++ take (j + 1) items) ≡ true = fx_front (rows_of (take i ts) ++ take (j + 1) items) (drop (j + 1) t.rows ++ rows_of (drop (suc i) ts)) (ap all_fx (sym whole) ∙ fx) in
-    let are : AreRows ((rows_of (take i ts) ++ take j items) ++ r ∷ []) = are_push (rows_of (take i ts) ++ take j items) r n.are row in
-    let fx_rows : FxRows ((rows_of (take i ts) ++ take j items) ++ r ∷ []) = fx_of_rows ((rows_of (take i ts) ++ take j items) ++ r ∷ []) are (ap all_fx (sym more) ∙ front_fx) in
+    let more : all_rows (take i ts) ++ take (j + 1) items ≡ (all_rows (take i ts) ++ take j items) ++ r ∷ [] =
+    ap (λ xs. all_rows (take i ts) ++ xs) (take_more items j r below ∙ ap (λ x. take j items ++ x ∷ []) (sym at)) ∙ sym (append_assoc (all_rows (take i ts)) (take j items) (r ∷ [])) in
+    let whole : all_rows ts ≡ (all_rows (take i ts) ++ take (j + 1) items) ++ (drop (j + 1) t.rows.now ++ all_rows (drop (suc i) ts)) =
+    rows_front ts i (j + 1) t h e ∙ ap (λ xs. (all_rows (take i ts) ++ take (j + 1) xs) ++ (drop (j + 1) t.rows.now ++ all_rows (drop (suc i) ts))) (sym is) in
+    let front_fx : all_fx (all_rows (take i ts) ++ take (j + 1) items) ≡ true = fx_front (all_rows (take i ts) ++ take (j + 1) items) (drop (j + 1) t.rows.now ++ all_rows (drop (suc i) ts)) (ap all_fx (sym whole) ∙ fx) in
+    let are : AreRows ((all_rows (take i ts) ++ take j items) ++ r ∷ []) = are_push (all_rows (take i ts) ++ take j items) r n.are row in
+    let fx_rows : FxRows ((all_rows (take i ts) ++ take j items) ++ r ∷ []) = fx_of_rows ((all_rows (take i ts) ++ take j items) ++ r ∷ []) are (ap all_fx (sym more) ∙ front_fx) in
     subst (λ rows. Netted rows new) (sym more)
     record {
-      value = put (rows_of (take i ts) ++ take j items) n.value (each_front (λ x. IsFxKey x.key) (rows_of (take i ts) ++ take j items) (r ∷ []) fx_rows) ((each_back (λ x. IsFxKey x.key) (rows_of (take i ts) ++ take j items) (r ∷ []) fx_rows).0);
+      value = put (all_rows (take i ts) ++ take j items) n.value (each_front (λ x. IsFxKey x.key) (all_rows (take i ts) ++ take j items) (r ∷ []) fx_rows) ((each_back (λ x. IsFxKey x.key) (all_rows (take i ts) ++ take j items) (r ∷ []) fx_rows).0);
       are = are;
     }

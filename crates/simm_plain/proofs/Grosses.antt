@@ -9,8 +9,8 @@ use Rattle.std.proofs.lemmas.List.{take_more, length-append, length-take}
 use Rattle.std.proofs.lemmas.Nat.{mul-le}
 use Rattle.simm_kinds.specs.declared.kinds.ProductClass.{ProductClass}
 use Rattle.simm_kinds.specs.declared.row.CrifRow.{CrifRow}
-use Rattle.simm_kinds.specs.declared.row.TradeRows.{TradeRows}
-use Rattle.simm_kinds.specs.Batch.{rows_of}
+use Rattle.simm_plain.specs.declared.lent.LentRows.{LentRows}
+use Rattle.simm_plain.specs.Lent.{all_rows}
 use Rattle.simm_kinds.specs.Key.{Key}
 use Rattle.simm_kinds.specs.Order.{same_product}
 use Rattle.simm_rules.specs.Params.{Params}
@@ -56,16 +56,16 @@ each_mid P [] [] zs h = tt
 each_mid P [] (y ∷ ys) zs h = (h.0, each_mid P [] ys zs h.1)
 each_mid P (x ∷ xs) ys zs h = each_mid P xs ys zs h.1
 
-trade_at : (ts : List TradeRows) (i : ℕ) (t : TradeRows) → i < length ts → t ≡ get_or ts i t → rows_of ts ≡ rows_of (take i ts) ++ (t.rows ++ rows_of (drop (suc i) ts))
+trade_at : (ts : List LentRows) (i : ℕ) (t : LentRows) → i < length ts → t ≡ get_or ts i t → all_rows ts ≡ all_rows (take i ts) ++ (t.rows.now ++ all_rows (drop (suc i) ts))
 trade_at ts i t h e =
-    rows_front ts i 0 t h e ∙ ap (λ xs. xs ++ (t.rows ++ rows_of (drop (suc i) ts))) (append-nil (rows_of (take i ts)))
+    rows_front ts i 0 t h e ∙ ap (λ xs. xs ++ (t.rows.now ++ all_rows (drop (suc i) ts))) (append-nil (all_rows (take i ts)))
 
-pub trade_fx : (ts : List TradeRows) (i : ℕ) (t : TradeRows) → i < length ts → t ≡ get_or ts i t → FxRows (rows_of ts) → FxRows t.rows
-trade_fx ts i t h e fx = each_mid (λ r. IsFxKey r.key) (rows_of (take i ts)) t.rows (rows_of (drop (suc i) ts)) (subst FxRows (trade_at ts i t h e) fx)
+pub trade_fx : (ts : List LentRows) (i : ℕ) (t : LentRows) → i < length ts → t ≡ get_or ts i t → FxRows (all_rows ts) → FxRows t.rows.now
+trade_fx ts i t h e fx = each_mid (λ r. IsFxKey r.key) (all_rows (take i ts)) t.rows.now (all_rows (drop (suc i) ts)) (subst FxRows (trade_at ts i t h e) fx)
 
-pub trade_count : (ts : List TradeRows) (i : ℕ) (t : TradeRows) → i < length ts → t ≡ get_or ts i t → length (rows_of (take i ts)) + length t.rows ≤ length (rows_of ts)
+pub trade_count : (ts : List LentRows) (i : ℕ) (t : LentRows) → i < length ts → t ≡ get_or ts i t → length (all_rows (take i ts)) + length t.rows.now ≤ length (all_rows ts)
 trade_count ts i t h e =
-    omega (arith, ap length (trade_at ts i t h e), length-append (rows_of (take i ts)) (t.rows ++ rows_of (drop (suc i) ts)), length-append t.rows (rows_of (drop (suc i) ts)))
+    omega (arith, ap length (trade_at ts i t h e), length-append (all_rows (take i ts)) (t.rows.now ++ all_rows (drop (suc i) ts)), length-append t.rows.now (all_rows (drop (suc i) ts)))
 
 -- ---- one row
 
@@ -93,22 +93,22 @@ summed_next p product rows i r total n h at few fits s e low high =
     (subst (λ z. Summed p product (take (i + 1) rows) (total +ℤ z)) (sym (same128 n fits))
     (subst (λ xs. Summed p product xs (total +ℤ n)) (sym more) (summed_more p product (take i rows) (r ∷ []) total n s (summed_one p product r n e low high))))
 
-next_count : (ts : List TradeRows) (i : ℕ) (t : TradeRows) → i < length ts → t ≡ get_or ts i t → length (rows_of ts) ≤ 200000 → length (rows_of (take (i + 1) ts)) ≤ 200000
-next_count ts i t h at few = omega (arith, ap length (rows_more ts i t h at), length-append (rows_of (take i ts)) t.rows, trade_count ts i t h at)
+next_count : (ts : List LentRows) (i : ℕ) (t : LentRows) → i < length ts → t ≡ get_or ts i t → length (all_rows ts) ≤ 200000 → length (all_rows (take (i + 1) ts)) ≤ 200000
+next_count ts i t h at few = omega (arith, ap length (rows_more ts i t h at), length-append (all_rows (take i ts)) t.rows.now, trade_count ts i t h at)
 
-next_sum : (p : Params) (product : ProductClass) (ts : List TradeRows) (i : ℕ) (t : TradeRows) (items : List CrifRow) (total n : ℤ) → i < length ts → t ≡ get_or ts i t → items ≡ t.rows → FitsSigned w128 n → Summed p product (rows_of (take i ts)) total → n ≡ total_by (row_size p product) items → pos 0 ≤ℤ n → n ≤ℤ pos (length items * 10 ^ 27) → Summed p product (rows_of (take (i + 1) ts)) (total +ℤ cast_signed w128 (cast_unsigned w128 n))
+next_sum : (p : Params) (product : ProductClass) (ts : List LentRows) (i : ℕ) (t : LentRows) (items : List CrifRow) (total n : ℤ) → i < length ts → t ≡ get_or ts i t → items ≡ t.rows.now → FitsSigned w128 n → Summed p product (all_rows (take i ts)) total → n ≡ total_by (row_size p product) items → pos 0 ≤ℤ n → n ≤ℤ pos (length items * 10 ^ 27) → Summed p product (all_rows (take (i + 1) ts)) (total +ℤ cast_signed w128 (cast_unsigned w128 n))
 next_sum p product ts i t items total n h at is fits s e low high =
-    let its : Summed p product t.rows n = subst (λ xs. Summed p product xs n) is record { value = e; low = low; high = high } in
-    subst (λ z. Summed p product (rows_of (take (i + 1) ts)) (total +ℤ z)) (sym (same128 n fits))
-    (subst (λ xs. Summed p product xs (total +ℤ n)) (sym (rows_more ts i t h at)) (summed_more p product (rows_of (take i ts)) t.rows total n s its))
+    let its : Summed p product t.rows.now n = subst (λ xs. Summed p product xs n) is record { value = e; low = low; high = high } in
+    subst (λ z. Summed p product (all_rows (take (i + 1) ts)) (total +ℤ z)) (sym (same128 n fits))
+    (subst (λ xs. Summed p product xs (total +ℤ n)) (sym (rows_more ts i t h at)) (summed_more p product (all_rows (take i ts)) t.rows.now total n s its))
 
-pub trade_fits : (p : Params) (product : ProductClass) (ts : List TradeRows) (i : ℕ) (t : TradeRows) (items : List CrifRow) (total n : ℤ) → i < length ts → t ≡ get_or ts i t → items ≡ t.rows → length (rows_of ts) ≤ 200000 → FitsSigned w128 n → Summed p product (rows_of (take i ts)) total → n ≡ total_by (row_size p product) items → pos 0 ≤ℤ n → n ≤ℤ pos (length items * 10 ^ 27) → FitsSigned w128 (total +ℤ cast_signed w128 (cast_unsigned w128 n))
+pub trade_fits : (p : Params) (product : ProductClass) (ts : List LentRows) (i : ℕ) (t : LentRows) (items : List CrifRow) (total n : ℤ) → i < length ts → t ≡ get_or ts i t → items ≡ t.rows.now → length (all_rows ts) ≤ 200000 → FitsSigned w128 n → Summed p product (all_rows (take i ts)) total → n ≡ total_by (row_size p product) items → pos 0 ≤ℤ n → n ≤ℤ pos (length items * 10 ^ 27) → FitsSigned w128 (total +ℤ cast_signed w128 (cast_unsigned w128 n))
 trade_fits p product ts i t items total n h at is few fits s e low high =
-    summed_fits p product (rows_of (take (i + 1) ts)) (total +ℤ cast_signed w128 (cast_unsigned w128 n)) (next_count ts i t h at few) (next_sum p product ts i t items total n h at is fits s e low high)
+    summed_fits p product (all_rows (take (i + 1) ts)) (total +ℤ cast_signed w128 (cast_unsigned w128 n)) (next_count ts i t h at few) (next_sum p product ts i t items total n h at is fits s e low high)
 
-pub trade_next : (p : Params) (product : ProductClass) (ts : List TradeRows) (i : ℕ) (t : TradeRows) (items : List CrifRow) (total n : ℤ) → i < length ts → t ≡ get_or ts i t → items ≡ t.rows → length (rows_of ts) ≤ 200000 → FitsSigned w128 n → Summed p product (rows_of (take i ts)) total → n ≡ total_by (row_size p product) items → pos 0 ≤ℤ n → n ≤ℤ pos (length items * 10 ^ 27) → Summed p product (rows_of (take (i + 1) ts)) (cast_signed w128 (cast_unsigned w128 (total +ℤ cast_signed w128 (cast_unsigned w128 n))))
+pub trade_next : (p : Params) (product : ProductClass) (ts : List LentRows) (i : ℕ) (t : LentRows) (items : List CrifRow) (total n : ℤ) → i < length ts → t ≡ get_or ts i t → items ≡ t.rows.now → length (all_rows ts) ≤ 200000 → FitsSigned w128 n → Summed p product (all_rows (take i ts)) total → n ≡ total_by (row_size p product) items → pos 0 ≤ℤ n → n ≤ℤ pos (length items * 10 ^ 27) → Summed p product (all_rows (take (i + 1) ts)) (cast_signed w128 (cast_unsigned w128 (total +ℤ cast_signed w128 (cast_unsigned w128 n))))
 trade_next p product ts i t items total n h at is few fits s e low high =
-    summed_passed p product (rows_of (take (i + 1) ts)) (total +ℤ cast_signed w128 (cast_unsigned w128 n)) (next_count ts i t h at few) (next_sum p product ts i t items total n h at is fits s e low high)
+    summed_passed p product (all_rows (take (i + 1) ts)) (total +ℤ cast_signed w128 (cast_unsigned w128 n)) (next_count ts i t h at few) (next_sum p product ts i t items total n h at is fits s e low high)
 
 -- what a row of the product class adds, as it is computed
 pub record IsSize (p : Params) (product : ProductClass) (r : CrifRow) (x : ℤ) : Type 0 where

@@ -15,3 +15,4 @@ pub mod Grosses
 pub mod Weighings
 pub mod Passing
 pub mod Whole
+pub mod Fewer

@@ -51,7 +51,7 @@ count_nets c nets =
     ∙ ap length (sym (map-filter (λ (e : Key × ℤ). e.0) (λ (k : Key). same_product k.product c) nets))
     ∙ length-map (product_nets c nets) (λ (e : Key × ℤ). e.0)
 
-none_first : {A : Type 0} (a b : Option A) → either_first a b ≡ None → (a ≡ None) × (b ≡ None)
+pub none_first : {A : Type 0} (a b : Option A) → either_first a b ≡ None → (a ≡ None) × (b ≡ None)
 none_first None b h = (refl, h)
 none_first (Some x) b h = absurd (cc)
 
@@ -59,7 +59,7 @@ none_cons : {A : Type 0} (o : Option A) (os : List (Option A)) → first_some (o
 none_cons None os h = (refl, h)
 none_cons (Some x) os h = absurd (cc)
 
-none_each : {A : Type 0} (f : ProductClass → Option A) → first_some (map f products) ≡ None → (c : ProductClass) → f c ≡ None
+pub none_each : {A : Type 0} (f : ProductClass → Option A) → first_some (map f products) ≡ None → (c : ProductClass) → f c ≡ None
 none_each f h c =
     let a = none_cons (f product.RatesFX) (f product.Credit ∷ f product.Equity ∷ f product.Commodity ∷ []) h in
     let b = none_cons (f product.Credit) (f product.Equity ∷ f product.Commodity ∷ []) a.1 in
@@ -76,6 +76,15 @@ range_some p rows nets fault h is none some =
 pub range_none : (p : Params) (rows : List CrifRow) (nets : List (Key × ℤ)) → FxRows rows → nets ≡ nets_of rows → count_fault rows ≡ None → nets_fault p rows nets ≡ None → range p rows ≡ None
 range_none p rows nets h is none some =
     range-nets p rows h ∙ ap (λ o. either_first o (nets_fault p rows (nets_of rows))) none ∙ ap (nets_fault p rows) (sym is) ∙ some
+
+pub range_from : (p : Params) (rows : List CrifRow) (nets : List (Key × ℤ)) (answer : Option RangeFault) → FxRows rows → nets ≡ nets_of rows → count_fault rows ≡ None → answer ≡ nets_fault p rows nets → answer ≡ range p rows
+range_from p rows nets answer h is none e =
+    e ∙ ap (nets_fault p rows) is ∙ sym (range-nets p rows h ∙ ap (λ o. either_first o (nets_fault p rows (nets_of rows))) none)
+
+-- a book in range has no fault of its nets
+pub no_nets_fault : (p : Params) (rows : List CrifRow) (nets : List (Key × ℤ)) → FxRows rows → nets ≡ nets_of rows → range p rows ≡ None → nets_fault p rows nets ≡ None
+no_nets_fault p rows nets h is none =
+    ap (nets_fault p rows) is ∙ (none_first (count_fault rows) (nets_fault p rows (nets_of rows)) (sym (range-nets p rows h) ∙ none)).1
 
 pub ready : (p : Params) (rows : List CrifRow) (nets : List (Key × ℤ)) (c : ProductClass) → IsParams p → FxRows rows → nets ≡ nets_of rows → nets_fault p rows nets ≡ None → IsBucket p (factors p c nets)
 ready p rows nets c facts h is none =

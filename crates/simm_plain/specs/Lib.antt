@@ -7,3 +7,4 @@ pub mod Parts
 pub mod Entries
 pub mod CorrelatedLaws
 pub mod Weighing
+pub mod Lent

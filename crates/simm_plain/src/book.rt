@@ -1,19 +1,26 @@
-ghost use Rattle.std.specs.Prelude.{◌≡◌, ◌^◌, ◌<◌, None, Some, Err, IsTrue, IfOk, length};
+ghost use Rattle.std.specs.Prelude.{◌≡◌, ◌^◌, ◌<◌, ◌≤◌, List, None, Some, Err, IsTrue, IfOk, length};
+ghost use Rattle.simm_kinds.specs.declared.kinds.ProductClass.{ProductClass as Product};
+ghost use Rattle.simm_kinds.specs.declared.row.CrifRow.{CrifRow as Row};
 ghost use Rattle.simm_kinds.specs.Batch.{rows_of};
 ghost use Rattle.simm_rules.specs.declared.values.RangeFault.{RangeFault as Fault};
 ghost use Rattle.simm_rules.specs.Net.{all_fx};
 ghost use Rattle.simm_rules.specs.Simm.{simm};
 ghost use Rattle.simm_rules.specs.Range.{range};
+ghost use Rattle.simm_plain.specs.Bucket.{IsBucket, factors};
+ghost use Rattle.simm_plain.specs.FxKeys.{FxRows};
+ghost use Rattle.simm_plain.specs.Lent.{all_rows};
+ghost use Rattle.simm_plain.specs.Nets.{nets_of, AreRows};
 
 use crate::breakdown::breakdown;
 use crate::bucket::fx_margin;
 use crate::fault::MarginFault;
+use crate::lent::{LentRows, lend};
 use crate::netting::Nets;
 use crate::range::{count_fault, nets_fault};
 use simm_kinds::{ProductClass, TradeRows};
 use simm_params::Params;
-use simm_rules::Breakdown;
-use std::alloc::Global;
+use simm_rules::{Breakdown, RangeFault};
+use std::alloc::{AllocError, Global};
 
 /// The margin of rows that are all sensitivities to currencies.
 ///
@@ -30,17 +37,69 @@ pub fn margin(
     ensures ok { IfOk result (λ b. (range params.now (rows_of trades.now) ≡ None) × (b ≡ simm params.now (rows_of trades.now))) }
     ensures range { (fault : Fault) → result ≡ Err (MarginFault.Range fault) → range params.now (rows_of trades.now) ≡ Some fault }
 {
-    if let Some(fault) = count_fault(trades) {
+    let lent = lend(alloc, trades)?;
+    margin_of(alloc, params, lent.as_slice())
+}
+
+/// The first quantity of a book of lent rows, all of them sensitivities to currencies, that is above its limit; none
+/// for a book in range.
+pub fn range_fault(
+    alloc: Global,
+    params: &Params,
+    lent: &[LentRows],
+) -> Result<Option<RangeFault>, AllocError>
+    requires fx { IsTrue (all_fx (all_rows lent.now)) }
+    requires few { length (all_rows lent.now) < 2 ^ 63 }
+    ensures fault { IfOk result (λ fault. fault ≡ range params.now (all_rows lent.now)) }
+    ensures rows { IfOk result (λ fault. fault ≡ None → AreRows (all_rows lent.now)) }
+{
+    if let Some(fault) = count_fault(lent) {
+        return Ok(Some(fault));
+    }
+    let nets = Nets::of_rows(alloc, lent)?;
+    Ok(nets_fault(params, lent, &nets))
+}
+
+/// The margin of a book of lent rows, all of them sensitivities to currencies, which the caller knows to be in range.
+pub fn margin_in_range(
+    alloc: Global,
+    params: &Params,
+    lent: &[LentRows],
+) -> Result<Breakdown, AllocError>
+    requires fx { IsTrue (all_fx (all_rows lent.now)) }
+    requires in_range { range params.now (all_rows lent.now) ≡ None }
+    ensures { IfOk result (λ b. b ≡ simm params.now (all_rows lent.now)) }
+{
+    let nets = Nets::of_rows(alloc, lent)?;
+    params.facts();
+    nets_margin(alloc, params, &nets)
+}
+
+fn margin_of(alloc: Global, params: &Params, lent: &[LentRows]) -> Result<Breakdown, MarginFault>
+    requires fx { IsTrue (all_fx (all_rows lent.now)) }
+    requires few { length (all_rows lent.now) < 2 ^ 63 }
+    ensures ok { IfOk result (λ b. (range params.now (all_rows lent.now) ≡ None) × (b ≡ simm params.now (all_rows lent.now))) }
+    ensures range { (fault : Fault) → result ≡ Err (MarginFault.Range fault) → range params.now (all_rows lent.now) ≡ Some fault }
+{
+    if let Some(fault) = count_fault(lent) {
         return Err(MarginFault::Range(fault));
     }
-    let nets = Nets::of_trades(alloc, trades)?;
-    if let Some(fault) = nets_fault(params, trades, &nets) {
+    let nets = Nets::of_rows(alloc, lent)?;
+    if let Some(fault) = nets_fault(params, lent, &nets) {
         return Err(MarginFault::Range(fault));
     }
     params.facts();
-    let rates_fx = fx_margin(alloc, params, &nets, ProductClass::RatesFX)?;
-    let credit = fx_margin(alloc, params, &nets, ProductClass::Credit)?;
-    let equity = fx_margin(alloc, params, &nets, ProductClass::Equity)?;
-    let commodity = fx_margin(alloc, params, &nets, ProductClass::Commodity)?;
+    Ok(nets_margin(alloc, params, &nets)?)
+}
+
+// The margin of a book in range, by its nets.
+fn nets_margin(alloc: Global, params: &Params, nets: &Nets) -> Result<Breakdown, AllocError>
+    requires { (product : Product) → IsBucket params.now (factors params.now product nets.now) }
+    ensures { (rows : List Row) → FxRows rows → nets.now ≡ nets_of rows → IfOk result (λ b. b ≡ simm params.now rows) }
+{
+    let rates_fx = fx_margin(alloc, params, nets, ProductClass::RatesFX)?;
+    let credit = fx_margin(alloc, params, nets, ProductClass::Credit)?;
+    let equity = fx_margin(alloc, params, nets, ProductClass::Equity)?;
+    let commodity = fx_margin(alloc, params, nets, ProductClass::Commodity)?;
     Ok(breakdown(rates_fx, credit, equity, commodity))
 }

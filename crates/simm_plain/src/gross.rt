@@ -1,22 +1,23 @@
 ghost use Rattle.std.specs.Prelude.{◌≡◌, ◌*◌, ◌^◌, ◌≤◌, length, pos, ◌≤ℤ◌};
-ghost use Rattle.simm_kinds.specs.Batch.{rows_of};
 ghost use Rattle.simm_rules.specs.Sums.{total_by};
 ghost use Rattle.simm_plain.specs.FxKeys.{IsFxKey, FxRows};
 ghost use Rattle.simm_plain.specs.Faults.{row_size};
+ghost use Rattle.simm_plain.specs.Lent.{all_rows};
 
+use crate::lent::LentRows;
 use crate::netting::has_product;
-use simm_kinds::{CrifRow, ProductClass, TradeRows};
+use simm_kinds::{CrifRow, ProductClass};
 use simm_params::Params;
 
 /// The sum of the sizes of a product class's amounts times their weights, in ten-thousandths of a cent.
-pub fn gross(params: &Params, trades: &[TradeRows], product: ProductClass) -> i128
-    requires fx { FxRows (rows_of trades.now) }
-    requires few { length (rows_of trades.now) ≤ 200000 }
-    ensures { result ≡ total_by (row_size params.now product) (rows_of trades.now) }
+pub fn gross(params: &Params, lent: &[LentRows], product: ProductClass) -> i128
+    requires fx { FxRows (all_rows lent.now) }
+    requires few { length (all_rows lent.now) ≤ 200000 }
+    ensures { result ≡ total_by (row_size params.now product) (all_rows lent.now) }
 {
     let mut total = 0;
-    for trade in trades {
-        total += gross_of(params, trade.rows.as_slice(), product);
+    for trade in lent {
+        total += gross_of(params, trade.rows, product);
     }
     total
 }

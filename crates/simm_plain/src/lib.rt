@@ -7,6 +7,7 @@ mod bucket;
 mod correlation;
 mod fault;
 mod gross;
+mod lent;
 mod net;
 mod netting;
 mod place;
@@ -14,8 +15,9 @@ mod range;
 mod rhos;
 mod weighing;
 
-pub use book::margin;
+pub use book::{margin, margin_in_range, range_fault};
 pub use fault::MarginFault;
+pub use lent::LentRows;
 
 #[cfg(test)]
 mod tests;

@@ -1,15 +1,16 @@
 ghost use Rattle.std.specs.Prelude.{◌≡◌, ◌∷◌, ◌++◌, ◌*◌, ◌^◌, ◌≤◌, List, [], true, map, count_by, IfOk, OnOk, length, not, unsigned_abs};
 ghost use Rattle.simm_kinds.specs.declared.row.CrifRow.{CrifRow as Row};
-ghost use Rattle.simm_kinds.specs.Batch.{rows_of};
 ghost use Rattle.simm_kinds.specs.Order.{same_product, same_kind};
 ghost use Rattle.simm_rules.specs.Net.{net, all_fx, is_own_currency};
 ghost use Rattle.simm_plain.specs.FxKeys.{IsFxKey, FxRows};
 ghost use Rattle.simm_plain.specs.Bucket.{factors};
 ghost use Rattle.simm_plain.specs.Entries.{entries};
+ghost use Rattle.simm_plain.specs.Lent.{all_rows};
 ghost use Rattle.simm_plain.specs.Nets.{nets_of, IsRow, AreRows, AreWithin};
 
+use crate::lent::LentRows;
 use crate::net::Net;
-use simm_kinds::{CrifRow, FactorKey, ProductClass, RiskType, TradeRows};
+use simm_kinds::{CrifRow, FactorKey, ProductClass, RiskType};
 use simm_params::Params;
 use std::alloc::{AllocError, Global};
 use std::collections::BTreeMap;
@@ -31,16 +32,16 @@ impl Model for Nets {
 }
 
 impl Nets {
-    /// The nets of all rows of the trades.
-    pub fn of_trades(alloc: Global, trades: &[TradeRows]) -> Result<Nets, AllocError>
-        requires fx { all_fx (rows_of trades.now) ≡ true }
-        requires few { length (rows_of trades.now) ≤ 200000 }
-        ensures value { IfOk result (λ nets. nets ≡ nets_of (rows_of trades.now)) }
-        ensures rows { OnOk result (AreRows (rows_of trades.now)) }
+    /// The nets of all rows.
+    pub fn of_rows(alloc: Global, lent: &[LentRows]) -> Result<Nets, AllocError>
+        requires fx { all_fx (all_rows lent.now) ≡ true }
+        requires few { length (all_rows lent.now) ≤ 200000 }
+        ensures value { IfOk result (λ nets. nets ≡ nets_of (all_rows lent.now)) }
+        ensures rows { OnOk result (AreRows (all_rows lent.now)) }
     {
         let mut nets = Nets::new(alloc);
-        for trade in trades {
-            for row in trade.rows.as_slice() {
+        for trade in lent {
+            for row in trade.rows {
                 nets.add(alloc, row)?;
             }
         }

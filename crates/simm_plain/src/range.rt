@@ -1,32 +1,33 @@
 ghost use Rattle.std.specs.Prelude.{◌≡◌, ◌^◌, ◌<◌, ◌≤◌, map, length};
-ghost use Rattle.simm_kinds.specs.Batch.{rows_of};
 ghost use Rattle.simm_rules.specs.Sums.{first_some};
 ghost use Rattle.simm_rules.specs.Simm.{products};
 ghost use Rattle.simm_rules.specs.Range.{above as above_of};
 ghost use Rattle.simm_plain.specs.FxKeys.{FxRows};
 ghost use Rattle.simm_plain.specs.Faults.{count_fault, key_fault, bucket_fault, gross_fault, nets_fault};
+ghost use Rattle.simm_plain.specs.Lent.{all_rows};
 
 use crate::gross::gross;
+use crate::lent::LentRows;
 use crate::netting::Nets;
 use mh_units::div_up;
-use simm_kinds::{ProductClass, TradeRows};
+use simm_kinds::ProductClass;
 use simm_params::Params;
 use simm_rules::{RangeFault, RangeKind};
 
 /// More rows than a book may have.
-pub fn count_fault(trades: &[TradeRows]) -> Option<RangeFault>
-    requires { length (rows_of trades.now) < 2 ^ 63 }
-    ensures { result ≡ count_fault (rows_of trades.now) }
+pub fn count_fault(lent: &[LentRows]) -> Option<RangeFault>
+    requires { length (all_rows lent.now) < 2 ^ 63 }
+    ensures { result ≡ count_fault (all_rows lent.now) }
 {
-    above(RangeKind::RowCount, count_rows(trades) as i128, 200_000)
+    above(RangeKind::RowCount, count_rows(lent) as i128, 200_000)
 }
 
 /// The first of the other quantities that is above its limit: keys, keys of a product class's bucket, and weighted
 /// sizes of a product class.
-pub fn nets_fault(params: &Params, trades: &[TradeRows], nets: &Nets) -> Option<RangeFault>
-    requires fx { FxRows (rows_of trades.now) }
-    requires few { length (rows_of trades.now) ≤ 200000 }
-    ensures { result ≡ nets_fault params.now (rows_of trades.now) nets.now }
+pub fn nets_fault(params: &Params, lent: &[LentRows], nets: &Nets) -> Option<RangeFault>
+    requires fx { FxRows (all_rows lent.now) }
+    requires few { length (all_rows lent.now) ≤ 200000 }
+    ensures { result ≡ nets_fault params.now (all_rows lent.now) nets.now }
 {
     let keys = key_fault(nets);
     if keys.is_some() {
@@ -36,7 +37,7 @@ pub fn nets_fault(params: &Params, trades: &[TradeRows], nets: &Nets) -> Option<
     if bucket.is_some() {
         return bucket;
     }
-    first_gross_fault(params, trades)
+    first_gross_fault(params, lent)
 }
 
 fn above(which: RangeKind, value: i128, limit: i128) -> Option<RangeFault>
@@ -53,12 +54,12 @@ fn above(which: RangeKind, value: i128, limit: i128) -> Option<RangeFault>
     }
 }
 
-fn count_rows(trades: &[TradeRows]) -> usize
-    requires { length (rows_of trades.now) < 2 ^ 63 }
-    ensures { result ≡ length (rows_of trades.now) }
+fn count_rows(lent: &[LentRows]) -> usize
+    requires { length (all_rows lent.now) < 2 ^ 63 }
+    ensures { result ≡ length (all_rows lent.now) }
 {
     let mut count = 0;
-    for trade in trades {
+    for trade in lent {
         count += trade.rows.len();
     }
     count
@@ -88,13 +89,13 @@ fn bucket_fault(nets: &Nets, product: ProductClass) -> Option<RangeFault>
     above(RangeKind::BucketKeys, nets.count(product) as i128, 2_000)
 }
 
-fn first_gross_fault(params: &Params, trades: &[TradeRows]) -> Option<RangeFault>
-    requires fx { FxRows (rows_of trades.now) }
-    requires few { length (rows_of trades.now) ≤ 200000 }
-    ensures { result ≡ first_some (map (gross_fault params.now (rows_of trades.now)) products) }
+fn first_gross_fault(params: &Params, lent: &[LentRows]) -> Option<RangeFault>
+    requires fx { FxRows (all_rows lent.now) }
+    requires few { length (all_rows lent.now) ≤ 200000 }
+    ensures { result ≡ first_some (map (gross_fault params.now (all_rows lent.now)) products) }
 {
     for product in ProductClass::ALL {
-        let fault = gross_fault(params, trades, product);
+        let fault = gross_fault(params, lent, product);
         if fault.is_some() {
             return fault;
         }
@@ -102,11 +103,11 @@ fn first_gross_fault(params: &Params, trades: &[TradeRows]) -> Option<RangeFault
     None
 }
 
-fn gross_fault(params: &Params, trades: &[TradeRows], product: ProductClass) -> Option<RangeFault>
-    requires fx { FxRows (rows_of trades.now) }
-    requires few { length (rows_of trades.now) ≤ 200000 }
-    ensures { result ≡ gross_fault params.now (rows_of trades.now) product }
+fn gross_fault(params: &Params, lent: &[LentRows], product: ProductClass) -> Option<RangeFault>
+    requires fx { FxRows (all_rows lent.now) }
+    requires few { length (all_rows lent.now) ≤ 200000 }
+    ensures { result ≡ gross_fault params.now (all_rows lent.now) product }
 {
-    let cents = div_up(gross(params, trades, product), 10_000);
+    let cents = div_up(gross(params, lent, product), 10_000);
     above(RangeKind::DeltaGross, cents, 10_000_000_000_000)
 }

@@ -1,6 +1,6 @@
 use Rattle.std.proofs.Common.{◌≡◌, length, take}
-use Rattle.simm_kinds.specs.Batch.{rows_of}
+use Rattle.simm_plain.specs.Lent.{all_rows}
 use Rattle.simm_plain.proofs.range.count_rows.Given as goal
 
 abbrev pub invariant-loop-trade : goal.invariant-loop-trade
-invariant-loop-trade l = l.count ≡ length (rows_of (take l.trade-index l.trades))
+invariant-loop-trade l = l.count ≡ length (all_rows (take l.trade-index l.lent))

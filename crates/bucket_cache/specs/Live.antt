@@ -1,0 +1,53 @@
+-- What a live margin holds, and what a batch and a withdrawal make of it.
+use Rattle.std.specs.Prelude.{◌≡◌, ℕ, ◌+◌, zero, suc, List, [], ◌∷◌, map, length, position, slice_get, find, Option, None, option_map, Bool, true, not, ◌==◌, if◌then◌else◌}
+use Rattle.std.specs.List.{filter, list_all, list_any}
+use Rattle.simm_kinds.specs.declared.row.CrifRow.{CrifRow}
+use Rattle.simm_kinds.specs.declared.row.TradeRows.{TradeRows}
+use Rattle.simm_kinds.specs.Batch.{rows_of}
+use Rattle.simm_kinds.specs.Key.{is_key}
+use Rattle.simm_kinds.specs.Order.{same_name}
+use Rattle.simm_rules.specs.Params.{Params}
+use Rattle.simm_rules.specs.Net.{all_fx}
+use Rattle.simm_rules.specs.Range.{range}
+
+-- the parameters, and the current trades with their rows
+pub record Live : Type 0 where
+  pub params : Params
+  pub book : List TradeRows
+
+-- a trade that is there has just its new rows afterwards, in its old place; a new one goes last
+abbrev pub put_trade : TradeRows → List TradeRows → List TradeRows
+put_trade t [] = t ∷ []
+put_trade t (u ∷ us) = if same_name t.trade u.trade then record u { rows = t.rows } ∷ us else u ∷ put_trade t us
+
+-- the trades of a batch, one after the other
+abbrev pub put_trades : List TradeRows → List TradeRows → List TradeRows
+put_trades [] book = book
+put_trades (t ∷ ts) book = put_trades ts (put_trade t book)
+
+-- the trades that none of the names names
+abbrev pub without : List (List ℕ) → List TradeRows → List TradeRows
+without names book = filter (λ t. not (list_any (same_name t.trade) names)) book
+
+abbrev pub is_current : List TradeRows → List ℕ → Bool
+is_current book name = list_any (λ t. same_name name t.trade) book
+
+-- the place, from 1, of the first name that is not current
+abbrev pub first_unknown : List (List ℕ) → List TradeRows → Option ℕ
+first_unknown names book = option_map (λ i. i + 1) (position (λ name. not (is_current book name)) names)
+
+-- the name of the trade at a place, from 1
+abbrev pub name_at : List TradeRows → ℕ → Option (List ℕ)
+name_at book zero = None
+name_at book (suc i) = slice_get (map (λ t. t.trade) book) i
+
+-- the rows of a current trade
+abbrev pub rows_named : List TradeRows → List ℕ → Option (List CrifRow)
+rows_named book name = option_map (λ t. t.rows) (find (λ t. same_name name t.trade) book)
+
+-- Each row is a sensitivity to a currency with the parts of one, each trade has a row, and the book is in range.
+pub record IsLive (p : Params) (trades : List TradeRows) : Type 0 where
+  pub fx : all_fx (rows_of trades) ≡ true
+  pub keys : list_all (λ r. is_key r.key) (rows_of trades) ≡ true
+  pub filled : list_all (λ t. not (length t.rows == 0)) trades ≡ true
+  pub in_range : range p (rows_of trades) ≡ None

@@ -1,0 +1,152 @@
+ghost use Rattle.std.specs.Prelude.{◌≡◌, [], length, map, None, Some, Err, IfOk, OnOk, OnErr, ℕ, IsTrue, true};
+ghost use Rattle.std.specs.List.{list_all};
+ghost use Rattle.std.specs.Option.{option_copied};
+ghost use Rattle.simm_kinds.specs.Batch.{IsBatch, rows_of};
+ghost use Rattle.simm_kinds.specs.Key.{is_key};
+ghost use Rattle.simm_rules.specs.declared.values.RangeFault.{RangeFault as Fault};
+ghost use Rattle.simm_rules.specs.Net.{all_fx};
+ghost use Rattle.simm_rules.specs.Range.{range};
+ghost use Rattle.simm_rules.specs.Simm.{simm};
+ghost use Rattle.bucket_cache.specs.Live.{put_trades, without, first_unknown, name_at, rows_named};
+
+use crate::changing::{copies_of, first_unknown, keep_others, put_all, set_of};
+use crate::fault::{SubmitFault, WithdrawFault};
+use crate::lending::{lend_after, lend_current};
+use indexmap::IndexMap;
+use simm_kinds::{CrifRow, Listed, Name, TradeRows};
+use simm_params::Params;
+use simm_plain::{margin_in_range, range_fault};
+use simm_rules::{Breakdown, RangeFault};
+use std::alloc::{AllocError, Global};
+use std::marker::Model;
+
+/// The current trades of a netting set in the order in which they came, all of them sensitivities to currencies and
+/// their book in range, with the parameters of their margin. Contracts see the parameters and the book.
+#[derive(Drop)]
+pub struct LiveMargin {
+    params: Params,
+    trades: IndexMap<Name, Listed<CrifRow>>,
+}
+
+impl Model for LiveMargin {
+    ghost use Rattle.bucket_cache.specs.Live.{Live, IsLive};
+    ghost use Rattle.bucket_cache.specs.Entries.{trades_of};
+
+    ghost Value = { Live };
+
+    ghost view = { λ l. record { params = l.params; book = trades_of l.trades.entries } };
+
+    ghost invariant = { λ l. IsLive l.params (trades_of l.trades.entries) };
+}
+
+impl LiveMargin {
+    /// A live margin without trades.
+    pub fn new(alloc: Global, params: Params) -> Result<LiveMargin, AllocError>
+        ensures { IfOk result (λ live. live ≡ record { params = params; book = [] }) }
+    {
+        let trades = IndexMap::new(alloc);
+        Ok(LiveMargin { params, trades })
+    }
+
+    /// Takes a batch in: each trade has just these rows afterwards. A known trade keeps its place, and the new ones go
+    /// last in the batch's order.
+    ///
+    /// # Errors
+    ///
+    /// `Range` exactly where the book afterwards would be out of range, with the first quantity that is above its
+    /// limit, and `Memory` for want of memory. Nothing changes then.
+    pub fn submit(&mut self, alloc: Global, trades: &[TradeRows]) -> Result<(), SubmitFault>
+        requires batch { IsBatch trades.now }
+        requires fx { IsTrue (all_fx (rows_of trades.now)) }
+        ensures in_range { OnOk result (range self.old.params (rows_of (put_trades trades.now self.old.book)) ≡ None) }
+        ensures book { OnOk result (self.new ≡ record self.old { book = put_trades trades.now self.old.book }) }
+        ensures range { (fault : Fault) → result ≡ Err (SubmitFault.Range fault) →
+            range self.old.params (rows_of (put_trades trades.now self.old.book)) ≡ Some fault }
+        ensures unchanged { OnErr result (self.new ≡ self.old) }
+    {
+        if let Some(fault) = self.fault_after(alloc, trades)? {
+            return Err(SubmitFault::Range(fault));
+        }
+        let copies = copies_of(alloc, trades)?;
+        self.trades.reserve(copies.len())?;
+        put_all(&mut self.trades, copies);
+        Ok(())
+    }
+
+    /// Takes trades out. A name that stands twice counts once.
+    ///
+    /// # Errors
+    ///
+    /// `UnknownTrade` exactly where a name is not current, with the place of the first such name, and `Memory` for want
+    /// of memory. Nothing changes then.
+    pub fn withdraw(&mut self, alloc: Global, names: &[Name]) -> Result<(), WithdrawFault>
+        ensures known { OnOk result (first_unknown names.now self.old.book ≡ None) }
+        ensures book { OnOk result (self.new ≡ record self.old { book = without names.now self.old.book }) }
+        ensures unknown { (place : ℕ) → result ≡ Err (WithdrawFault.UnknownTrade place) →
+            first_unknown names.now self.old.book ≡ Some place }
+        ensures unchanged { OnErr result (self.new ≡ self.old) }
+    {
+        if let Some(place) = first_unknown(&self.trades, names) {
+            return Err(WithdrawFault::UnknownTrade { place });
+        }
+        let named = set_of(alloc, names)?;
+        self.params.facts();
+        keep_others(&mut self.trades, &named);
+        Ok(())
+    }
+
+    /// The margin of the current trades, with all of its parts.
+    pub fn margin(&mut self, alloc: Global) -> Result<Breakdown, AllocError>
+        ensures value { IfOk result (λ b. b ≡ simm self.old.params (rows_of self.old.book)) }
+        ensures unchanged { self.new ≡ self.old }
+    {
+        let lent = lend_current(alloc, &self.trades, 0)?;
+        margin_in_range(alloc, &self.params, lent.as_slice())
+    }
+
+    /// How many trades are current. It takes no memory, like all that follow.
+    pub fn trade_count(&self) -> u32
+        ensures { result ≡ length self.now.book }
+    {
+        self.trades.len() as u32
+    }
+
+    /// The name of the trade at a place, from 1, in the order of the book; `None` where there is none.
+    pub fn trade_at(&self, place: u32) -> Option<&Name>
+        ensures { option_copied result ≡ name_at self.now.book place }
+    {
+        let index = place.checked_sub(1)?;
+        let (name, _rows) = self.trades.get_index(index as usize)?;
+        Some(name)
+    }
+
+    /// The rows of a trade; `None` where it is not current.
+    pub fn rows_of(&self, name: &Name) -> Option<&[CrifRow]>
+        ensures { option_copied result ≡ rows_named self.now.book name.now }
+    {
+        let rows = self.trades.get(name)?;
+        Some(rows.as_slice())
+    }
+
+    /// The parameters of the margin.
+    pub fn params(&self) -> &Params
+        ensures { result.now ≡ self.now.params }
+    {
+        &self.params
+    }
+
+    // What keeps the book with this batch from being in range.
+    fn fault_after(
+        &self,
+        alloc: Global,
+        trades: &[TradeRows],
+    ) -> Result<Option<RangeFault>, AllocError>
+        requires batch { IsBatch trades.now }
+        requires fx { IsTrue (all_fx (rows_of trades.now)) }
+        ensures fault { IfOk result (λ fault. fault ≡ range self.now.params (rows_of (put_trades trades.now self.now.book))) }
+        ensures keys { IfOk result (λ fault. fault ≡ None → list_all (λ r. is_key r.key) (rows_of (put_trades trades.now self.now.book)) ≡ true) }
+    {
+        let lent = lend_after(alloc, &self.trades, trades)?;
+        range_fault(alloc, &self.params, lent.as_slice())
+    }
+}
