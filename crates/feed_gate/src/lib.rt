@@ -1,0 +1,6 @@
+//! A feed's messages as calls on the netting sets that they name.
+#![tactic(auto)]
+
+mod report;
+
+pub use report::{FeedEnd, FeedReport, RefusedMessage};

@@ -1,0 +1,63 @@
+ghost use Rattle.std.specs.Prelude.{◌≡◌};
+ghost use Rattle.feed_gate.specs.Numbers.{refused_number};
+
+use simm_kinds::Listed;
+
+/// A message that made no call. `line` is the number of its first line, from 1.
+#[derive(Clone, Copy, Debug, PartialEq, Eq)]
+pub enum RefusedMessage {
+    /// It is no message.
+    BadLine { line: u32 },
+    /// It names a set that isn't in the terms.
+    UnknownSet { line: u32 },
+    /// Its block of CRIF records is no batch.
+    BadBatch { line: u32 },
+    /// The journal of its set, the `set`-th from 0, was full, with so many entries and rows.
+    Full {
+        line: u32,
+        set: u32,
+        entries: u32,
+        rows: u32,
+    },
+}
+
+impl RefusedMessage {
+    /// The number in printed text.
+    pub fn number(self) -> u8
+        ensures { result ≡ refused_number self }
+    {
+        match self {
+            RefusedMessage::BadLine { .. } => 1,
+            RefusedMessage::UnknownSet { .. } => 2,
+            RefusedMessage::BadBatch { .. } => 3,
+            RefusedMessage::Full { .. } => 4,
+        }
+    }
+}
+
+/// How a feed ended. `line` is the number of the line at which it did, from 1.
+#[derive(Clone, Copy, Debug, PartialEq, Eq)]
+pub enum FeedEnd {
+    /// All of it was read.
+    End,
+    /// It ended inside the block that begins at this line.
+    Cut { line: u32 },
+    /// This line is too long.
+    LineLong { line: u32 },
+    /// It has more bytes than are read; so many were taken.
+    TooLong { taken: u64 },
+    /// It couldn't be read to its end.
+    ReadFault,
+    /// Memory ran out.
+    Memory { line: u32 },
+}
+
+/// What became of a feed's messages.
+#[derive(Debug, Drop)]
+pub struct FeedReport {
+    /// How many of them stand in a journal.
+    pub done: u32,
+    /// The others, in the order of their lines.
+    pub refused: Listed<RefusedMessage>,
+    pub end: FeedEnd,
+}

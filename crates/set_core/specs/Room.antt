@@ -1,0 +1,17 @@
+-- When a journal is full: 65,535 entries, or 500,000 rows of all submits, refused ones too.
+use Rattle.std.specs.Prelude.{ℕ, ◌+◌, List, length, Bool, ◌||◌, nat_le, nat_lt, sum_by}
+use Rattle.simm_kinds.specs.Batch.{rows_of}
+use Rattle.held_cell.specs.declared.entry.Entry.{Entry}
+use Rattle.set_core.specs.declared.event.Event.{Event}
+use Rattle.set_core.specs.declared.event.Event.TheVariants as event
+use Rattle.set_core.specs.declared.reply.Reply.{Reply}
+
+abbrev pub event_rows : Event → ℕ
+event_rows (event.Submit trades) = length (rows_of trades)
+event_rows _ = 0
+
+abbrev pub journal_rows : List (Entry Event Reply) → ℕ
+journal_rows log = sum_by (λ e. event_rows e.event) log
+
+abbrev pub is_full : List (Entry Event Reply) → Event → Bool
+is_full log event = nat_le 65535 (length log) || nat_lt 500000 (journal_rows log + event_rows event)

@@ -1,0 +1,49 @@
+ghost use Rattle.std.specs.Prelude.{◌≡◌, length};
+ghost use Rattle.simm_kinds.specs.Batch.{IsBatch, rows_of};
+ghost use Rattle.set_core.specs.Room.{event_rows};
+ghost use Rattle.set_core.specs.Events.{IsEvent};
+
+use simm_kinds::{Batch, Listed, Name, TradeRows};
+
+/// What a caller asks of a netting set.
+#[derive(Drop, Debug)]
+pub enum Event {
+    /// Gives each trade that the batch names just the rows that it has there. A known trade keeps its place.
+    Submit(Batch),
+    /// Takes out each trade that is named.
+    Withdraw(Listed<Name>),
+    /// Asks the margin of all current trades.
+    AskMargin,
+}
+
+impl Event {
+    /// What each event keeps: the trades of a submit are a batch. It does nothing.
+    pub fn facts(&self)
+        ensures { IsEvent self.now }
+    {
+        if let Event::Submit(batch) = self {
+            let _trades = batch.trades();
+        }
+    }
+
+    /// How many rows a submit has; 0 for every other event. It takes no memory.
+    pub fn row_count(&self) -> usize
+        ensures { result ≡ event_rows self.now }
+    {
+        match self {
+            Event::Submit(batch) => count_rows(batch.trades()),
+            Event::Withdraw(_) | Event::AskMargin => 0,
+        }
+    }
+}
+
+fn count_rows(trades: &[TradeRows]) -> usize
+    requires { IsBatch trades.now }
+    ensures { result ≡ length (rows_of trades.now) }
+{
+    let mut count = 0;
+    for trade in trades {
+        count += trade.rows.len();
+    }
+    count
+}

@@ -1,0 +1,22 @@
+//! A netting set: trades are submitted, replaced and withdrawn, its margin is asked, and a journal holds each call with
+//! its answer. Each answer is the written rule, from scratch, over the journal's earlier accepted entries.
+#![tactic(auto)]
+
+mod answering;
+mod event;
+mod fault;
+mod refusal;
+mod reply;
+mod reply_words;
+mod set_state;
+
+pub use event::Event;
+pub use fault::ApplyFault;
+pub use refusal::Refusal;
+pub use reply::{Entry, Reply};
+pub use reply_words::reply_text;
+pub use set_state::SetState;
+
+
+#[cfg(test)]
+mod tests;

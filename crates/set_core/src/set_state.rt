@@ -1,0 +1,143 @@
+ghost use Rattle.std.specs.Prelude.{◌≡◌, [], length, map, None, Some, IfOk, OnErr, IfErr};
+ghost use Rattle.std.specs.Option.{option_copied};
+ghost use Rattle.bucket_cache.specs.Live.{Live};
+ghost use Rattle.set_core.specs.Book.{book};
+ghost use Rattle.set_core.specs.Room.{journal_rows, event_rows, is_full};
+ghost use Rattle.set_core.specs.Events.{IsFx};
+ghost use Rattle.set_core.specs.Set.{IsSet, IsAnswered, Explains, entry_at};
+
+use crate::answering::answer;
+use crate::{ApplyFault, Entry, Event, Reply};
+use bucket_cache::LiveMargin;
+use csa_terms::SetTerms;
+use simm_params::Params;
+use std::alloc::{AllocError, Global};
+use std::marker::Model;
+
+/// A netting set: what it works on, its current trades, and the journal of its calls. Contracts see the parameters, the
+/// terms and the journal; all else is the written rule over the journal.
+#[derive(Drop)]
+pub struct SetState {
+    live: LiveMargin,
+    terms: SetTerms,
+    journal: Vec<Entry>,
+    rows: u32,
+}
+
+impl Model for SetState {
+    ghost use Rattle.set_core.specs.Set.{Set, IsSet};
+    ghost use Rattle.set_core.specs.Kept.{IsKept};
+
+    ghost Value = { Set };
+
+    ghost view = { λ s. record { params = s.live.params; terms = s.terms; journal = s.journal.items } };
+
+    ghost invariant = { λ s. IsKept s.live s.rows s.journal.items };
+}
+
+/// How many entries a journal has at most.
+const MOST_ENTRIES: usize = 65_535;
+
+/// How many rows the submits of a journal have at most, refused ones too.
+const MOST_ROWS: usize = 500_000;
+
+impl SetState {
+    /// A set without trades, with an empty journal.
+    pub fn new(alloc: Global, params: Params, terms: SetTerms) -> Result<SetState, AllocError>
+        ensures { IfOk result (λ set. set ≡ record { params = params; terms = terms; journal = [] }) }
+    {
+        let live = LiveMargin::new(alloc, params)?;
+        Ok(SetState {
+            live,
+            terms,
+            journal: Vec::new(alloc),
+            rows: 0,
+        })
+    }
+
+    /// Answers an event by the written rule over the journal so far, and adds it to the journal with its reply. An event
+    /// that is refused changes nothing else.
+    ///
+    /// # Errors
+    ///
+    /// `JournalFull` exactly where the journal has 65,535 entries, or its rows and the event's are more than 500,000;
+    /// this is tested first. `Memory` for want of memory. Then the set stands, and the event comes back.
+    pub fn apply(&mut self, alloc: Global, caller: u32, event: Event) -> Result<Reply, ApplyFault>
+        requires { IsFx event }
+        ensures answered { IfOk result (IsAnswered self.old self.new caller event) }
+        ensures fault { IfErr result (Explains self.old event) }
+        ensures unchanged { OnErr result (self.new ≡ self.old) }
+    {
+        event.facts();
+        if self.is_full(&event) {
+            return Err(ApplyFault::JournalFull {
+                entries: self.entries(),
+                rows: self.rows,
+                event,
+            });
+        }
+        if self.journal.reserve(1).is_err() {
+            return Err(ApplyFault::Memory { event });
+        }
+        let Ok(reply) = answer(alloc, &mut self.live, &event) else {
+            return Err(ApplyFault::Memory { event });
+        };
+        self.rows += event.row_count() as u32;
+        self.journal.push_reserved(Entry {
+            caller,
+            event,
+            reply,
+        });
+        Ok(reply)
+    }
+
+    /// What each set keeps: its journal is legal, and within its limits. It does nothing.
+    pub fn facts(&self)
+        ensures { IsSet self.now.params self.now.journal }
+    {
+        let _rows = self.rows;
+    }
+
+    /// How many entries the journal has. It takes no memory, like all that follow.
+    pub fn entries(&self) -> u32
+        ensures { result ≡ length self.now.journal }
+    {
+        self.journal.len() as u32
+    }
+
+    /// How many rows the submits of the journal have, refused ones too.
+    pub fn rows(&self) -> u32
+        ensures { result ≡ journal_rows self.now.journal }
+    {
+        self.rows
+    }
+
+    /// The entry at a place of the journal, from 1; `None` where there is none.
+    pub fn entry(&self, place: u32) -> Option<&Entry>
+        ensures { option_copied result ≡ entry_at self.now.journal place }
+    {
+        let index = place.checked_sub(1)?;
+        self.journal.get(index as usize)
+    }
+
+    /// Lends the live margin, whose book is that of the journal.
+    pub fn live(&self) -> &LiveMargin
+        ensures params { result.now.params ≡ self.now.params }
+        ensures book { result.now.book ≡ book self.now.journal }
+    {
+        &self.live
+    }
+
+    /// Lends the terms.
+    pub fn terms(&self) -> &SetTerms
+        ensures { result.now ≡ self.now.terms }
+    {
+        &self.terms
+    }
+
+    fn is_full(&self, event: &Event) -> bool
+        ensures { result ≡ is_full self.now.journal event.now }
+    {
+        self.journal.len() >= MOST_ENTRIES || event.row_count() > MOST_ROWS - self.rows as usize
+    }
+}
