@@ -1,0 +1,5 @@
+pub mod Holdings
+pub mod Booked
+pub mod Changes
+pub mod Refusals
+pub mod Kept

@@ -1,0 +1,109 @@
+ghost use Rattle.std.specs.Prelude.{◌≡◌, ◌∷◌, ◌++◌, ◌+◌, ◌<◌, ◌≤◌, ◌^◌, [], map, IfOk, OnOk, OnErr, if◌then◌else◌, pos, neg_ℤ, ◌≤ℤ◌, unsigned_abs};
+ghost use Rattle.std.specs.Bool.{OnTrue, OnFalse};
+ghost use Rattle.collateral_ledger.specs.Holdings.{AreCalls};
+ghost use Rattle.collateral_ledger.specs.Booked.{total, settled};
+ghost use Rattle.collateral_ledger.specs.Changes.{has_call, without_call};
+
+use std::alloc::{AllocError, Global};
+use std::collections::BTreeMap;
+use std::marker::Model;
+
+/// A call without its number.
+#[derive(Clone, Copy, Debug)]
+pub struct OpenCall {
+    /// Whether it is for a delivery, and not for a return.
+    pub delivery: bool,
+    /// In cents.
+    pub amount: i64,
+}
+
+impl OpenCall {
+    /// What is booked for the call, as if it were settled.
+    fn settled(&self) -> i128
+        ensures value { result ≡ (if self.now.delivery then self.now.amount else neg_ℤ self.now.amount) }
+        ensures size { unsigned_abs result ≤ 2 ^ 63 }
+    {
+        let amount = i128::from(self.amount);
+        if self.delivery { amount } else { -amount }
+    }
+}
+
+/// The calls that are outstanding, each found by its number, and how many were ever added.
+#[derive(Debug, Drop)]
+pub struct Calls {
+    outstanding: BTreeMap<u32, OpenCall>,
+    added: u32,
+}
+
+impl Model for Calls {
+    ghost use Rattle.std.specs.Prelude.{map};
+    ghost use Rattle.collateral_ledger.specs.Kept.{Called, AreAdded, call_at};
+
+    ghost Value = { Called };
+
+    ghost view = { λ c. record { calls = map call_at c.outstanding.entries; added = c.added } };
+
+    ghost invariant = { λ c. AreAdded c.added c.outstanding.entries };
+}
+
+impl Calls {
+    /// No call. It takes no memory.
+    pub fn new(alloc: Global) -> Calls
+        ensures { result ≡ record { calls = []; added = 0 } }
+    {
+        Calls {
+            outstanding: BTreeMap::new(alloc),
+            added: 0,
+        }
+    }
+
+    /// Adds a call and answers its number: how many were ever added, with this one. For want of memory nothing changes.
+    pub fn add(&mut self, delivery: bool, amount: i64) -> Result<u32, AllocError>
+        requires few { self.old.added < 4294967295 }
+        requires amount_from { pos 1 ≤ℤ amount }
+        requires amount_to { amount ≤ℤ pos (10 ^ 18) }
+        ensures number { IfOk result (λ number. number ≡ self.old.added + 1) }
+        ensures ok { OnOk result (self.new ≡ record {
+          calls = self.old.calls ++ record { number = self.old.added + 1; delivery = delivery; amount = amount } ∷ [];
+          added = self.old.added + 1;
+        }) }
+        ensures err { OnErr result (self.new ≡ self.old) }
+    {
+        let number = self.added + 1;
+        self.outstanding
+            .insert(number, OpenCall { delivery, amount })?;
+        self.added = number;
+        Ok(number)
+    }
+
+    /// Takes out the call of this number, and tells whether it was outstanding. It takes no memory.
+    pub fn close(&mut self, number: u32) -> bool
+        ensures found { result ≡ has_call number self.old.calls }
+        ensures closed { OnTrue result (self.new ≡ record self.old { calls = without_call number self.old.calls }) }
+        ensures unchanged { OnFalse result (self.new ≡ self.old) }
+    {
+        // The numbers ascend, so they are different.
+        let _count = self.outstanding.len();
+        self.outstanding.remove(&number).is_some()
+    }
+
+    /// What is booked for the outstanding calls.
+    pub fn settled(&self) -> i128
+        ensures value { result ≡ total (map settled self.now.calls) }
+        ensures size { unsigned_abs result ≤ 2 ^ 126 }
+    {
+        let mut sum = 0;
+        for call in self.outstanding.values() {
+            sum += call.settled();
+        }
+        sum
+    }
+
+    /// What each ledger's calls keep. It does nothing.
+    pub fn facts(&self)
+        ensures { AreCalls self.now.added self.now.calls }
+    {
+        // The numbers ascend, so they are different.
+        let _count = self.outstanding.len();
+    }
+}

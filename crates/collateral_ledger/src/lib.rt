@@ -1,0 +1,15 @@
+//! The collateral ledger of a netting set: lots with their haircuts, calls that are outstanding, and what is booked.
+//! (ISDA 2016 Credit Support Annex for Initial Margin.)
+#![tactic(auto)]
+
+mod calls;
+mod fault;
+mod ledger;
+mod lots;
+mod rated_lot;
+
+pub use fault::LedgerFault;
+pub use ledger::Ledger;
+
+#[cfg(test)]
+mod tests;

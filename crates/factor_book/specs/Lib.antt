@@ -1,0 +1,4 @@
+pub mod Factors
+pub mod Place
+pub mod Holdings
+pub mod Filing
