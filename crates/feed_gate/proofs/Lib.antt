@@ -1,2 +1,4 @@
 pub mod Rows
 pub mod Called
+pub mod Runs
+pub mod Feeds

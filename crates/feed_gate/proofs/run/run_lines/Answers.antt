@@ -1,0 +1,37 @@
+use Rattle.std.proofs.Common.{arith, ◌≡◌, ◌∷◌, [], ◌++◌, sym, ap, ◌∙◌, subst, map}
+use Rattle.feed_gate.specs.Calls.{after_feed}
+use Rattle.feed_gate.specs.Refused.{refusal}
+use Rattle.feed_gate.specs.Sets.{AreApart}
+use Rattle.feed_gate.specs.Run.{RanTo, with_answer}
+use Rattle.feed_gate.proofs.Runs.{answer_few, apart_after}
+use Rattle.feed_gate.proofs.Feeds.{ran_none, ran_more}
+use Rattle.feed_gate.proofs.run.run_lines.Goals as goal
+
+pub loop-end-init : goal.loop-end-init
+loop-end-init g c =
+    (([], subst (λ r. RanTo g.S.Source.faults g.S.Source.name g.S.Source.gave g.S.Source.left c.args.lines.now c.args.lines.now c.args.sets.now c.args.sets.now r []) (sym c.new-report.ensures) (ran_none g.S.Source.faults g.S.Source.name g.S.Source.gave g.S.Source.left c.args.lines.now c.args.sets.now)),
+     c.requires,
+     omega (arith, ap (λ r. r.done) c.new-report.ensures))
+
+pub returns-in-Some : goal.returns-in-Some
+returns-in-Some g c =
+    let ran = c.loop-end.invariant.0.1 in
+    let last = c.in-Some.ensures in
+    record {
+      items = c.loop-end.invariant.0.0;
+      held = c.loop-end.lines;
+      ran = record {
+        told = ran.told;
+        sets = last.sets ∙ ran.sets;
+        done = ap (λ r. r.done) last.report ∙ ran.done;
+        refused = ap (λ r. r.refused) last.report ∙ ran.refused;
+      };
+      ends = last.ends;
+    }
+
+pub loop-end-preserved : goal.loop-end-preserved
+loop-end-preserved g c =
+    let t = c.in_default.ensures in
+    ((c.loop-end.invariant.0.0 ++ t.item ∷ [], ran_more g.S.Source.faults g.S.Source.name g.S.Source.gave g.S.Source.left c.loop-end.invariant.0.1 t),
+     subst AreApart (sym t.sets) (apart_after (t.item ∷ []) c.loop-end.sets c.loop-end.invariant.1),
+     omega (arith, ap (λ r. r.done) t.report, answer_few c.loop-end.report (refusal c.loop-end.sets t.item), t.later, c.loop-end.invariant.2))
