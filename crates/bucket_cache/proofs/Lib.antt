@@ -1,2 +1,4 @@
 pub mod Maps
 pub mod Sizes
+pub mod Puts
+pub mod Lives

@@ -1,17 +1,22 @@
 -- The trades of a map of names to rows.
-use Rattle.std.proofs.Common.{◌≡◌, ℕ, List, [], ◌∷◌, slice_get, find, Option, Some, None, option_map, Bool, true, false, cond, ◌==◌, zero, suc, refl, sym, ap, ◌∙◌}
+use Rattle.std.proofs.Common.{◌≡◌, ℕ, ◌+◌, ◌<◌, List, [], ◌∷◌, ◌++◌, length, get_or, take, slice_get, find, is_some, Option, Some, None, option_map, Bool, true, false, ◌||◌, cond, ◌==◌, if◌then◌else◌, zero, suc, refl, sym, ap, ◌∙◌}
 use Rattle.std.specs.Bool.{one_answer}
 use Rattle.std.specs.Ordering.{is_eq}
 use Rattle.std.specs.Cmp.Lexicographic.{pointwise, bytes_decides}
-use Rattle.std.specs.Map.{lookup}
+use denote.Bor.{Bor}
+use Rattle.std.specs.List.{list_any}
+use Rattle.std.specs.Map.{lookup, values_of}
+use Rattle.std.proofs.lemmas.List.{take_more}
+use Rattle.std.proofs.lemmas.List.Folds.{list_any-append}
+use Rattle.indexmap.specs.IndexSet.{insert_key}
 use Rattle.std.proofs.lemmas.Cmp.{nat_list_cmp_total, tied_itself}
 use Rattle.std.proofs.lemmas.Map.Lookups.{exact_bytes}
 use Rattle.simm_kinds.specs.declared.row.CrifRow.{CrifRow}
 use Rattle.simm_kinds.specs.declared.row.TradeRows.{TradeRows}
 use Rattle.simm_kinds.specs.Order.{same_name, name_cmp}
 use Rattle.simm_plain.proofs.Keys.{is_equal}
-use Rattle.bucket_cache.specs.Live.{name_at, rows_named}
-use Rattle.bucket_cache.specs.Entries.{trade_of, trades_of}
+use Rattle.bucket_cache.specs.Live.{name_at, rows_named, is_current}
+use Rattle.bucket_cache.specs.Entries.{trade_of, trades_of, row_lists, is_among}
 
 pub same_name-refl : (a : List ℕ) → same_name a a ≡ true
 same_name-refl a = ap is_eq (tied_itself nat_list_cmp_total a)
@@ -43,3 +48,47 @@ pub name_at-beyond : (es : List (List ℕ × List CrifRow)) (i : ℕ) → None �
 name_at-beyond [] i h = refl
 name_at-beyond (f ∷ es) zero h = absurd (cc)
 name_at-beyond (f ∷ es) (suc i) h = name_at-beyond es i h
+
+pub row_lists-trades_of : (es : List (List ℕ × List CrifRow)) → values_of es ≡ row_lists (trades_of es)
+row_lists-trades_of [] = refl
+row_lists-trades_of (e ∷ es) = ap (λ xs. e.1 ∷ xs) (row_lists-trades_of es)
+
+found_first : (s t : Bool) (x : List CrifRow) (o : Option (List CrifRow)) (b : Bool) → s ≡ t → is_some o ≡ b → is_some (cond s (Some x) o) ≡ (t || b)
+found_first true true x o b e h = refl
+found_first false false x o b e h = h
+found_first true false x o b e h = absurd (cc)
+found_first false true x o b e h = absurd (cc)
+
+pub is_current-trades_of : (name : List ℕ) (es : List (List ℕ × List CrifRow)) → is_some (lookup (pointwise ◌==◌ name) es) ≡ is_current (trades_of es) name
+is_current-trades_of name [] = refl
+is_current-trades_of name (e ∷ es) = found_first (pointwise ◌==◌ name e.0) (same_name name e.0) e.1 (lookup (pointwise ◌==◌ name) es) (is_current (trades_of es) name) (key_test name e.0) (is_current-trades_of name es)
+
+pub is_among-by_eq : (name : List ℕ) (ks : List (Bor (List ℕ))) → list_any (λ k. pointwise ◌==◌ name k.now) ks ≡ is_among ks name
+is_among-by_eq name [] = refl
+is_among-by_eq name (k ∷ ks) = ap (λ b. b || list_any (λ l. pointwise ◌==◌ name l.now) ks) (key_test name k.now) ∙ ap (λ b. same_name name k.now || b) (is_among-by_eq name ks)
+
+or_twice : (s t : Bool) → (t ≡ true → s ≡ true) → s ≡ (s || t)
+or_twice true t h = refl
+or_twice false false h = refl
+or_twice false true h = h refl
+
+or_end : (s t : Bool) → (s || (t || false)) ≡ (s || t)
+or_end true t = refl
+or_end false true = refl
+or_end false false = refl
+
+among_put : (t : Bool) (ks : List (Bor (List ℕ))) (k : Bor (List ℕ)) (name : List ℕ) → is_among ks k.now ≡ t → is_among (if t then ks else ks ++ k ∷ []) name ≡ (is_among ks name || same_name name k.now)
+among_put true ks k name h =
+    or_twice (is_among ks name) (same_name name k.now) (λ same. ap (is_among ks) (same_name-equal name k.now same) ∙ h)
+among_put false ks k name h =
+    list_any-append (λ (l : Bor (List ℕ)). same_name name l.now) ks (k ∷ []) ∙ or_end (is_among ks name) (same_name name k.now)
+
+-- one more name in the set
+pub is_among-insert_key : (ks : List (Bor (List ℕ))) (k : Bor (List ℕ)) (name : List ℕ) → is_among (insert_key (λ a b. pointwise ◌==◌ a.now b.now) ks k) name ≡ (is_among ks name || same_name name k.now)
+is_among-insert_key ks k name =
+    among_put (list_any (λ (l : Bor (List ℕ)). pointwise ◌==◌ k.now l.now) ks) ks k name (sym (is_among-by_eq k.now ks))
+
+pub any_next : (name : List ℕ) (ns : List (List ℕ)) (i : ℕ) (n : List ℕ) → i < length ns → n ≡ get_or ns i n → list_any (same_name name) (take (i + 1) ns) ≡ (list_any (same_name name) (take i ns) || same_name name n)
+any_next name ns i n h at =
+    ap (list_any (same_name name)) (take_more ns i n h ∙ ap (λ x. take i ns ++ x ∷ []) (sym at)) ∙ list_any-append (same_name name) (take i ns) (n ∷ [])
+    ∙ or_end (list_any (same_name name) (take i ns)) (same_name name n)

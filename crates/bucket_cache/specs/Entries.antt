@@ -1,10 +1,34 @@
--- The trades that a map of names to rows holds.
-use Rattle.std.specs.Prelude.{ℕ, List, map}
+-- The trades that a map of names to rows holds, and their rows as they are lent.
+use Rattle.std.specs.Prelude.{◌≡◌, ℕ, List, map, ◌++◌, Bool, false}
+use denote.Bor.{Bor}
+use Rattle.std.specs.List.{list_any}
 use Rattle.simm_kinds.specs.declared.row.CrifRow.{CrifRow}
 use Rattle.simm_kinds.specs.declared.row.TradeRows.{TradeRows}
+use Rattle.simm_kinds.specs.Order.{same_name}
+use Rattle.simm_plain.specs.declared.lent.LentRows.{LentRows}
 
 abbrev pub trade_of : List ℕ × List CrifRow → TradeRows
 trade_of entry = record { trade = entry.0; rows = entry.1 }
 
 abbrev pub trades_of : List (List ℕ × List CrifRow) → List TradeRows
 trades_of entries = map trade_of entries
+
+-- each trade's rows
+abbrev pub row_lists : List TradeRows → List (List CrifRow)
+row_lists trades = map (λ t. t.rows) trades
+
+abbrev pub lent_lists : List LentRows → List (List CrifRow)
+lent_lists lent = map (λ l. l.rows.now) lent
+
+abbrev pub names_of : List TradeRows → List (List ℕ)
+names_of trades = map (λ t. t.trade) trades
+
+-- the name is among those that are lent
+abbrev pub is_among : List (Bor (List ℕ)) → List ℕ → Bool
+is_among names name = list_any (λ k. same_name name k.now) names
+
+-- the book has the current trades' names first, and behind them new ones, which are others than this name
+pub record Follows (name : List ℕ) (current trades : List TradeRows) : Type 0 where
+  pub added : List (List ℕ)
+  pub order : names_of trades ≡ names_of current ++ added
+  pub others : list_any (same_name name) added ≡ false

@@ -1,17 +1,22 @@
-ghost use Rattle.std.specs.Prelude.{◌≡◌, [], length, map, None, Some, Err, IfOk, OnOk, OnErr, ℕ, IsTrue};
+ghost use Rattle.std.specs.Prelude.{◌≡◌, [], length, map, None, Some, Err, IfOk, OnOk, OnErr, ℕ, IsTrue, true};
+ghost use Rattle.std.specs.List.{list_all};
 ghost use Rattle.std.specs.Option.{option_copied};
 ghost use Rattle.simm_kinds.specs.Batch.{IsBatch, rows_of};
+ghost use Rattle.simm_kinds.specs.Key.{is_key};
 ghost use Rattle.simm_rules.specs.declared.values.RangeFault.{RangeFault as Fault};
 ghost use Rattle.simm_rules.specs.Net.{all_fx};
 ghost use Rattle.simm_rules.specs.Range.{range};
 ghost use Rattle.simm_rules.specs.Simm.{simm};
 ghost use Rattle.bucket_cache.specs.Live.{put_trades, without, first_unknown, name_at, rows_named};
 
+use crate::changing::{copies_of, first_unknown, keep_others, put_all, set_of};
 use crate::fault::{SubmitFault, WithdrawFault};
+use crate::lending::{lend_after, lend_current};
 use indexmap::IndexMap;
 use simm_kinds::{CrifRow, Listed, Name, TradeRows};
 use simm_params::Params;
-use simm_rules::Breakdown;
+use simm_plain::{margin_in_range, range_fault};
+use simm_rules::{Breakdown, RangeFault};
 use std::alloc::{AllocError, Global};
 use std::marker::Model;
 
@@ -59,7 +64,13 @@ impl LiveMargin {
             range self.old.params (rows_of (put_trades trades.now self.old.book)) ≡ Some fault }
         ensures unchanged { OnErr result (self.new ≡ self.old) }
     {
-        Err(SubmitFault::Memory)
+        if let Some(fault) = self.fault_after(alloc, trades)? {
+            return Err(SubmitFault::Range(fault));
+        }
+        let copies = copies_of(alloc, trades)?;
+        self.trades.reserve(copies.len())?;
+        put_all(&mut self.trades, copies);
+        Ok(())
     }
 
     /// Takes trades out. A name that stands twice counts once.
@@ -75,7 +86,13 @@ impl LiveMargin {
             first_unknown names.now self.old.book ≡ Some place }
         ensures unchanged { OnErr result (self.new ≡ self.old) }
     {
-        Err(WithdrawFault::Memory)
+        if let Some(place) = first_unknown(&self.trades, names) {
+            return Err(WithdrawFault::UnknownTrade { place });
+        }
+        let named = set_of(alloc, names)?;
+        self.params.facts();
+        keep_others(&mut self.trades, &named);
+        Ok(())
     }
 
     /// The margin of the current trades, with all of its parts.
@@ -83,7 +100,8 @@ impl LiveMargin {
         ensures value { IfOk result (λ b. b ≡ simm self.old.params (rows_of self.old.book)) }
         ensures unchanged { self.new ≡ self.old }
     {
-        Err(AllocError)
+        let lent = lend_current(alloc, &self.trades, 0)?;
+        margin_in_range(alloc, &self.params, lent.as_slice())
     }
 
     /// How many trades are current. It takes no memory, like all that follow.
@@ -115,5 +133,20 @@ impl LiveMargin {
         ensures { result.now ≡ self.now.params }
     {
         &self.params
+    }
+
+    // What keeps the book with this batch from being in range.
+    fn fault_after(
+        &self,
+        alloc: Global,
+        trades: &[TradeRows],
+    ) -> Result<Option<RangeFault>, AllocError>
+        requires batch { IsBatch trades.now }
+        requires fx { IsTrue (all_fx (rows_of trades.now)) }
+        ensures fault { IfOk result (λ fault. fault ≡ range self.now.params (rows_of (put_trades trades.now self.now.book))) }
+        ensures keys { IfOk result (λ fault. fault ≡ None → list_all (λ r. is_key r.key) (rows_of (put_trades trades.now self.now.book)) ≡ true) }
+    {
+        let lent = lend_after(alloc, &self.trades, trades)?;
+        range_fault(alloc, &self.params, lent.as_slice())
     }
 }

@@ -1,0 +1,127 @@
+-- The book of a live margin stays one: after a batch that is in range, and without some of its trades.
+use Rattle.std.proofs.Common.{◌≡◌, ℕ, ◌≤◌, List, [], ◌∷◌, ◌++◌, length, Option, Some, None, Bool, true, false, not, ◌||◌, ◌==◌, cond, if◌then◌else◌, nat_lt, refl, ap, arith}
+use Rattle.std.specs.List.{list_all, list_any, filter}
+use Rattle.std.proofs.lemmas.Bool.{or_parts, and_parts, and_from, ltb-false}
+use Rattle.simm_kinds.specs.declared.fault.MakeFault.TheVariants as fault
+use Rattle.simm_kinds.specs.declared.kinds.RiskType.TheVariants as kind
+use Rattle.simm_kinds.specs.declared.row.CrifRow.{CrifRow}
+use Rattle.simm_kinds.specs.declared.row.TradeRows.{TradeRows}
+use Rattle.simm_kinds.specs.Batch.{rows_of, IsBatch, is_misplaced, single_params}
+use Rattle.simm_kinds.specs.Key.{is_key}
+use Rattle.simm_kinds.specs.Order.{same_name, same_key, same_kind}
+use Rattle.simm_kinds.specs.Repeats.{repeats}
+use Rattle.simm_rules.specs.Params.{Params}
+use Rattle.simm_rules.specs.Net.{all_fx}
+use Rattle.simm_rules.specs.Range.{range}
+use Rattle.simm_params.specs.Facts.{IsParams}
+use Rattle.simm_plain.specs.FxKeys.{FxRows}
+use Rattle.simm_plain.specs.Nets.{AreRows}
+use Rattle.simm_plain.proofs.Filters.{each_passes}
+use Rattle.simm_plain.proofs.Fewer.{IsPart, done, skip, keep, no_part, front_part, range-part}
+use Rattle.simm_plain.proofs.Keys.{fx_rows_from}
+use Rattle.bucket_cache.specs.Live.{put_trades, without, IsLive}
+use Rattle.bucket_cache.specs.Entries.{names_of, trade_of, trades_of}
+use Rattle.bucket_cache.proofs.Puts.{rows_pass, all_puts, count_puts}
+use Rattle.bucket_cache.proofs.Sizes.{few_rows, trades_within}
+
+-- ---- batches
+
+none_else : {A : Type 0} (b : Bool) (x : A) (o : Option A) → (if b then Some x else o) ≡ None → (b ≡ false) × (o ≡ None)
+none_else true x o h = absurd (cc)
+none_else false x o h = (refl, h)
+
+none_empty : {X : Type 0} (p : X → Bool) (xs : List X) → list_any p xs ≡ false → list_all (λ x. not (p x)) xs ≡ true
+none_empty p [] h = refl
+none_empty p (x ∷ xs) h =
+    let parts = or_parts (p x) (list_any p xs) h in
+    and_from (not (p x)) (list_all (λ y. not (p y)) xs) (ap not parts.0) (none_empty p xs parts.1)
+
+-- of a batch: different names, few rows, and each trade has one
+pub record BatchFacts (ts : List TradeRows) : Type 0 where
+  pub once : repeats same_name (names_of ts) ≡ false
+  pub few : length (rows_of ts) ≤ 100000
+  pub filled : list_all (λ t. not (length t.rows == 0)) ts ≡ true
+
+pub batch_facts : (ts : List TradeRows) → IsBatch ts → BatchFacts ts
+batch_facts ts h =
+    let some = none_else (length ts == 0) fault.Empty _ h in
+    let once = none_else (repeats same_name (names_of ts) || repeats same_key (single_params ts)) fault.Same _ some.1 in
+    let few = none_else (nat_lt 100000 (length (rows_of ts))) fault.TooManyRows _ once.1 in
+    let placed = none_else (list_any is_misplaced ts) fault.Place _ few.1 in
+    let filled = none_else (list_any (λ (t : TradeRows). length t.rows == 0) ts) fault.EmptyTrade _ placed.1 in
+    record {
+      once = (or_parts (repeats same_name (names_of ts)) (repeats same_key (single_params ts)) once.0).0;
+      few = ltb-false 100000 (length (rows_of ts)) few.0;
+      filled = none_empty (λ (t : TradeRows). length t.rows == 0) ts filled.0;
+    }
+
+pub few_in_batch : (ts : List TradeRows) → IsBatch ts → length ts ≤ 100000
+few_in_batch ts h = let facts = batch_facts ts h in omega (arith, trades_within ts facts.filled, facts.few)
+
+-- ---- after a batch
+
+pub fx_after : (p : Params) (ts us : List TradeRows) → all_fx (rows_of ts) ≡ true → IsLive p us → all_fx (rows_of (put_trades ts us)) ≡ true
+fx_after p ts us fx live = rows_pass (λ r. same_kind r.key.kind kind.Fx) ts us fx live.fx
+
+pub few_after : (p : Params) (ts us : List TradeRows) → IsBatch ts → IsLive p us → length (rows_of (put_trades ts us)) ≤ 300000
+few_after p ts us batch live = omega (arith, count_puts ts us, (batch_facts ts batch).few, few_rows p (rows_of us) live.in_range)
+
+pub live_after : (p : Params) (ts us : List TradeRows) → IsBatch ts → all_fx (rows_of ts) ≡ true → IsLive p us → list_all (λ r. is_key r.key) (rows_of (put_trades ts us)) ≡ true → range p (rows_of (put_trades ts us)) ≡ None → IsLive p (put_trades ts us)
+live_after p ts us batch fx live keys none = record {
+  fx = fx_after p ts us fx live;
+  keys = keys;
+  filled = all_puts (λ rows. not (length rows == 0)) ts us (batch_facts ts batch).filled live.filled;
+  in_range = none;
+}
+
+pub keys_pass : (rows : List CrifRow) → AreRows rows → list_all (λ r. is_key r.key) rows ≡ true
+keys_pass [] h = refl
+keys_pass (r ∷ rows) h = and_from (is_key r.key) (list_all (λ x. is_key x.key) rows) h.0.key (keys_pass rows h.1)
+
+-- ---- without some trades
+
+all-part : {X : Type 0} (test : X → Bool) (xs ys : List X) → IsPart xs ys → list_all test ys ≡ true → list_all test xs ≡ true
+all-part test _ _ done h = h
+all-part test _ _ (skip y xs ys s) h = all-part test xs ys s (and_parts (test y) (list_all test ys) h).1
+all-part test _ _ (keep x xs ys s) h =
+    let parts = and_parts (test x) (list_all test ys) h in and_from (test x) (list_all test xs) parts.0 (all-part test xs ys s parts.1)
+
+kept_part : {X : Type 0} (b : Bool) (x : X) (xs ys : List X) → IsPart xs ys → IsPart (cond b (x ∷ xs) xs) (x ∷ ys)
+kept_part true x xs ys h = keep x xs ys h
+kept_part false x xs ys h = skip x xs ys h
+
+filter_part : {X : Type 0} (test : X → Bool) (xs : List X) → IsPart (filter test xs) xs
+filter_part test [] = done
+filter_part test (x ∷ xs) = kept_part (test x) x (filter test xs) xs (filter_part test xs)
+
+kept_rows : (b : Bool) (t : TradeRows) (ts us : List TradeRows) → IsPart (rows_of ts) (rows_of us) → IsPart (rows_of (cond b (t ∷ ts) ts)) (t.rows ++ rows_of us)
+kept_rows true t ts us h = front_part t.rows (rows_of ts) (rows_of us) h
+kept_rows false t ts us h = no_part t.rows (rows_of ts) (rows_of us) h
+
+rows_part : (test : TradeRows → Bool) (ts : List TradeRows) → IsPart (rows_of (filter test ts)) (rows_of ts)
+rows_part test [] = done
+rows_part test (t ∷ ts) = kept_rows (test t) t (filter test ts) ts (rows_part test ts)
+
+pub live_without : (p : Params) (names : List (List ℕ)) (us : List TradeRows) → IsParams p → IsLive p us → IsLive p (without names us)
+live_without p names us facts live =
+    let kept : TradeRows → Bool = λ t. not (list_any (same_name t.trade) names) in
+    let part : IsPart (rows_of (filter kept us)) (rows_of us) = rows_part kept us in
+    let fx : FxRows (rows_of us) = fx_rows_from (rows_of us) (each_passes (λ (r : CrifRow). is_key r.key) (λ r. is_key r.key ≡ true) (λ r h. h) (rows_of us) live.keys) live.fx in
+    record {
+      fx = all-part (λ (r : CrifRow). same_kind r.key.kind kind.Fx) (rows_of (filter kept us)) (rows_of us) part live.fx;
+      keys = all-part (λ (r : CrifRow). is_key r.key) (rows_of (filter kept us)) (rows_of us) part live.keys;
+      filled = all-part (λ (t : TradeRows). not (length t.rows == 0)) (filter kept us) us (filter_part kept us) live.filled;
+      in_range = range-part p (rows_of (filter kept us)) (rows_of us) facts part fx live.in_range;
+    }
+
+kept_entry : (s b : Bool) (e : List ℕ × List CrifRow) (es : List (List ℕ × List CrifRow)) (us : List TradeRows) → s ≡ b → trades_of es ≡ us → trades_of (cond (not s) (e ∷ es) es) ≡ cond (not b) (trade_of e ∷ us) us
+kept_entry true true e es us same h = h
+kept_entry false false e es us same h = ap (λ xs. trade_of e ∷ xs) h
+kept_entry true false e es us same h = absurd (cc)
+kept_entry false true e es us same h = absurd (cc)
+
+-- the entries that are kept hold the trades without those names
+pub without-trades_of : (among : List ℕ → Bool) (names : List (List ℕ)) (es : List (List ℕ × List CrifRow)) → ((name : List ℕ) → among name ≡ list_any (same_name name) names) → trades_of (filter (λ e. not (among e.0)) es) ≡ without names (trades_of es)
+without-trades_of among names [] same = refl
+without-trades_of among names (e ∷ es) same =
+    kept_entry (among e.0) (list_any (same_name e.0) names) e (filter (λ x. not (among x.0)) es) (without names (trades_of es)) (same e.0) (without-trades_of among names es same)

@@ -1,0 +1,31 @@
+use Rattle.std.proofs.Common.{◌≡◌, ◌∙◌, List, Result, Ok, Err, IfOk, ap}
+use Rattle.simm_kinds.specs.declared.row.CrifRow.{CrifRow}
+use Rattle.simm_kinds.specs.Batch.{rows_of}
+use Rattle.simm_rules.specs.declared.values.Breakdown.{Breakdown}
+use Rattle.simm_rules.specs.Params.{Params}
+use Rattle.simm_rules.specs.Net.{all_fx}
+use Rattle.simm_rules.specs.Range.{range}
+use Rattle.simm_rules.specs.Simm.{simm}
+use Rattle.simm_plain.specs.Lent.{all_rows}
+use Rattle.bucket_cache.specs.Live.{Live}
+use Rattle.bucket_cache.specs.Entries.{trades_of}
+use Rattle.bucket_cache.proofs.Puts.{lent_rows}
+use Rattle.bucket_cache.proofs.live.LiveMargin.margin.Goals as goal
+
+same_margin : {E : Type 0} (p q : Params) (xs ys : List CrifRow) (r : Result Breakdown E) → p ≡ q → xs ≡ ys → IfOk r (λ b. b ≡ simm p xs) → IfOk r (λ b. b ≡ simm q ys)
+same_margin p q xs ys (Ok b) e d h = h ∙ ap (λ x. simm x xs) e ∙ ap (simm q) d
+same_margin p q xs ys (Err f) e d h = h
+
+pub margin_in_range-requires-clause-fx : goal.margin_in_range-requires-clause-fx
+margin_in_range-requires-clause-fx c =
+    ap all_fx (ap all_rows c.as_slice.ensures.value ∙ lent_rows c.in_ok-lent.lent.items (trades_of c.self.inside.trades.entries) c.in_ok-lent.ensures) ∙ c.self.invariant.fx
+
+pub margin_in_range-requires-clause-in_range : goal.margin_in_range-requires-clause-in_range
+margin_in_range-requires-clause-in_range c =
+    ap (range c.self.inside.params) (ap all_rows c.as_slice.ensures.value ∙ lent_rows c.in_ok-lent.lent.items (trades_of c.self.inside.trades.entries) c.in_ok-lent.ensures) ∙ c.self.invariant.in_range
+
+pub returns-clause-value : goal.returns-clause-value
+returns-clause-value c =
+    same_margin c.self.inside.params c.args.self.now.params _ _ c.margin_in_range.result (ap (λ (l : Live). l.params) c.self.view_is)
+    (ap all_rows c.as_slice.ensures.value ∙ lent_rows c.in_ok-lent.lent.items (trades_of c.self.inside.trades.entries) c.in_ok-lent.ensures ∙ ap (λ (l : Live). rows_of l.book) c.self.view_is)
+    c.margin_in_range.ensures

@@ -1,0 +1,90 @@
+//! Changes of the current trades, none of which needs memory.
+ghost use Rattle.std.specs.Prelude.{◌≡◌, ◌+◌, ◌≤◌, ◌<◌, ◌^◌, ℕ, List, length, not, position, IfOk};
+ghost use Rattle.std.specs.List.{list_any, filter};
+ghost use Rattle.indexmap.specs.IndexMap.{spare};
+ghost use Rattle.simm_kinds.specs.Order.{same_name};
+ghost use Rattle.bucket_cache.specs.Live.{put_trade, put_trades, is_current, first_unknown};
+ghost use Rattle.bucket_cache.specs.Entries.{trades_of, is_among};
+
+use indexmap::{IndexMap, IndexSet};
+use simm_kinds::{CrifRow, Listed, Name, TradeRows};
+use std::alloc::{AllocError, Global};
+
+/// Copies the trades.
+pub fn copies_of(alloc: Global, trades: &[TradeRows]) -> Result<Vec<TradeRows>, AllocError>
+    ensures { IfOk result (λ copies. copies.items ≡ trades.now) }
+{
+    let mut copies = Vec::with_capacity(alloc, trades.len())?;
+    for trade in trades {
+        copies.push(trade.copy(alloc)?)?;
+    }
+    Ok(copies)
+}
+
+/// Puts the trades, for which there is room.
+pub fn put_all(current: &mut IndexMap<Name, Listed<CrifRow>>, trades: Vec<TradeRows>)
+    requires { length trades.items ≤ spare current.old }
+    ensures { trades_of current.new.entries ≡ put_trades trades.items (trades_of current.old.entries) }
+{
+    for trade in trades {
+        put_one(current, trade);
+    }
+}
+
+// Puts one trade.
+fn put_one(current: &mut IndexMap<Name, Listed<CrifRow>>, put: TradeRows)
+    requires { 0 < spare current.old }
+    ensures put { trades_of current.new.entries ≡ put_trade put (trades_of current.old.entries) }
+    ensures room { spare current.old ≤ spare current.new + 1 }
+{
+    let TradeRows { trade, rows } = put;
+    current.insert(trade, rows).unwrap();
+}
+
+/// The place, from 1, of the first name that is not current.
+pub fn first_unknown(current: &IndexMap<Name, Listed<CrifRow>>, names: &[Name]) -> Option<u64>
+    ensures { result ≡ first_unknown names.now (trades_of current.now.entries) }
+{
+    let index = unknown_index(current, names)?;
+    Some(index as u64 + 1)
+}
+
+fn unknown_index(current: &IndexMap<Name, Listed<CrifRow>>, names: &[Name]) -> Option<usize>
+    ensures { result ≡ position (λ name. not (is_current (trades_of current.now.entries) name)) names.now }
+{
+    names.iter().position(|name| !is_current(current, name))
+}
+
+fn is_current(current: &IndexMap<Name, Listed<CrifRow>>, name: &Name) -> bool
+    ensures { result ≡ is_current (trades_of current.now.entries) name.now }
+{
+    current.contains_key(name)
+}
+
+/// The different names.
+pub fn set_of(alloc: Global, names: &[Name]) -> Result<IndexSet<&Name>, AllocError>
+    ensures { IfOk result (λ set. (name : List ℕ) → is_among set.keys name ≡ list_any (same_name name) names.now) }
+{
+    let mut set = IndexSet::with_capacity(alloc, names.len())?;
+    for name in names {
+        set.insert(name)?;
+    }
+    Ok(set)
+}
+
+/// Keeps the trades whose names are not in the set.
+pub fn keep_others(current: &mut IndexMap<Name, Listed<CrifRow>>, set: &IndexSet<&Name>)
+    ensures { current.new.entries ≡ filter (λ e. not (is_among set.now.keys e.0)) current.old.entries }
+{
+    current.retain(
+        |name: &Name, rows: &mut Listed<CrifRow>| -> bool
+            ensures { (result ≡ not (is_among set.entry.now.keys name.now)) × (rows.new ≡ rows.old) }
+        { !has_name(set, name) },
+    );
+}
+
+fn has_name(set: &IndexSet<&Name>, name: &Name) -> bool
+    ensures { result ≡ is_among set.now.keys name.now }
+{
+    set.contains(&name)
+}
