@@ -1,4 +1,3 @@
-pub mod LinesLemmas
 pub mod FileLemmas
 pub mod PrintLemmas
 pub mod CalcLemmas

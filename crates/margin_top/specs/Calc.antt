@@ -18,7 +18,8 @@ use Rattle.margin_top.specs.declared.fault.FileFault.{FileFault}
 use Rattle.margin_top.specs.declared.fault.FileFault.TheVariants as file
 use Rattle.margin_top.specs.declared.fault.CalcFault.{CalcFault}
 use Rattle.margin_top.specs.declared.fault.CalcFault.TheVariants as fault
-use Rattle.margin_top.specs.Lines.{margin_text, params_fault, crif_fault, refused_fault, find_fault, read_fault, long_fault}
+use Rattle.margin_text.specs.Margins.{margin_text}
+use Rattle.margin_top.specs.Lines.{params_fault, crif_fault, refused_fault, find_fault, read_fault, long_fault}
 use Rattle.margin_top.specs.Files.{FolderSeen, no_deeds, with_reading, Did, IsWhole, Failed}
 
 -- what is seen of a sink: what it holds, where it tells, and its count of faults

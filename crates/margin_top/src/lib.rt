@@ -5,7 +5,6 @@ mod calculation;
 mod fault;
 mod file;
 mod house;
-mod margin_lines;
 mod margin_of;
 mod printing;
 mod status;

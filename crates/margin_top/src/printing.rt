@@ -1,10 +1,10 @@
 ghost use Rattle.std.specs.Prelude.{◌≡◌, ◌≤◌, ◌++◌};
-ghost use Rattle.margin_top.specs.Lines.{last_field};
+ghost use Rattle.margin_text.specs.Fields.{last_field};
 ghost use Rattle.margin_top.specs.Calc.{SinkSeen, GotLine, MarginPrints, status_of, status_of_file, line_of_file, fault_text};
 
 use crate::fault::{CalcFault, FileFault};
-use crate::margin_lines::margin_lines;
 use crate::status::Status;
+use margin_text::margin_lines;
 use mh_io::{Sink, put_all};
 use simm_rules::Breakdown;
 use std::alloc::Global;

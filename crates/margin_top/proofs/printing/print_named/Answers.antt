@@ -1,5 +1,5 @@
 use Rattle.std.proofs.Common.{[], ◌∷◌, ◌++◌, ◌∙◌, sym, subst}
-use Rattle.margin_top.specs.Lines.{last_field}
+use Rattle.margin_text.specs.Fields.{last_field}
 use Rattle.margin_top.specs.Calc.{SinkSeen, GotLine}
 use Rattle.margin_top.proofs.PrintLemmas.{put_failed, put_went, got_line_after}
 use Rattle.margin_top.proofs.printing.print_named.Goals as goal

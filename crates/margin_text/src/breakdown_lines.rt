@@ -1,29 +1,13 @@
-ghost use Rattle.std.specs.Prelude.{◌≡◌, ◌++◌, ◌∷◌, [], OnOk, IfOk, length, codes, if◌then◌else◌};
-ghost use Rattle.mh_units.specs.Money.{money_text};
-ghost use Rattle.simm_kinds.specs.Kinds.{product_word, class_word};
+ghost use Rattle.std.specs.Prelude.{◌≡◌, ◌++◌, OnOk, IfOk, length};
 ghost use Rattle.simm_rules.specs.Simm.{products, classes};
-ghost use Rattle.margin_top.specs.Lines.{field, last_field, amount_line, class_fields, class_lines, product_lines, all_product_lines, margin_text};
+ghost use Rattle.margin_text.specs.Fields.{field, amount_line};
+ghost use Rattle.margin_text.specs.Margins.{class_fields, class_lines, product_lines, all_product_lines, part_lines, margin_text};
 
-use mh_units::{Cents, Text, write_cents};
+use crate::pieces::{push_amount, push_field};
+use mh_units::Text;
 use simm_kinds::{ProductClass, RiskClass};
 use simm_rules::Breakdown;
 use std::alloc::{AllocError, Global};
-
-/// Adds a field that another follows.
-fn push_field(text: &mut Text, bytes: &[u8]) -> Result<(), AllocError>
-    ensures { OnOk result (text.new ≡ text.old ++ field bytes.now) }
-{
-    text.extend(bytes)?;
-    text.push(b'\t')
-}
-
-/// Adds an amount as the last field of a line.
-fn push_amount(alloc: Global, text: &mut Text, cents: i128) -> Result<(), AllocError>
-    ensures { OnOk result (text.new ≡ text.old ++ last_field (money_text cents)) }
-{
-    text.extend(write_cents(alloc, Cents(cents))?.as_slice())?;
-    text.push(b'\n')
-}
 
 /// Adds the line of an add-on, where it isn't 0.
 fn push_add_on(alloc: Global, text: &mut Text, word: &[u8], cents: i128) -> Result<(), AllocError>
@@ -107,17 +91,34 @@ fn push_products(alloc: Global, text: &mut Text, margin: &Breakdown) -> Result<(
     Ok(())
 }
 
-/// The lines of a margin: the whole, and each of its parts that isn't 0.
-#[tactic(auto, unfolding(crate::specs::Lines::margin_text))]
-pub(crate) fn margin_lines(alloc: Global, margin: &Breakdown) -> Result<Text, AllocError>
+/// Adds the lines of a margin's parts that aren't 0.
+#[tactic(auto, unfolding(crate::specs::Margins::part_lines))]
+pub(crate) fn push_parts(
+    alloc: Global,
+    text: &mut Text,
+    margin: &Breakdown,
+) -> Result<(), AllocError>
+    ensures { OnOk result (text.new ≡ text.old ++ part_lines margin.now) }
+{
+    push_products(alloc, text, margin)?;
+    push_add_on(alloc, text, b"FIXED", margin.fixed)?;
+    push_add_on(alloc, text, b"NOTIONAL", margin.notional)?;
+    push_add_on(alloc, text, b"MULTIPLIER", margin.multiplier)?;
+    Ok(())
+}
+
+/// The lines of a margin: the whole, and each of its parts that isn't 0: the products with their risk classes, then the
+/// add-ons. Amounts are in units of money with two digits.
+///
+/// # Errors
+///
+/// For want of memory alone.
+pub fn margin_lines(alloc: Global, margin: &Breakdown) -> Result<Text, AllocError>
     ensures { IfOk result (λ text. text ≡ margin_text margin.now) }
 {
     let mut text = Text::new(alloc);
     push_field(&mut text, b"MARGIN")?;
     push_amount(alloc, &mut text, margin.total)?;
-    push_products(alloc, &mut text, margin)?;
-    push_add_on(alloc, &mut text, b"FIXED", margin.fixed)?;
-    push_add_on(alloc, &mut text, b"NOTIONAL", margin.notional)?;
-    push_add_on(alloc, &mut text, b"MULTIPLIER", margin.multiplier)?;
+    push_parts(alloc, &mut text, margin)?;
     Ok(text)
 }

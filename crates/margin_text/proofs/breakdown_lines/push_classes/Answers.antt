@@ -3,8 +3,8 @@ use Rattle.std.proofs.lemmas.Int.{to_z-of_z}
 use Rattle.std.specs.Int.{w128}
 use Rattle.simm_kinds.specs.declared.kinds.RiskClass.TheVariants as class
 use Rattle.simm_rules.specs.Simm.{classes}
-use Rattle.margin_top.proofs.LinesLemmas.{class_step}
-use Rattle.margin_top.proofs.margin_lines.push_classes.Goals as goal
+use Rattle.margin_text.proofs.MarginLemmas.{class_step}
+use Rattle.margin_text.proofs.breakdown_lines.push_classes.Goals as goal
 
 pub loop-i-preserved : goal.loop-i-preserved
 loop-i-preserved c =

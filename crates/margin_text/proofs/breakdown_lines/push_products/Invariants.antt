@@ -1,7 +1,7 @@
 use Rattle.std.proofs.Common.{◌≡◌, ◌++◌, ◌*◌, drop}
 use Rattle.simm_rules.specs.Simm.{products}
-use Rattle.margin_top.specs.Lines.{all_product_lines}
-use Rattle.margin_top.proofs.margin_lines.push_products.Given as goal
+use Rattle.margin_text.specs.Margins.{all_product_lines}
+use Rattle.margin_text.proofs.breakdown_lines.push_products.Given as goal
 
 -- the text so far and the lines of what is left are those of all
 abbrev pub invariant-loop-i : goal.invariant-loop-i

@@ -3,7 +3,8 @@ use Rattle.std.proofs.Common.{◌≡◌, ℕ, ◌+◌, ◌*◌, ◌<◌, List, �
 use Rattle.std.proofs.lemmas.List.{drop_more, drop-drop}
 use Rattle.simm_kinds.specs.declared.kinds.ProductClass.{ProductClass}
 use Rattle.simm_kinds.specs.declared.kinds.RiskClass.{RiskClass}
-use Rattle.margin_top.specs.Lines.{amount_line, class_fields, class_lines, product_lines, all_product_lines}
+use Rattle.margin_text.specs.Fields.{amount_line}
+use Rattle.margin_text.specs.Margins.{class_fields, class_lines, product_lines, all_product_lines}
 
 -- the line of the class at i, and then the lines of the classes behind it
 pub class_step : (product : ProductClass) (cs : List RiskClass) (ms : List ℤ) (i : ℕ) (d : RiskClass) (m : ℤ) (text new : List ℕ) → i < length cs → i < length ms → m ≡ get_or ms i (pos 0) → new ≡ text ++ amount_line (class_fields product (get_or cs i d)) m → new ++ class_lines product (drop (i + 1) cs) (drop (i + 1) ms) ≡ text ++ class_lines product (drop i cs) (drop i ms)
@@ -33,6 +34,8 @@ product_step ps ms by i n d m text new p q six e h =
     ∙ ap (λ k. product_lines product m (take k b) ++ z) (sym six)))) in
     ap (λ xs. xs ++ z) h ∙ (append_assoc text l z ∙ ap (λ xs. text ++ xs) (sym lines))
 
--- pieces added one after another to an empty text
-pub pieces : (a b c d e f t1 t2 t3 t4 t5 t6 : List ℕ) → t1 ≡ a → t2 ≡ t1 ++ b → t3 ≡ t2 ++ c → t4 ≡ t3 ++ d → t5 ≡ t4 ++ e → t6 ≡ t5 ++ f → t6 ≡ a ++ b ++ c ++ d ++ e ++ f
-pieces a b c d e f t1 t2 t3 t4 t5 t6 e1 e2 e3 e4 e5 e6 = cc
+-- four pieces added one after another
+pub pieces : (a b c d t0 t1 t2 t3 t4 : List ℕ) → t1 ≡ t0 ++ a → t2 ≡ t1 ++ b → t3 ≡ t2 ++ c → t4 ≡ t3 ++ d → t4 ≡ t0 ++ (a ++ b ++ c ++ d)
+pieces a b c d t0 t1 t2 t3 t4 e1 e2 e3 e4 =
+    let together : ((t0 ++ a) ++ b) ++ c ++ d ≡ t0 ++ (a ++ b ++ c ++ d) = simp append_assoc in
+    e4 ∙ (ap (λ t. t ++ d) (e3 ∙ ap (λ t. t ++ c) (e2 ∙ ap (λ t. t ++ b) e1)) ∙ together)

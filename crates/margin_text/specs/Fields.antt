@@ -1,0 +1,18 @@
+-- The printed text: fields parted by one tab, and LF at the end of each line.
+use Rattle.std.specs.Prelude.{ℕ, ◌==◌, List, [], ◌∷◌, ◌++◌, ℤ, unsigned_abs, Bool, if◌then◌else◌}
+use Rattle.mh_units.specs.Money.{money_text}
+
+-- a field that another follows
+abbrev pub field : List ℕ → List ℕ
+field bytes = bytes ++ 9 ∷ []
+
+-- the last field of a line
+abbrev pub last_field : List ℕ → List ℕ
+last_field bytes = bytes ++ 10 ∷ []
+
+abbrev pub is_zero : ℤ → Bool
+is_zero amount = unsigned_abs amount == 0
+
+-- a line with an amount, only where the amount isn't 0
+abbrev pub amount_line : List ℕ → ℤ → List ℕ
+amount_line fields amount = if is_zero amount then [] else fields ++ last_field (money_text amount)

@@ -1,0 +1,46 @@
+-- The journal of a netting set: a line for the set, then each entry with its number from 1. Under an entry's line stand the
+-- trades and rows of a submit, or the parts of a margin.
+use Rattle.std.specs.Prelude.{ℕ, ◌+◌, List, [], ◌∷◌, ◌++◌, length, codes, decimal}
+use Rattle.std.specs.List.{flat_map}
+use Rattle.simm_kinds.specs.Batch.{rows_of}
+use Rattle.held_cell.specs.declared.entry.Entry.{Entry}
+use Rattle.set_core.specs.declared.event.Event.{Event}
+use Rattle.set_core.specs.declared.event.Event.TheVariants as event
+use Rattle.set_core.specs.declared.reply.Reply.{Reply}
+use Rattle.set_core.specs.declared.reply.Reply.TheVariants as reply
+use Rattle.set_core.specs.Text.{reply_text}
+use Rattle.margin_text.specs.Fields.{field, last_field}
+use Rattle.margin_text.specs.Margins.{part_lines}
+use Rattle.margin_text.specs.Rows.{trade_lines}
+
+-- a submit with the numbers of its trades and of their rows; a withdrawal with the number of its names and each of them
+abbrev pub event_fields : Event → List ℕ
+event_fields (event.Submit trades) = field (codes "SUBMIT") ++ field (decimal (length trades)) ++ field (decimal (length (rows_of trades)))
+event_fields (event.Withdraw names) = field (codes "WITHDRAW") ++ field (decimal (length names)) ++ flat_map field names
+event_fields event.AskMargin = field (codes "ASK")
+
+-- the lines of an event under its entry's line
+abbrev pub event_lines : Event → List ℕ
+event_lines (event.Submit trades) = flat_map trade_lines trades
+event_lines _ = []
+
+-- the lines of a reply under its entry's line
+abbrev pub reply_lines : Reply → List ℕ
+reply_lines (reply.Margin b) = part_lines b
+reply_lines _ = []
+
+-- the entry's number, who called with what, and the reply
+abbrev pub entry_line : ℕ → Entry Event Reply → List ℕ
+entry_line number e =
+    field (decimal number) ++ field (decimal e.caller) ++ event_fields e.event ++ field (codes "=") ++ last_field (reply_text e.reply)
+
+abbrev pub entry_lines : ℕ → Entry Event Reply → List ℕ
+entry_lines number e = entry_line number e ++ event_lines e.event ++ reply_lines e.reply
+
+-- the entries in order, numbered from a number on
+abbrev pub numbered_lines : ℕ → List (Entry Event Reply) → List ℕ
+numbered_lines number [] = []
+numbered_lines number (e ∷ log) = entry_lines number e ++ numbered_lines (number + 1) log
+
+abbrev pub journal_text : List ℕ → List (Entry Event Reply) → List ℕ
+journal_text name log = field (codes "SET") ++ field name ++ last_field (decimal (length log)) ++ numbered_lines 1 log

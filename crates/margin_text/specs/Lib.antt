@@ -1,0 +1,6 @@
+pub mod Fields
+pub mod Margins
+pub mod KindWords
+pub mod Rows
+pub mod Journal
+pub mod Feeds

@@ -1,0 +1,14 @@
+//! Printed text: the lines of a margin, of a set's journal and of a feed's report.
+#![tactic(auto)]
+
+mod breakdown_lines;
+mod entry_parts;
+mod feed_lines;
+mod kind_words;
+mod pieces;
+mod set_journal;
+mod trade_parts;
+
+pub use breakdown_lines::margin_lines;
+pub use feed_lines::report_text;
+pub use set_journal::journal_text;

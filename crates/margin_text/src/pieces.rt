@@ -1,0 +1,47 @@
+//! Fields and the ends of lines, added to a text that grows.
+ghost use Rattle.std.specs.Prelude.{◌≡◌, ◌++◌, OnOk, decimal};
+ghost use Rattle.mh_units.specs.Money.{money_text};
+ghost use Rattle.margin_text.specs.Fields.{field, last_field};
+
+use itoa::Buffer;
+use mh_units::{Cents, Text, write_cents};
+use std::alloc::{AllocError, Global};
+
+/// Adds a field that another follows.
+pub(crate) fn push_field(text: &mut Text, bytes: &[u8]) -> Result<(), AllocError>
+    ensures { OnOk result (text.new ≡ text.old ++ field bytes.now) }
+{
+    text.extend(bytes)?;
+    text.push(b'\t')
+}
+
+/// Adds the last field of a line.
+pub(crate) fn push_last(text: &mut Text, bytes: &[u8]) -> Result<(), AllocError>
+    ensures { OnOk result (text.new ≡ text.old ++ last_field bytes.now) }
+{
+    text.extend(bytes)?;
+    text.push(b'\n')
+}
+
+/// Adds a whole number as a field that another follows.
+pub(crate) fn push_number(text: &mut Text, number: u64) -> Result<(), AllocError>
+    ensures { OnOk result (text.new ≡ text.old ++ field (decimal number)) }
+{
+    let mut digits = Buffer::new();
+    push_field(text, digits.format(number).as_bytes())
+}
+
+/// Adds a whole number as the last field of a line.
+pub(crate) fn push_last_number(text: &mut Text, number: u64) -> Result<(), AllocError>
+    ensures { OnOk result (text.new ≡ text.old ++ last_field (decimal number)) }
+{
+    let mut digits = Buffer::new();
+    push_last(text, digits.format(number).as_bytes())
+}
+
+/// Adds an amount as the last field of a line.
+pub(crate) fn push_amount(alloc: Global, text: &mut Text, cents: i128) -> Result<(), AllocError>
+    ensures { OnOk result (text.new ≡ text.old ++ last_field (money_text cents)) }
+{
+    push_last(text, write_cents(alloc, Cents(cents))?.as_slice())
+}

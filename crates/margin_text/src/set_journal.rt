@@ -1,0 +1,39 @@
+ghost use Rattle.std.specs.Prelude.{◌≡◌, ◌++◌, OnOk, IfOk};
+ghost use Rattle.margin_text.specs.Journal.{numbered_lines, journal_text};
+
+use crate::entry_parts::push_entry;
+use crate::pieces::{push_field, push_last_number};
+use mh_units::Text;
+use set_core::SetState;
+use simm_kinds::Name;
+use std::alloc::{AllocError, Global};
+
+/// Adds all entries of a set's journal.
+fn push_entries(alloc: Global, text: &mut Text, set: &SetState) -> Result<(), AllocError>
+    ensures { OnOk result (text.new ≡ text.old ++ numbered_lines 1 set.now.journal) }
+{
+    set.facts();
+    for index in 0..set.entries() {
+        if let Some(entry) = set.entry(index + 1) {
+            push_entry(alloc, text, index + 1, entry)?;
+        }
+    }
+    Ok(())
+}
+
+/// The printed journal of a netting set: its name and how many entries it has, then each entry with its number from 1,
+/// its caller, event and reply. Under an entry stand the trades and rows of a submit, or the parts of a margin.
+///
+/// # Errors
+///
+/// For want of memory alone.
+pub fn journal_text(alloc: Global, set: &SetState, name: &Name) -> Result<Text, AllocError>
+    ensures { IfOk result (λ text. text ≡ journal_text name.now set.now.journal) }
+{
+    let mut text = Text::new(alloc);
+    push_field(&mut text, b"SET")?;
+    push_field(&mut text, name.bytes())?;
+    push_last_number(&mut text, u64::from(set.entries()))?;
+    push_entries(alloc, &mut text, set)?;
+    Ok(text)
+}
