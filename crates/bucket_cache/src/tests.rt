@@ -7,7 +7,6 @@ use simm_kinds::{
     Batch, BucketId, CrifRow, FactorKey, Listed, Name, ProductClass, RiskType, TradeRows,
 };
 use simm_params::{Params, read_params};
-use simm_rules::{RangeFault, RangeKind};
 use std::alloc::Global;
 use std::test::Fail;
 
@@ -55,41 +54,102 @@ fn batch(alloc: Global, trade: TradeRows) -> Result<Batch, Fail>
     Ok(Batch::make(alloc, trades).ok().ok_or("a batch")?)
 }
 
-/// Submits one trade of one row.
+/// What is done to a live margin.
+#[derive(Clone, Copy)]
+enum Event {
+    /// A batch of one trade with one row: its name, currency and amount.
+    Put(&'static str, &'static str, i64),
+    /// A withdrawal of two names.
+    TakeOut(&'static str, &'static str),
+}
+
+#[derive(Clone, Copy, PartialEq, Eq)]
+enum Answer {
+    Done,
+    /// The weighted sizes of the book would have this value.
+    Above(i128),
+    Unknown(u64),
+    Memory,
+}
+
+/// Each event, what it answers, and the whole margin and the number of trades afterwards.
+///
+/// 740,000 and -370,000 have the pair sum 410,700,000,000 at 0.5, and 640,858^2 < 410,700,000,000 < 640,859^2; at twice
+/// the first it is 1,779,700,000,000, between 1,334,053^2 and 1,334,054^2. BRL is of high volatility with the weight
+/// 10: 10^12 cents are weighted to 10^13, the limit itself.
+const EVENTS: [(Event, Answer, i128, u32); 11] = [
+    (Event::Put("T1", "EUR", 100_000), Answer::Done, 740_000, 1),
+    (Event::Put("T2", "GBP", -50_000), Answer::Done, 640_859, 2),
+    (Event::Put("T1", "EUR", 200_000), Answer::Done, 1_334_054, 2),
+    (Event::Put("T2", "USD", 5), Answer::Done, 1_480_000, 2),
+    (Event::TakeOut("T1", "T9"), Answer::Unknown(2), 1_480_000, 2),
+    (Event::TakeOut("T2", "T2"), Answer::Done, 1_480_000, 1),
+    (
+        Event::Put("T2", "BRL", 1_000_000_000_000),
+        Answer::Above(10_000_001_480_000),
+        1_480_000,
+        1,
+    ),
+    (
+        Event::Put("T1", "BRL", 1_000_000_000_000),
+        Answer::Done,
+        100_000_000_000_000,
+        1,
+    ),
+    (
+        Event::TakeOut("T2", "T1"),
+        Answer::Unknown(1),
+        100_000_000_000_000,
+        1,
+    ),
+    (Event::TakeOut("T1", "T1"), Answer::Done, 0, 0),
+    (Event::TakeOut("T1", "T1"), Answer::Unknown(1), 0, 0),
+];
+
+fn answer_to(alloc: Global, live: &mut LiveMargin, event: Event) -> Result<Answer, Fail> {
+    match event {
+        Event::Put(name, currency, amount) => put(alloc, live, name, currency, amount),
+        Event::TakeOut(first, second) => take_out(alloc, live, first, second),
+    }
+}
+
 fn put(
     alloc: Global,
     live: &mut LiveMargin,
     name: &str,
     currency: &str,
     amount: i64,
-) -> Result<Result<(), SubmitFault>, Fail> {
+) -> Result<Answer, Fail> {
     let trade = trade(alloc, name, currency, amount)?;
     let batch = batch(alloc, trade)?;
-    Ok(live.submit(alloc, batch.trades()))
+    Ok(submitted(live.submit(alloc, batch.trades())))
 }
 
-/// Withdraws two names.
+fn submitted(answer: Result<(), SubmitFault>) -> Answer {
+    match answer {
+        Ok(()) => Answer::Done,
+        Err(SubmitFault::Range(fault)) => Answer::Above(fault.value),
+        Err(SubmitFault::Memory) => Answer::Memory,
+    }
+}
+
 fn take_out(
     alloc: Global,
     live: &mut LiveMargin,
     first: &str,
     second: &str,
-) -> Result<Result<(), WithdrawFault>, Fail> {
+) -> Result<Answer, Fail> {
     let mut names = Vec::new(alloc);
     names.push(read_name(alloc, first)?)?;
     names.push(read_name(alloc, second)?)?;
-    Ok(live.withdraw(alloc, names.as_slice()))
+    Ok(withdrawn(live.withdraw(alloc, names.as_slice())))
 }
 
-fn total(alloc: Global, live: &mut LiveMargin) -> Result<i128, Fail> {
-    Ok(live.margin(alloc)?.total)
-}
-
-fn amount(alloc: Global, live: &LiveMargin, name: &str) -> Result<Option<i64>, Fail> {
-    let name = read_name(alloc, name)?;
-    match live.rows_of(&name) {
-        Some([row]) => Ok(Some(row.amount)),
-        _ => Ok(None),
+fn withdrawn(answer: Result<(), WithdrawFault>) -> Answer {
+    match answer {
+        Ok(()) => Answer::Done,
+        Err(WithdrawFault::UnknownTrade { place }) => Answer::Unknown(place),
+        Err(WithdrawFault::Memory) => Answer::Memory,
     }
 }
 
@@ -100,62 +160,45 @@ fn is_at(live: &LiveMargin, place: u32, text: &str) -> bool {
     }
 }
 
-/// 740,000 and -370,000 have the pair sum 410,700,000,000 at 0.5, and 640,858^2 < 410,700,000,000 < 640,859^2.
-#[test]
-fn replaced_rows_count_alone(rt: HostRuntime) -> Result<(), Fail> {
-    let alloc = rt.alloc();
-    let mut live = live(alloc)?;
-    assert_eq!(rt; total(alloc, &mut live)?, 0);
-    assert!(rt; put(alloc, &mut live, "T1", "EUR", 100_000)? == Ok(()));
-    assert!(rt; put(alloc, &mut live, "T2", "GBP", -50_000)? == Ok(()));
-    assert_eq!(rt; total(alloc, &mut live)?, 640_859);
-    assert!(rt; put(alloc, &mut live, "T1", "EUR", 200_000)? == Ok(()));
-    assert!(rt; put(alloc, &mut live, "T2", "USD", 5)? == Ok(()));
-    assert_eq!(rt; total(alloc, &mut live)?, 1_480_000);
-    assert_eq!(rt; live.trade_count(), 2);
-    assert!(rt; is_at(&live, 1, "T1"));
-    assert!(rt; is_at(&live, 2, "T2"));
-    assert!(rt; live.trade_at(0).is_none());
-    assert!(rt; live.trade_at(3).is_none());
-    assert!(rt; amount(alloc, &live, "T1")? == Some(200_000));
-    assert!(rt; amount(alloc, &live, "T3")?.is_none());
-    let eur = read_name(alloc, "USD")?;
-    assert!(rt; live.params().is_calculation_currency(&eur));
-    Ok(())
+fn has_amount(live: &LiveMargin, name: &Name, amount: i64) -> bool {
+    match live.rows_of(name) {
+        Some([row]) => row.amount == amount,
+        _ => false,
+    }
+}
+
+fn margins_are(
+    alloc: Global,
+    live: &mut LiveMargin,
+    total: i128,
+    count: u32,
+) -> Result<bool, Fail> {
+    Ok(live.margin(alloc)?.total == total && live.trade_count() == count)
 }
 
 #[test]
-fn withdrawals(rt: HostRuntime) -> Result<(), Fail> {
+fn events(rt: HostRuntime) -> Result<(), Fail> {
     let alloc = rt.alloc();
     let mut live = live(alloc)?;
-    assert!(rt; put(alloc, &mut live, "T1", "EUR", 100_000)? == Ok(()));
-    let unknown = WithdrawFault::UnknownTrade { place: 2 };
-    assert!(rt; take_out(alloc, &mut live, "T1", "T9")? == Err(unknown));
-    assert_eq!(rt; total(alloc, &mut live)?, 740_000);
-    assert!(rt; take_out(alloc, &mut live, "T1", "T1")? == Ok(()));
-    assert_eq!(rt; live.trade_count(), 0);
-    assert_eq!(rt; total(alloc, &mut live)?, 0);
-    let unknown = WithdrawFault::UnknownTrade { place: 1 };
-    assert!(rt; take_out(alloc, &mut live, "T1", "T1")? == Err(unknown));
+    for (event, expected, total, count) in EVENTS {
+        assert!(rt; answer_to(alloc, &mut live, event)? == expected);
+        assert!(rt; margins_are(alloc, &mut live, total, count)?);
+    }
     Ok(())
 }
 
-/// Of high volatility the weight is 10: 10^12 cents are weighted to 10^13, the limit itself.
+/// A trade whose rows are replaced keeps its place.
 #[test]
-fn the_limit_is_met_by_a_replacement(rt: HostRuntime) -> Result<(), Fail> {
+fn places(rt: HostRuntime) -> Result<(), Fail> {
     let alloc = rt.alloc();
+    let first = read_name(alloc, "T1")?;
     let mut live = live(alloc)?;
-    assert!(rt; put(alloc, &mut live, "T1", "EUR", 100_000)? == Ok(()));
-    let fault = RangeFault {
-        which: RangeKind::DeltaGross,
-        value: 10_000_000_740_000,
-        limit: 10_000_000_000_000,
-    };
-    let above = put(alloc, &mut live, "T2", "BRL", 1_000_000_000_000)?;
-    assert!(rt; above == Err(SubmitFault::Range(fault)));
-    assert_eq!(rt; live.trade_count(), 1);
-    assert_eq!(rt; total(alloc, &mut live)?, 740_000);
-    assert!(rt; put(alloc, &mut live, "T1", "BRL", 1_000_000_000_000)? == Ok(()));
-    assert_eq!(rt; total(alloc, &mut live)?, 100_000_000_000_000);
+    for name in ["T1", "T2", "T1"] {
+        put(alloc, &mut live, name, "EUR", 7)?;
+    }
+    assert!(rt; is_at(&live, 1, "T1") && is_at(&live, 2, "T2"));
+    assert!(rt; live.trade_at(0).is_none() && live.trade_at(3).is_none());
+    assert!(rt; has_amount(&live, &first, 7));
+    assert!(rt; !live.params().is_calculation_currency(&first));
     Ok(())
 }

@@ -1,6 +1,6 @@
-ghost use Rattle.std.specs.Prelude.{◌≡◌, ◌↔◌, ◌≤◌, not, nat_lt, pos, neg_ℤ, ◌≤ℤ◌, IsTrue, IsOk, IfOk, IfErr};
+ghost use Rattle.std.specs.Prelude.{ℤ, ℕ, ◌≡◌, ◌↔◌, ◌≤◌, not, nat_lt, pos, neg_ℤ, ◌≤ℤ◌, IsTrue, IsOk, IfOk, IfErr};
 ghost use Rattle.jiff.specs.Words.{IsBetween};
-ghost use Rattle.jiff_core.specs.Calendar.{weekday_number};
+ghost use Rattle.jiff_core.specs.Calendar.{weekday_number, days_from_civil, IsCivilDate};
 ghost use Rattle.csa_terms.specs.Calendar.{is_business_day, wait, IsDueAfter, IsDueDay, IsCallingDay, days_until, due_day};
 
 use crate::moment::Moment;
@@ -23,6 +23,7 @@ const LAST_DAY: i32 = 2_568_019;
 /// day. `DayRange` comes exactly where that day is not in the years 1 to 9000. It takes no memory.
 pub fn due_day(moment: Moment, terms: &SetTerms) -> Result<i32, DayRange>
     ensures range { IsOk result ↔ IsCallingDay moment.day }
+    ensures years { (y : ℤ) (m d : ℕ) → IsCivilDate y m d → days_from_civil y m d ≡ moment.day → IsOk result ↔ IsBetween (pos 1) (pos 9000) y }
     ensures refused { IfErr result (λ e. e.day ≡ moment.day) }
     ensures least { IfOk result (λ due. IsDueDay terms.now moment due) }
     ensures value { IfOk result (λ due. due ≡ due_day moment terms.now) }
@@ -35,11 +36,19 @@ pub fn due_day(moment: Moment, terms: &SetTerms) -> Result<i32, DayRange>
     Ok(day + i32::from(later))
 }
 
-/// Whether the day is in the years 1 to 9000.
-fn is_calling_day(day: i32) -> bool
-    ensures { (IsTrue result ↔ IsCallingDay day) × (IsTrue result ↔ IsBetween (neg_ℤ (pos 719162)) (pos 2568019) day) }
+fn has_calling_number(day: i32) -> bool
+    ensures { IsTrue result ↔ IsBetween (neg_ℤ (pos 719162)) (pos 2568019) day }
 {
     FIRST_DAY <= day && day <= LAST_DAY
+}
+
+/// Whether the day is in the years 1 to 9000.
+fn is_calling_day(day: i32) -> bool
+    ensures calling { IsTrue result ↔ IsCallingDay day }
+    ensures numbers { IsTrue result ↔ IsBetween (neg_ℤ (pos 719162)) (pos 2568019) day }
+    ensures years { (y : ℤ) (m d : ℕ) → IsCivilDate y m d → days_from_civil y m d ≡ day → IsTrue result ↔ IsBetween (pos 1) (pos 9000) y }
+{
+    has_calling_number(day)
 }
 
 fn business_days_to_wait(moment: Moment, terms: &SetTerms) -> u16

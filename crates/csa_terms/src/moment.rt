@@ -3,7 +3,7 @@ ghost use Rattle.std.specs.Prelude.{◌≡◌, ◌<◌, nat_lt, if◌then◌else
 use std::marker::Model;
 
 /// The local time of a demand: a day, counted from 1970-01-01, and a minute of it, from 0 at midnight to 1,439.
-#[derive(Clone, Copy, Debug)]
+#[derive(Clone, Copy, Debug, PartialEq, Eq)]
 pub struct Moment {
     day: i32,
     minute: u16,

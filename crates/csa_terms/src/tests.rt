@@ -1,4 +1,4 @@
-use crate::{DayRange, Moment, Terms, TermsFault, due_day, read_terms};
+use crate::{DayRange, Moment, SetTerms, Terms, TermsFault, due_day, read_terms};
 use mh_units::{Cents, Rate4};
 use simm_kinds::Name;
 use std::alloc::{AllocError, Global};
@@ -162,6 +162,10 @@ fn read(alloc: Global, text: &[u8]) -> Result<Terms, Fail> {
     Ok(read_terms(alloc, text).ok().ok_or("the file is right")?)
 }
 
+fn set(terms: &Terms, place: usize) -> Result<&SetTerms, Fail> {
+    Ok(terms.sets().get(place).ok_or("a set")?)
+}
+
 /// The path or the name of a fault.
 fn place_of(fault: &TermsFault) -> &[u8] {
     match fault {
@@ -188,7 +192,7 @@ fn reads_each_value(rt: HostRuntime) -> Result<(), Fail> {
     let alloc = rt.alloc();
     let terms = read(alloc, file(alloc, 9, "")?.as_bytes())?;
     assert_eq!(rt; terms.sets().len(), 2);
-    let set = terms.sets()[1].copy(alloc)?;
+    let set = set(&terms, 1)?.copy(alloc)?;
     set.facts();
     assert_eq!(rt; set.name().bytes(), b"BETA".as_slice());
     assert_eq!(rt; set.threshold(), Cents(1_000_000_000_000_000));
@@ -204,7 +208,7 @@ fn reads_each_value(rt: HostRuntime) -> Result<(), Fail> {
 fn finds_haircuts_and_holidays(rt: HostRuntime) -> Result<(), Fail> {
     let alloc = rt.alloc();
     let terms = read(alloc, file(alloc, 9, "")?.as_bytes())?;
-    let set = terms.sets()[1].copy(alloc)?;
+    let set = set(&terms, 1)?.copy(alloc)?;
     let bond = Name::read(alloc, b"BOND").ok().ok_or("a name")?;
     let other = Name::read(alloc, b"OTHER").ok().ok_or("a name")?;
     assert_eq!(rt; set.haircut(&bond), Some(Rate4(200)));
@@ -287,14 +291,14 @@ fn falls_due(rt: HostRuntime) -> Result<(), Fail> {
     for (day, minute, due) in DUE.iter() {
         let moment = Moment::new(*day, *minute).ok_or("a minute of the day")?;
         assert_eq!(rt;
-            due_day(moment, &terms.sets()[0]),
+            due_day(moment, set(&terms, 0)?),
             Ok(*due),
             "{day} {minute}"
         );
     }
     for day in [2_568_020, -719_163] {
         let moment = Moment::new(day, 780).ok_or("a minute of the day")?;
-        assert_eq!(rt; due_day(moment, &terms.sets()[0]), Err(DayRange { day }));
+        assert_eq!(rt; due_day(moment, set(&terms, 0)?), Err(DayRange { day }));
     }
     assert!(rt; Moment::new(19_783, 1_440).is_none());
     Ok(())
@@ -307,6 +311,6 @@ fn falls_due_after_a_holiday(rt: HostRuntime) -> Result<(), Fail> {
     let moment = Moment::new(19_783, 1_439).ok_or("a minute of the day")?;
     assert_eq!(rt; moment.day(), 19_783);
     assert_eq!(rt; moment.minute(), 1_439);
-    assert_eq!(rt; due_day(moment, &terms.sets()[1]), Ok(19_787));
+    assert_eq!(rt; due_day(moment, set(&terms, 1)?), Ok(19_787));
     Ok(())
 }

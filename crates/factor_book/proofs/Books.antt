@@ -1,7 +1,5 @@
 -- Books: what adding and taking rows does to the factors, and how great nets and counts are.
 use Rattle.std.proofs.Common.{◌≡◌, ℕ, zero, suc, ◌+◌, ◌*◌, ◌^◌, ◌<◌, ◌≤◌, List, [], ◌∷◌, ◌++◌, map, length, cond, Option, Some, None, IfSome, IsSomeAnd, sym, ap, ◌∙◌, subst, refl, ℤ, ◌+ℤ◌, unsigned_abs, arith, take, drop, get_or, append_assoc, append-nil, add-one, drop-cons}
-use Rattle.std.specs.List.{AllByRecursion}
-use Rattle.std.specs.Map.{lookup}
 use Rattle.std.proofs.lemmas.Int.{ints}
 use Rattle.std.proofs.lemmas.List.{length-append, take_more, drop_all}
 use Rattle.simm_kinds.specs.declared.row.CrifRow.{CrifRow}
@@ -36,10 +34,10 @@ pub added : (old new : List (Place × List (Key × Holding))) (row : CrifRow) �
     → (held : List CrifRow) → factors_in old ≡ factors_of held → factors_in new ≡ factors_of (held ++ row ∷ [])
 added old new row f g put held e =
     factors-from new (held ++ row ∷ []) g (λ k.
-      put k
-      ∙ ap (λ o. cond (same_key row.key k) (Some (grown o row.amount)) (found old k)) (found-from old held f e row.key)
-      ∙ ap (λ o. cond (same_key row.key k) (Some (grown (come_to held row.key) row.amount)) o) (found-from old held f e k)
-      ∙ sym (come_to-more row held k) ∙ sym (last_first held row k))
+    put k
+    ∙ ap (λ o. cond (same_key row.key k) (Some (grown o row.amount)) (found old k)) (found-from old held f e row.key)
+    ∙ ap (λ o. cond (same_key row.key k) (Some (grown (come_to held row.key) row.amount)) o) (found-from old held f e k)
+    ∙ sym (come_to-more row held k) ∙ sym (last_first held row k))
 
 -- nothing found has changed
 pub unchanged : (old new : List (Place × List (Key × Holding))) → AreFiled old → AreFiled new → IsBook (factors_in old) → ((k : Key) → found new k ≡ found old k) → factors_in new ≡ factors_in old
@@ -52,19 +50,19 @@ amounts-append (x ∷ xs) ys h g = (h.0, amounts-append xs ys h.1 g)
 pub filed_added : (old new : List (Place × List (Key × Holding))) (row : CrifRow) → IsFiledBook old → AreFiled new
     → ((k : Key) → found new k ≡ cond (same_key row.key k) (Some (grown (found old row.key) row.amount)) (found old k)) → unsigned_abs row.amount ≤ 2 ^ 63 → IsFiledBook new
 filed_added old new row b g put amount = record {
-    filing = g;
-    book = record {
-      held = b.book.held ++ row ∷ [];
-      are = added old new row b.filing g put b.book.held b.book.are;
-      amounts = amounts-append b.book.held (row ∷ []) b.book.amounts (amount, tt);
-    };
-  }
+  filing = g;
+  book = record {
+    held = b.book.held ++ row ∷ [];
+    are = added old new row b.filing g put b.book.held b.book.are;
+    amounts = amounts-append b.book.held (row ∷ []) b.book.amounts (amount, tt);
+  };
+}
 
 pub filed_unchanged : (old new : List (Place × List (Key × Holding))) → IsFiledBook old → AreFiled new → ((k : Key) → found new k ≡ found old k) → IsFiledBook new
 filed_unchanged old new b g same = record {
-    filing = g;
-    book = record { held = b.book.held; are = unchanged old new b.filing g b.book same ∙ b.book.are; amounts = b.book.amounts };
-  }
+  filing = g;
+  book = record { held = b.book.held; are = unchanged old new b.filing g b.book same ∙ b.book.are; amounts = b.book.amounts };
+}
 
 -- ---- room
 
@@ -110,10 +108,10 @@ pub taken : (old new : List (Place × List (Key × Holding))) (row : CrifRow) �
     → (rest : List CrifRow) → factors_in old ≡ factors_of (row ∷ rest) → factors_in new ≡ factors_of rest
 taken old new row f g put rest e =
     factors-from new rest g (λ k.
-      put k
-      ∙ ap (λ o. cond (same_key row.key k) (shrunk o row.amount) (found old k)) (found-from old (row ∷ rest) f e row.key)
-      ∙ ap (λ o. cond (same_key row.key k) (shrunk (come_to (row ∷ rest) row.key) row.amount) o) (found-from old (row ∷ rest) f e k)
-      ∙ come_to-less row rest k)
+    put k
+    ∙ ap (λ o. cond (same_key row.key k) (shrunk o row.amount) (found old k)) (found-from old (row ∷ rest) f e row.key)
+    ∙ ap (λ o. cond (same_key row.key k) (shrunk (come_to (row ∷ rest) row.key) row.amount) o) (found-from old (row ∷ rest) f e k)
+    ∙ come_to-less row rest k)
 
 -- one held row stands before the others
 pub one_before : (factors : List Factor) (row : CrifRow) (h : AreHeld (row ∷ []) factors) → factors ≡ factors_of (row ∷ (h.before ++ h.after))
@@ -139,13 +137,13 @@ amounts_first before taken after h =
 pub filed_taken : (old new : List (Place × List (Key × Holding))) (row : CrifRow) → IsFiledBook old → AreFiled new
     → ((k : Key) → found new k ≡ cond (same_key row.key k) (shrunk (found old row.key) row.amount) (found old k)) → AreHeld (row ∷ []) (factors_in old) → IsFiledBook new
 filed_taken old new row b g put h = record {
-    filing = g;
-    book = record {
-      held = h.before ++ h.after;
-      are = taken old new row b.filing g put (h.before ++ h.after) (one_before (factors_in old) row h);
-      amounts = amounts_others h.before (row ∷ []) h.after h.amounts;
-    };
-  }
+  filing = g;
+  book = record {
+    held = h.before ++ h.after;
+    are = taken old new row b.filing g put (h.before ++ h.after) (one_before (factors_in old) row h);
+    amounts = amounts_others h.before (row ∷ []) h.after h.amounts;
+  };
+}
 
 -- ---- rows taken one by one
 
@@ -164,12 +162,12 @@ amounts_drop (x ∷ xs) (suc i) h = amounts_drop xs i h.1
 pub left_held : (first now : List Factor) (rows : List CrifRow) (i : ℕ) (row : CrifRow) → AreHeld rows first → i < length rows → row ≡ get_or rows i row
     → ((rest : List CrifRow) → first ≡ factors_of (rows ++ rest) → now ≡ factors_of (drop i rows ++ rest)) → AreHeld (row ∷ []) now
 left_held first now rows i row h below is left = record {
-    before = [];
-    after = drop (i + 1) rows ++ (h.before ++ h.after);
-    are = left (h.before ++ h.after) (h.are ∙ taken_before h.before rows h.after) ∙ ap factors_of (next_left rows i row (h.before ++ h.after) below is);
-    amounts = subst AreAmounts (next_left rows i row (h.before ++ h.after) below is)
+  before = [];
+  after = drop (i + 1) rows ++ (h.before ++ h.after);
+  are = left (h.before ++ h.after) (h.are ∙ taken_before h.before rows h.after) ∙ ap factors_of (next_left rows i row (h.before ++ h.after) below is);
+  amounts = subst AreAmounts (next_left rows i row (h.before ++ h.after) below is)
       (amounts-append (drop i rows) (h.before ++ h.after) (amounts_drop rows i (amounts_left rows (h.before ++ h.after) (amounts_first h.before rows h.after h.amounts))) (amounts_others h.before rows h.after h.amounts));
-  }
+}
 
 pub left_less : (first now next : List Factor) (rows : List CrifRow) (i : ℕ) (row : CrifRow) → i < length rows → row ≡ get_or rows i row
     → ((rest : List CrifRow) → first ≡ factors_of (rows ++ rest) → now ≡ factors_of (drop i rows ++ rest)) → ((rest : List CrifRow) → now ≡ factors_of (row ∷ rest) → next ≡ factors_of rest)
@@ -204,10 +202,10 @@ adds_more first now next rows i row below is a add amount =
 -- room for one row more
 pub room_left : (first now : List Factor) (rows : List CrifRow) (i : ℕ) → i < length rows → HasRoom first (length rows) → Adds first now (take i rows) → HasRoom now 1
 room_left first now rows i below room a = record {
-    held = room.held ++ take i rows;
-    are = a.factors room.held room.are;
-    few = omega (arith, length-append room.held (take i rows), length-take_le i rows, room.few);
-  }
+  held = room.held ++ take i rows;
+  are = a.factors room.held room.are;
+  few = omega (arith, length-append room.held (take i rows), length-take_le i rows, room.few);
+}
   where
     length-take_le : (n : ℕ) (xs : List CrifRow) → length (take n xs) ≤ n
     length-take_le zero xs = omega arith
@@ -217,11 +215,11 @@ room_left first now rows i below room a = record {
 -- the rows added so far are held
 pub front_held : (first now : List Factor) (rows : List CrifRow) → IsBook first → Adds first now rows → AreHeld rows now
 front_held first now rows b a = record {
-    before = b.held;
-    after = [];
-    are = a.factors b.held b.are ∙ ap factors_of (sym (append-nil (b.held ++ rows)));
-    amounts = subst AreAmounts (sym (append-nil (b.held ++ rows))) (amounts-append b.held rows b.amounts a.amounts);
-  }
+  before = b.held;
+  after = [];
+  are = a.factors b.held b.are ∙ ap factors_of (sym (append-nil (b.held ++ rows)));
+  amounts = subst AreAmounts (sym (append-nil (b.held ++ rows))) (amounts-append b.held rows b.amounts a.amounts);
+}
 
 -- and taking them gives the book of before
 pub front_taken : (first now last : List Factor) (rows : List CrifRow) → IsBook first → Adds first now rows

@@ -1,5 +1,5 @@
 -- The keys of a bucket's rows are those of its place.
-use Rattle.std.proofs.Common.{◌≡◌, List, [], ◌∷◌, map, Bool, true, false, ◌&&◌, ◌||◌, cond, Option, Some, None, IsSome, Result, Ok, Err, IfOk, OnOk, refl, sym, ap, ◌∙◌, subst}
+use Rattle.std.proofs.Common.{◌≡◌, List, [], ◌∷◌, map, Bool, true, false, ◌&&◌, ◌||◌, cond, Some, Result, Ok, Err, IfOk, OnOk, refl, sym, ap, ◌∙◌}
 use Rattle.std.specs.Prelude.{is_some}
 use Rattle.std.specs.List.{filter, list_any}
 use Rattle.std.specs.List.Sorted.{IsStrictlySortedBy}
@@ -19,12 +19,12 @@ use Rattle.factor_book.specs.declared.place.Place.{Place}
 use Rattle.factor_book.specs.declared.holding.Holding.{Holding}
 use Rattle.factor_book.specs.Place.{place_of, place_cmp}
 use Rattle.factor_book.specs.Factors.{factors_of}
-use Rattle.factor_book.specs.Filing.{found, found_in, StandAt, AreFiled, factors_in}
+use Rattle.factor_book.specs.Filing.{found_in, StandAt, AreFiled, factors_in}
 use Rattle.factor_book.proofs.Keys.{one_key}
 use Rattle.factor_book.proofs.Standing.{stands_in, bucket_place, stands-at, at-stands}
 use Rattle.factor_book.proofs.Sorting.{same_members, different_ascends}
 use Rattle.factor_book.proofs.Held.{come_to, any_key, is_some-come_to}
-use Rattle.factor_book.proofs.Filed.{found-from, empty_stand}
+use Rattle.factor_book.proofs.Filed.{found-from}
 
 any_keys : (q : Key) (es : List (Key × Holding)) → list_any (same_key q) (keys_in es) ≡ is_some (lookup (same_key q) es)
 any_keys q [] = refl
@@ -84,8 +84,8 @@ module _ (product : ProductClass) (class : RiskClass) (measure : Measure) (bucke
       same_members key_total exact_keys (keys_in factors) (keys_of (in_bucket bucket (rows_in product class measure held))) ordered
       (different_ascends key_cmp key_total (map (λ r. r.key) (in_bucket bucket (rows_in product class measure held))))
       (λ q. any_keys q factors
-        ∙ member factors held q stand (λ p. sym (had q) ∙ sym (ap (λ place. found_in (lookup (is_at (place_cmp place)) filed) q) p) ∙ found-from filed held f e q) (stands_in product class measure bucket q) refl
-        ∙ sym (any_in q held))
+      ∙ member factors held q stand (λ p. sym (had q) ∙ sym (ap (λ place. found_in (lookup (is_at (place_cmp place)) filed) q) p) ∙ found-from filed held f e q) (stands_in product class measure bucket q) refl
+      ∙ sym (any_in q held))
 
 pub ordered_none : IsStrictlySortedBy key_cmp (keys_in {K = Key} {X = Holding} [])
 unfolding IsStrictlySortedBy

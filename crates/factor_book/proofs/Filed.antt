@@ -55,9 +55,9 @@ filed_head e es f = subst (λ (o : Option (List (Key × Holding))). IfSome o (St
 
 filed_tail : (e : Place × List (Key × Holding)) (es : List (Place × List (Key × Holding))) → AreFiled (e ∷ es) → AreFiled es
 filed_tail e es f = record {
-    ordered = sorted_tail place_cmp e.0 (keys_of es) f.ordered;
-    placed = λ place. by place (is_eq (place_cmp place e.0)) refl;
-  }
+  ordered = sorted_tail place_cmp e.0 (keys_of es) f.ordered;
+  placed = λ place. by place (is_eq (place_cmp place e.0)) refl;
+}
   where
     by : (place : Place) (t : Bool) → is_eq (place_cmp place e.0) ≡ t → IfSome (lookup (is_at (place_cmp place)) es) (StandAt place)
     by place true h = subst (λ (o : Option (List (Key × Holding))). IfSome o (StandAt place)) (sym (past_head place_total place e es f.ordered h)) tt
@@ -91,7 +91,7 @@ found-from filed held f e k =
 pub factors-from : (filed : List (Place × List (Key × Holding))) (held : List CrifRow) → AreFiled filed → ((k : Key) → found filed k ≡ come_to held k) → factors_in filed ≡ factors_of held
 factors-from filed held f e =
     ap (map as_factor) (same_entries key_total exact_keys (in_order (flat_map (λ x. x.1) filed)) (pairs_of held) (order_ascends (flat_map (λ x. x.1) filed)) (pairs_ascend held)
-      (λ k. lookup-in_order k (flat_map (λ x. x.1) filed) ∙ lookup-flat filed k f ∙ e k ∙ sym (lookup-pairs_of held k)))
+    (λ k. lookup-in_order k (flat_map (λ x. x.1) filed) ∙ lookup-flat filed k f ∙ e k ∙ sym (lookup-pairs_of held k)))
     ∙ factors-pairs held
 
 -- ---- one place is written
@@ -99,9 +99,9 @@ factors-from filed held f e =
 pub filed_update : (old new : List (Place × List (Key × Holding))) (place : Place) (w : Option (List (Key × Holding))) → AreFiled old → IsStrictlySortedBy place_cmp (keys_of new)
     → ((q : Place) → lookup (is_at (place_cmp q)) new ≡ cond (is_at (place_cmp place) q) w (lookup (is_at (place_cmp q)) old)) → IfSome w (StandAt place) → AreFiled new
 filed_update old new place w f ordered update stand = record {
-    ordered = ordered;
-    placed = λ q. subst (λ (o : Option (List (Key × Holding))). IfSome o (StandAt q)) (sym (update q)) (by q (is_eq (place_cmp place q)) refl);
-  }
+  ordered = ordered;
+  placed = λ q. subst (λ (o : Option (List (Key × Holding))). IfSome o (StandAt q)) (sym (update q)) (by q (is_eq (place_cmp place q)) refl);
+}
   where
     by : (q : Place) (t : Bool) → is_eq (place_cmp place q) ≡ t → IfSome (cond t w (lookup (is_at (place_cmp q)) old)) (StandAt q)
     by q true e = subst (λ p. IfSome w (StandAt p)) (same_place place q e) stand

@@ -1,7 +1,7 @@
 -- What the rows of a key come to, and that it is what the factors of the rows say.
-use Rattle.std.proofs.Common.{◌≡◌, ℕ, zero, suc, ◌+◌, ◌-◌, ◌*◌, ◌^◌, ◌<◌, ◌≤◌, List, [], ◌∷◌, ◌++◌, map, length, Bool, true, false, ◌||◌, cond, Option, Some, None, refl, sym, ap, ◌∙◌, subst, ℤ, pos, ◌+ℤ◌, ◌-ℤ◌, unsigned_abs, arith, length-append}
+use Rattle.std.proofs.Common.{◌≡◌, ℕ, zero, suc, ◌+◌, ◌-◌, ◌*◌, ◌^◌, ◌≤◌, List, [], ◌∷◌, ◌++◌, map, length, Bool, true, false, ◌||◌, cond, Option, Some, None, refl, sym, ap, ◌∙◌, subst, ℤ, pos, ◌+ℤ◌, ◌-ℤ◌, unsigned_abs, arith, length-append}
 use Rattle.std.specs.Prelude.{◌==◌, is_some}
-use Rattle.std.specs.List.{filter, list_any, AllByRecursion}
+use Rattle.std.specs.List.{filter, list_any}
 use Rattle.std.specs.List.Sorted.{IsStrictlySortedBy}
 use Rattle.std.specs.Map.{lookup, keys_of as keys_in}
 use Rattle.std.proofs.lemmas.Bool.{false≢true}
@@ -13,11 +13,11 @@ use Rattle.simm_kinds.specs.declared.row.CrifRow.{CrifRow}
 use Rattle.simm_kinds.specs.Key.{Key}
 use Rattle.simm_kinds.specs.Order.{same_key, key_cmp}
 use Rattle.simm_kinds.proofs.Orders.{key_total}
-use Rattle.simm_rules.specs.Sums.{total_by, different}
+use Rattle.simm_rules.specs.Sums.{total_by}
 use Rattle.simm_rules.specs.Net.{net, keys_of}
 use Rattle.factor_book.specs.declared.holding.Holding.{Holding}
 use Rattle.factor_book.specs.Factors.{Factor, factor_of, factors_of, count_of, AreAmounts}
-use Rattle.factor_book.specs.Holdings.{first, grown, shrunk, net_in}
+use Rattle.factor_book.specs.Holdings.{grown, shrunk, net_in}
 use Rattle.factor_book.specs.Filing.{as_factor}
 use Rattle.factor_book.proofs.Keys.{same_key_refl, same_key_sym, one_key, tied_test}
 use Rattle.factor_book.proofs.Sorting.{any_different, different_ascends}

@@ -1,8 +1,8 @@
 -- Keys: the order of the maps is that of the rule, and keys that compare alike are one.
-use Rattle.std.proofs.Common.{◌≡◌, List, Bool, true, false, cond, Option, refl, sym, ap, ◌∙◌, subst}
+use Rattle.std.proofs.Common.{◌≡◌, List, Bool, true, false, cond, Option, refl, ap, ◌∙◌, subst}
 use Rattle.std.specs.Ordering.{is_eq}
 use Rattle.std.specs.declared.cmp.Ordering.{Ordering}
-use Rattle.std.specs.declared.cmp.Ordering.TheVariants.{Less, Equal, Greater}
+use Rattle.std.specs.declared.cmp.Ordering.TheVariants.{Equal}
 use Rattle.std.proofs.lemmas.Cmp.{eq_by_cmp_equiv, tied_itself, alike_right}
 use Rattle.std.specs.List.Sorted.{IsStrictlySortedBy}
 use Rattle.std.specs.Map.{lookup, keys_of}

@@ -1,5 +1,5 @@
 -- Different items in order, and lists of pairs in the order of their keys.
-use Rattle.std.proofs.Common.{◌≡◌, List, [], ◌∷◌, map, Bool, true, false, ◌||◌, cond, Option, Some, None, refl, sym, ap, ◌∙◌, subst, inl, inr, ◌⊎◌}
+use Rattle.std.proofs.Common.{◌≡◌, List, [], ◌∷◌, map, Bool, true, false, ◌||◌, cond, Option, Some, None, refl, sym, ap, ◌∙◌, subst}
 use Rattle.std.specs.declared.cmp.Ordering.{Ordering}
 use Rattle.std.specs.declared.cmp.Ordering.TheVariants.{Less, Equal, Greater}
 use Rattle.std.specs.Ordering.{is_eq, ordering_reverse, match_ordering, eq_by_cmp}
@@ -171,5 +171,5 @@ module _ {K : Type 0} {R : K → K → Ordering} (o : IsTotalOrder R) where
   same_members exact xs ys s t h =
       sym (keys_units xs)
       ∙ ap keys_of (same_entries o exact (units xs) (units ys) (subst (IsStrictlySortedBy R) (sym (keys_units xs)) s) (subst (IsStrictlySortedBy R) (sym (keys_units ys)) t)
-          (λ q. lookup_units (is_at (R q)) xs ∙ ap there (h q) ∙ sym (lookup_units (is_at (R q)) ys)))
+      (λ q. lookup_units (is_at (R q)) xs ∙ ap there (h q) ∙ sym (lookup_units (is_at (R q)) ys)))
       ∙ keys_units ys

@@ -1,5 +1,5 @@
 -- Places: their order, and which keys stand in the place of a bucket.
-use Rattle.std.proofs.Common.{◌≡◌, ℕ, zero, suc, Bool, true, false, ◌&&◌, cond, List, Option, Some, None, IfSome, refl, sym, ap, ◌∙◌, subst, add-one, arith}
+use Rattle.std.proofs.Common.{◌≡◌, ℕ, zero, suc, Bool, true, ◌&&◌, cond, List, Option, Some, None, IfSome, refl, sym, ap, ◌∙◌, subst, add-one, arith}
 use Rattle.std.specs.declared.cmp.Ordering.{Ordering}
 use Rattle.std.specs.declared.cmp.Ordering.TheVariants.{Less, Equal, Greater}
 use Rattle.std.specs.Ordering.{nat_cmp, ordering_then, is_eq}
@@ -25,7 +25,7 @@ use Rattle.simm_kinds.specs.declared.kinds.Measure.TheVariants as measure
 use Rattle.simm_kinds.specs.declared.kinds.BucketId.{BucketId}
 use Rattle.simm_kinds.specs.Kinds.{class_of}
 use Rattle.simm_kinds.specs.Key.{Key}
-use Rattle.simm_kinds.specs.Order.{product_place, class_place, place_of_part, bucket_cmp, same_product, same_class, same_bucket}
+use Rattle.simm_kinds.specs.Order.{product_place, class_place, place_of_part, bucket_cmp, same_product, same_bucket}
 use Rattle.simm_kinds.proofs.Orders.{by_variant, product_cmp, class_cmp, one_product, one_class, derived_bucket_cmp, bucket_cmp_is, bucket_total, exact_buckets}
 use Rattle.simm_rules.specs.Net.{is_of, is_in_class}
 use Rattle.factor_book.specs.declared.place.Place.{Place}
@@ -241,8 +241,8 @@ at-stands product class measure bucket k e =
     let of_measure : is_of measure k.kind ≡ true = subst (λ (o : Option Measure). IfSome o (λ m. is_of m k.kind ≡ true)) measure_is (own_measure k.kind) in
     let same_products : same_product k.product product ≡ true = ap (λ p. same_product p product) product_is ∙ eq-eqb (product_place product) (product_place product) refl in
     and_from (same_product k.product product && is_in_class class k.kind && is_of measure k.kind) (same_bucket k.bucket bucket)
-      (and_from (same_product k.product product && is_in_class class k.kind) (is_of measure k.kind) (and_from (same_product k.product product) (is_in_class class k.kind) same_products in_class) of_measure)
-      (ap (λ b. same_bucket b bucket) bucket_is ∙ ap is_eq (tied_itself bucket_total bucket))
+    (and_from (same_product k.product product && is_in_class class k.kind) (is_of measure k.kind) (and_from (same_product k.product product) (is_in_class class k.kind) same_products in_class) of_measure)
+    (ap (λ b. same_bucket b bucket) bucket_is ∙ ap is_eq (tied_itself bucket_total bucket))
 
 -- ---- the maps by place
 

@@ -1,9 +1,7 @@
 ghost use Rattle.std.specs.Prelude.{◌≤◌, length, IfOk};
 
 use crate::{BucketAt, ClassAt, Factors, order_is_free};
-use simm_kinds::{
-    BucketId, CrifRow, FactorKey, Measure, Name, ProductClass, RiskClass, RiskType,
-};
+use simm_kinds::{BucketId, CrifRow, FactorKey, Measure, Name, ProductClass, RiskClass, RiskType};
 use std::alloc::Global;
 use std::test::Fail;
 
@@ -38,9 +36,7 @@ const KEYS: [(usize, ProductClass, Measure, &str); 6] = [
 ];
 
 fn key(alloc: Global, product: ProductClass, currency: &str) -> Result<FactorKey, Fail> {
-    let qualifier = Name::read(alloc, currency.as_bytes())
-        .ok()
-        .ok_or("a name")?;
+    let qualifier = Name::read(alloc, currency.as_bytes()).ok().ok_or("a name")?;
     let label2 = Name::empty(alloc);
     let key = FactorKey::make(
         product,
@@ -80,7 +76,11 @@ fn book(alloc: Global, rows: &[CrifRow], stay: usize) -> Result<Factors, Fail>
 fn first_rows(alloc: Global, stay: usize) -> Result<Factors, Fail> {
     let rows = rows(alloc)?;
     let slice = rows.as_slice();
-    let within = if stay < slice.len() { stay } else { slice.len() };
+    let within = if stay < slice.len() {
+        stay
+    } else {
+        slice.len()
+    };
     book(alloc, slice, within)
 }
 

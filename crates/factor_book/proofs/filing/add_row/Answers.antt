@@ -40,8 +40,8 @@ returns-in-Some c =
     λ h k. h k ∙ ap (λ o. cond (same_key key k) o (lookup (same_key k) had)) value in
     record {
       filing = either_way c.add.result c.add.ensures.ok c.add.ensures.err
-        (λ h. filed_written old new key had now (Some (grown (found old key) amount)) c.requires.filing at ordered update (put h))
-        (λ same. filed_same old new (place_of key) had now c.requires.filing at ordered update same);
+          (λ h. filed_written old new key had now (Some (grown (found old key) amount)) c.requires.filing at ordered update (put h))
+          (λ same. filed_same old new (place_of key) had now c.requires.filing at ordered update same);
       ok = on_ok_weaker c.add.result (λ h. found_written old new key had now (Some (grown (found old key) amount)) at update (put h)) c.add.ensures.ok;
       err = on_err_weaker c.add.result (λ same. found_same old new (place_of key) had now at update same) c.add.ensures.err;
     }

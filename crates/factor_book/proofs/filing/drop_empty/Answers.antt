@@ -1,4 +1,4 @@
-use Rattle.std.proofs.Common.{◌≡◌, sym, refl, None}
+use Rattle.std.proofs.Common.{sym, refl, None}
 use Rattle.factor_book.proofs.Standing.{updated_place, ordered_places}
 use Rattle.factor_book.proofs.Filed.{filed_update, found_dropped}
 use Rattle.factor_book.proofs.filing.drop_empty.Goals as goal

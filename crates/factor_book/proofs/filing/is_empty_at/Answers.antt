@@ -1,4 +1,4 @@
-use Rattle.std.proofs.Common.{◌≡◌, ◌∙◌, sym, ap, Some}
+use Rattle.std.proofs.Common.{◌∙◌, sym, ap, Some}
 use Rattle.factor_book.proofs.Standing.{lookup_place}
 use Rattle.factor_book.proofs.filing.is_empty_at.Goals as goal
 

@@ -1,6 +1,5 @@
-use Rattle.std.proofs.Common.{◌≡◌, ◌++◌, ◌-◌, ◌≤◌, ◌∙◌, [], List, length, sym, ap, subst, arith, take, drop, append-nil}
+use Rattle.std.proofs.Common.{◌≡◌, ◌++◌, ◌-◌, ◌≤◌, ◌∙◌, [], length, sym, ap, subst, arith, take, drop, append-nil}
 use Rattle.std.proofs.lemmas.List.{take-append-drop, take_all, length-drop}
-use Rattle.simm_kinds.specs.declared.row.CrifRow.{CrifRow as Row}
 use Rattle.factor_book.specs.Factors.{factors_of, AreAmounts}
 use Rattle.factor_book.proofs.tests.book.Goals as goal
 

@@ -1,4 +1,4 @@
-use Rattle.std.proofs.Common.{◌≡◌, ◌∙◌, ap, Some, FitsSigned, rules}
+use Rattle.std.proofs.Common.{◌∙◌, ap, FitsSigned, rules}
 use Rattle.std.specs.Int.{w128}
 use Rattle.std.specs.Map.{lookup}
 use Rattle.mh_units.proofs.Integers.{same128}

@@ -5,7 +5,7 @@ use Rattle.std.specs.Map.{lookup}
 use Rattle.simm_kinds.specs.Order.{same_key}
 use Rattle.factor_book.specs.declared.holding.Holding.{Holding}
 use Rattle.factor_book.specs.Holdings.{CanShrink, shrunk}
-use Rattle.factor_book.proofs.Keys.{lookup_key, written_key, updated_key, over_key}
+use Rattle.factor_book.proofs.Keys.{lookup_key, written_key, over_key}
 use Rattle.factor_book.proofs.bucket_factors.BucketFactors.take.Goals as goal
 
 pub shrunk-requires : goal.shrunk-requires
@@ -31,7 +31,7 @@ returns-in-None-shrunk c =
     let gone : None ≡ shrunk (lookup (same_key c.args.row.now.key) c.args.self.now) c.args.row.now.amount = c.in-None-shrunk.ensures ∙ ap (shrunk (Some c.in-Some.holding.now)) amount ∙ ap (λ o. shrunk o c.args.row.now.amount) found in
     over_key c.args.self.now (c.get_mut.follows.lender c.in-Some.holding.now).entries c.remove.new.self.entries c.args.row.now.key (shrunk (lookup (same_key c.args.row.now.key) c.args.self.now) c.args.row.now.amount) (Some c.in-Some.holding.now)
     (written_key c.self.inside.by_key.entries c.args.self.now (c.get_mut.follows.lender c.in-Some.holding.now).entries c.args.row.now.key (Some c.in-Some.holding.now) (Some c.in-Some.holding.now)
-      c.self.view_is (((c.get_mut.follows.holds c.in-Some.holding.now).3 (subst IsSome c.in-Some.ensures.value refl)).0) refl)
+    c.self.view_is (((c.get_mut.follows.holds c.in-Some.holding.now).3 (subst IsSome c.in-Some.ensures.value refl)).0) refl)
     (written_key (c.get_mut.follows.lender c.in-Some.holding.now).entries (c.get_mut.follows.lender c.in-Some.holding.now).entries c.remove.new.self.entries c.args.row.now.key None (shrunk (lookup (same_key c.args.row.now.key) c.args.self.now) c.args.row.now.amount) refl c.remove.ensures.updates.0 gone)
 
 pub returns-in-None : goal.returns-in-None

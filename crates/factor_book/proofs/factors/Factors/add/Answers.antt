@@ -1,9 +1,8 @@
-use Rattle.std.proofs.Common.{◌≡◌, ◌^◌, ◌≤◌, ◌∙◌, sym, subst, List, unsigned_abs, FitsSigned, rules, arith}
+use Rattle.std.proofs.Common.{◌^◌, ◌≤◌, ◌∙◌, sym, subst, List, unsigned_abs, FitsSigned, rules, arith}
 use Rattle.std.specs.Int.{w64}
 use Rattle.std.proofs.lemmas.Int.{ints}
 use Rattle.std.proofs.lemmas.Result.{on_ok_weaker, on_err_weaker}
 use Rattle.factor_book.specs.Factors.{Factor, HasRoom}
-use Rattle.factor_book.specs.Filing.{IsFiledBook}
 use Rattle.factor_book.proofs.Filed.{either_way}
 use Rattle.factor_book.proofs.Books.{can_grow, added, unchanged, filed_added, filed_unchanged}
 use Rattle.factor_book.proofs.factors.Factors.add.Goals as goal

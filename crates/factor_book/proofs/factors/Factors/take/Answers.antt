@@ -1,5 +1,5 @@
-use Rattle.std.proofs.Common.{◌≡◌, ◌∷◌, ◌++◌, [], ◌∙◌, sym, subst, List}
-use Rattle.factor_book.specs.Factors.{Factor, AreHeld}
+use Rattle.std.proofs.Common.{◌∷◌, ◌++◌, [], ◌∙◌, sym, subst}
+use Rattle.factor_book.specs.Factors.{AreHeld}
 use Rattle.factor_book.proofs.Books.{can_shrink, taken, filed_taken, one_before}
 use Rattle.factor_book.proofs.factors.Factors.take.Goals as goal
 
