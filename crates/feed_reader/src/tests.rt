@@ -1,9 +1,10 @@
 ghost use Rattle.std.specs.Prelude.{None};
 
+use crate::whole::read_feed;
 use crate::{Fed, FeedFault, Message, next_message};
 use mh_io::{Failed, LINE_BYTES, Lines, MemSource, Source, lines_of};
 use mh_units::Bytes;
-use simm_kinds::Name;
+use simm_kinds::{Listed, Name};
 use std::alloc::{AllocError, Global};
 use std::test::Fail;
 
@@ -163,6 +164,19 @@ fn lines_in(
     let bytes = Bytes::from_vec(bytes.to_vec(alloc)?);
     let source = MemSource::new(alloc, bytes, most.max(1), failing);
     lines_of(alloc, source).map_err(|_| AllocError)
+}
+
+#[test]
+fn reads_a_feed_to_its_end(rt: HostRuntime) -> Result<(), Fail> {
+    let alloc = rt.alloc();
+    let input = b"ASK\tA\nHELLO\nCRIF\tB\nx\nEND\nASK\tA";
+    let mut lines = lines_in(alloc, input, 7, Vec::new(alloc))?;
+    let mut fed = Listed::new(alloc);
+    let mut bad = Listed::new(alloc);
+    assert_eq!(rt; read_feed(alloc, &mut lines, &mut fed, &mut bad), Ok(()));
+    assert_eq!(rt; fed.len(), 3);
+    assert_eq!(rt; bad.as_slice(), [2].as_slice());
+    Ok(())
 }
 
 #[test]
