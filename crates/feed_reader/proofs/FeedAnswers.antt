@@ -92,13 +92,13 @@ module _ {S : Type 0} (faults : S → ℕ) (name gave left : S → Option (List 
   told {a} {b} (Ok (Some fed)) passed line further given over means = record {
     answers = tells passed (line ∷ further) (Sent fed) given over means.0;
     stops = tt;
-    placed = let e = means.1 in (omega arith, omega (arith, given.count, length-append passed (line ∷ further)));
+    placed = let e = means.1 in (omega arith, omega (arith, given.count, length-append passed (line ∷ further)), means.2);
   }
   told (Ok None) passed line further given over means = absurd means
   told {a} {b} (Err (fault.BadLine n)) passed line further given over means = record {
     answers = tells passed (line ∷ further) (BadAt n) given over means.0;
     stops = tt;
-    placed = let e = means.1 in let one = means.2 in (omega arith, omega (arith, given.count, length-append passed (line ∷ further)));
+    placed = let e = means.1 in let one = means.2 in (omega arith, omega (arith, given.count, length-append passed (line ∷ further)), means.3);
   }
   told {a} {b} (Err (fault.Cut n)) passed line further given over means = record {
     answers = stops passed (line ∷ further) cut.Whole (Cut n) given over means.0 means.1;

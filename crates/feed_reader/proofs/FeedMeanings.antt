@@ -1,9 +1,10 @@
 -- What a line means together with those behind it.
-use Rattle.std.proofs.Common.{◌≡◌, ℕ, ◌+◌, Bool, true, false, List, [], ◌∷◌, ◌++◌, Option, Some, None, Result, Ok, Err, length, refl, sym, ap, ◌∙◌, subst, arith}
+use Rattle.std.proofs.Common.{◌≡◌, ℕ, ◌+◌, ◌≤◌, Bool, true, false, List, [], ◌∷◌, ◌++◌, Option, Some, None, Result, Ok, Err, length, refl, sym, ap, ◌∙◌, subst, arith}
 use Rattle.mh_io.specs.Lines as cut
 use Rattle.mh_io.specs.Lined.{Lined, IsStopped}
 use Rattle.mh_io.specs.declared.lines_answer.LineFault.{LineFault}
 use Rattle.mh_io.specs.declared.lines_answer.LineFault.TheVariants as line_fault
+use Rattle.mh_io.specs.declared.reading.TheConstants.{MOST_BYTES}
 use Rattle.feed_reader.specs.declared.message.Fed.{Fed}
 use Rattle.feed_reader.specs.declared.message.Message.{Message}
 use Rattle.feed_reader.specs.declared.message.Message.TheVariants.{Crif}
@@ -17,15 +18,15 @@ use Rattle.feed_reader.specs.Steps.{AreInside, StopsAt, IsItem, Means, feed_faul
 use Rattle.feed_reader.proofs.FeedItems.{message_line, bad_line, block_lines, open_block}
 
 module _ {S : Type 0} where
-  pub message_means : (held : Lined S) (n first : ℕ) (line : List ℕ) (message : Message) → is_passed_over line ≡ false → meaning_of line ≡ Tells message → first ≡ n → Means n (line ∷ []) held (Ok (Some (record { line = first; message = message })))
-  message_means held n first line message full is same = rw same (message_line n line message full is, refl)
+  pub message_means : (held : Lined S) (n first : ℕ) (line : List ℕ) (message : Message) → is_passed_over line ≡ false → meaning_of line ≡ Tells message → first ≡ n → held.given ≤ MOST_BYTES → Means n (line ∷ []) held (Ok (Some (record { line = first; message = message })))
+  message_means held n first line message full is same few = rw same (message_line n line message full is, refl, few)
 
-  pub bad_means : (held : Lined S) (n first : ℕ) (line : List ℕ) → is_passed_over line ≡ false → meaning_of line ≡ Bad → first ≡ n → Means n (line ∷ []) held (Err (fault.BadLine first))
-  bad_means held n first line full is same = rw same (bad_line n line full is, refl, refl)
+  pub bad_means : (held : Lined S) (n first : ℕ) (line : List ℕ) → is_passed_over line ≡ false → meaning_of line ≡ Bad → first ≡ n → held.given ≤ MOST_BYTES → Means n (line ∷ []) held (Err (fault.BadLine first))
+  bad_means held n first line full is same few = rw same (bad_line n line full is, refl, refl, few)
 
-  pub block_means : (held : Lined S) (n first : ℕ) (line set : List ℕ) (inside : List (List ℕ)) (last block : List ℕ) → is_passed_over line ≡ false → meaning_of line ≡ Opens set → AreInside inside → is_end last ≡ true → first ≡ n → block ≡ block_of inside → Means n (line ∷ (inside ++ last ∷ [])) held (Ok (Some (record { line = first; message = Crif set block })))
-  block_means held n first line set inside last block full is within ends same whole =
-      rw (same, whole) (block_lines n line set inside last full is within ends, refl)
+  pub block_means : (held : Lined S) (n first : ℕ) (line set : List ℕ) (inside : List (List ℕ)) (last block : List ℕ) → is_passed_over line ≡ false → meaning_of line ≡ Opens set → AreInside inside → is_end last ≡ true → first ≡ n → block ≡ block_of inside → held.given ≤ MOST_BYTES → Means n (line ∷ (inside ++ last ∷ [])) held (Ok (Some (record { line = first; message = Crif set block })))
+  block_means held n first line set inside last block full is within ends same whole few =
+      rw (same, whole) (block_lines n line set inside last full is within ends, refl, few)
 
   pub cut_means : (held : Lined S) (n first : ℕ) (line set : List ℕ) (inside : List (List ℕ)) → is_passed_over line ≡ false → meaning_of line ≡ Opens set → AreInside inside → IsStopped held cut.Whole → first ≡ n → Means n (line ∷ inside) held (Err (fault.Cut first))
   cut_means held n first line set inside full is within is_stopped same =

@@ -56,9 +56,9 @@ pub record IsItem (n : ℕ) (lines : List (List ℕ)) (item : Item) : Type 0 whe
 
 -- what these lines mean, of which the first is no line that is passed over and has the number n
 abbrev pub Means : {S : Type 0} → ℕ → List (List ℕ) → Lined S → Result (Option Fed) FeedFault → Type 0
-Means n lines new (Ok (Some fed)) = IsItem n lines (Sent fed) × (fed.line ≡ n)
+Means n lines new (Ok (Some fed)) = IsItem n lines (Sent fed) × (fed.line ≡ n) × (new.given ≤ MOST_BYTES)
 Means n lines new (Ok None) = ⊥
-Means n lines new (Err (fault.BadLine line)) = IsItem n lines (BadAt line) × (line ≡ n) × (length lines ≡ 1)
+Means n lines new (Err (fault.BadLine line)) = IsItem n lines (BadAt line) × (line ≡ n) × (length lines ≡ 1) × (new.given ≤ MOST_BYTES)
 Means n lines new (Err (fault.Cut line)) = (items_of n 0 lines cut.Whole ≡ no_items (Cut line)) × IsStopped new cut.Whole × (line ≡ n)
 Means n lines new (Err (fault.LineLong line)) = (items_of n 0 lines cut.Long ≡ no_items (LineLong line)) × IsStopped new cut.Long × (line ≡ n + length lines)
 Means n lines new (Err (fault.TooLong taken)) = (items_of n 0 lines cut.Over ≡ no_items TooLong) × IsStopped new cut.Over × (taken ≡ MOST_BYTES + 1)

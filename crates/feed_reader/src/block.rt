@@ -1,4 +1,5 @@
-ghost use Rattle.std.specs.Prelude.{◌≡◌, ◌++◌, ◌∷◌, [], Ok, OnOk, true, false};
+ghost use Rattle.mh_io.specs.declared.reading.TheConstants.{MOST_BYTES};
+ghost use Rattle.std.specs.Prelude.{◌≡◌, ◌≤◌, ◌++◌, ◌∷◌, [], Ok, OnOk, true, false};
 ghost use Rattle.feed_reader.specs.Line.{is_passed_over, is_end};
 ghost use Rattle.feed_reader.specs.Steps.{Skips, Encloses, StopsAt};
 ghost use Rattle.mh_io.specs.Lines.{Stop};
@@ -51,6 +52,7 @@ pub(crate) fn read_block<S: Source>(
     ensures encloses { Encloses S.faults S.name S.gave S.left lines.old lines.new result line.new block.old block.new }
     ensures stops { StopsAt result lines.new }
     ensures ends { result ≡ Ok LineStep.Line → is_end line.new ≡ true }
+    ensures few { result ≡ Ok LineStep.Line → lines.new.given ≤ MOST_BYTES }
 {
     loop {
         match lines.next_line(line) {

@@ -14,3 +14,5 @@ pub use read::next_message;
 
 #[cfg(test)]
 mod tests;
+#[cfg(test)]
+mod whole;

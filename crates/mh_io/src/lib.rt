@@ -17,7 +17,7 @@ mod source;
 mod writing;
 
 pub use folder::{FindRefused, Folder};
-pub use lines_answer::{LineFault, LineStep, MemoryBack, Supply};
+pub use lines_answer::{LineFault, LineStep, MemoryBack};
 pub use lines_read::{Lines, lines_of};
 pub use lines_window::LINE_BYTES;
 pub use mem_folder::MemFolder;

@@ -17,7 +17,7 @@ returns-in-Ok-Line g c =
     record {
       further = e.inside ++ last ∷ [];
       lines = e.lines;
-      means = block_means c.read_block.new.lines c.args.lines.now.given c.given-first.result c.args.line.now c.args.set e.inside last c.read_block.new.block c.requires.full c.requires.opens e.within ends c.given-first.ensures.value block;
+      means = block_means c.read_block.new.lines c.args.lines.now.given c.given-first.result c.args.line.now c.args.set e.inside last c.read_block.new.block c.requires.full c.requires.opens e.within ends c.given-first.ensures.value block (c.in-Ok-Line.ensures.few (ap (λ s. Ok s) c.in-Ok-Line.field-0-is));
     }
 
 pub returns-in-Ok-End : goal.returns-in-Ok-End

@@ -11,7 +11,7 @@ returns-in-Ok-Tells g c =
     record {
       further = [];
       lines = gave_none g.S.Source.faults g.S.Source.name g.S.Source.gave g.S.Source.left c.args.lines.now;
-      means = message_means c.args.lines.now c.args.lines.now.given c.given-first.result c.args.line.now c.in-Ok-Tells.message c.requires is c.given-first.ensures.value;
+      means = message_means c.args.lines.now c.args.lines.now.given c.given-first.result c.args.line.now c.in-Ok-Tells.message c.requires is c.given-first.ensures.value (rw c.given-first.ensures.value at c.given-first.ensures.few);
     }
 
 pub returns-in-Ok-Bad : goal.returns-in-Ok-Bad
@@ -20,7 +20,7 @@ returns-in-Ok-Bad g c =
     record {
       further = [];
       lines = gave_none g.S.Source.faults g.S.Source.name g.S.Source.gave g.S.Source.left c.args.lines.now;
-      means = bad_means c.args.lines.now c.args.lines.now.given c.given-first.result c.args.line.now c.requires is c.given-first.ensures.value;
+      means = bad_means c.args.lines.now c.args.lines.now.given c.given-first.result c.args.line.now c.requires is c.given-first.ensures.value (rw c.given-first.ensures.value at c.given-first.ensures.few);
     }
 
 pub returns-in-Err : goal.returns-in-Err
