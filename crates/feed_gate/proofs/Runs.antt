@@ -39,7 +39,7 @@ called_terms s e = at (is_full s.journal e)
     at true = refl
     at false = refl
 
-after_terms : (s : Set) (xs : List Event) → (after_calls s xs).terms ≡ s.terms
+pub after_terms : (s : Set) (xs : List Event) → (after_calls s xs).terms ≡ s.terms
 after_terms s [] = refl
 after_terms s (x ∷ xs) = after_terms (called s x) xs ∙ called_terms s x
 

@@ -22,7 +22,7 @@ files_before : (old mid : Option Telling) (deeds : Deeds) (P : List File → Typ
 files_before None mid deeds P e h = tt
 files_before (Some t) mid deeds P e h = subst (λ m. IfSome m (λ t. P t.files)) e h
 
-whole_before : (old mid : FolderSeen) (deeds : Deeds) (name bytes : List ℕ) → Did old mid deeds → IsWhole mid name bytes → IsWhole old name bytes
+pub whole_before : (old mid : FolderSeen) (deeds : Deeds) (name bytes : List ℕ) → Did old mid deeds → IsWhole mid name bytes → IsWhole old name bytes
 whole_before old mid deeds name bytes did h =
     record { whole = files_before old.told mid.told deeds (λ files. file_of files name ≡ Some bytes) did h.whole; few = h.few }
 
@@ -31,7 +31,7 @@ long_before old mid deeds name taken did h =
     record { front = files_before old.told mid.told deeds (λ files. (rest : List ℕ) × (file_of files name ≡ Some (taken ++ rest))) did h.front; many = h.many }
 
 -- a file's fault after another file was read
-failed_after : (old mid new : FolderSeen) (first bytes name : List ℕ) (faults : ℕ) (IsRefused : List ℕ → Type 0) (f : FileFault) → Did old mid (with_reading no_deeds first bytes faults) → old.finds ≤ mid.finds → old.reads ≤ mid.reads → Failed mid new no_deeds name IsRefused f → Failed old new (with_reading no_deeds first bytes faults) name IsRefused f
+pub failed_after : (old mid new : FolderSeen) (first bytes name : List ℕ) (faults : ℕ) (IsRefused : List ℕ → Type 0) (f : FileFault) → Did old mid (with_reading no_deeds first bytes faults) → old.finds ≤ mid.finds → old.reads ≤ mid.reads → Failed mid new no_deeds name IsRefused f → Failed old new (with_reading no_deeds first bytes faults) name IsRefused f
 failed_after old mid new first bytes name faults IsRefused file.Missing did finds reads h =
     record { did = did_more old mid new first bytes faults _ did h.did; rose = rises_earlier old.finds mid.finds new.finds finds h.rose }
 failed_after old mid new first bytes name faults IsRefused file.Unread did finds reads h =
@@ -70,7 +70,7 @@ both_read old mid new params_name crif_name p batch trades e first second = reco
   values = second.so ∙ ap Some (sym e);
 }
 
-nothing_held : (known : Option (List ℕ)) → known ≡ append_known known []
+pub nothing_held : (known : Option (List ℕ)) → known ≡ append_known known []
 nothing_held None = refl
 nothing_held (Some xs) = ap Some (sym (append-nil xs))
 
@@ -89,6 +89,7 @@ ends_with_margin params_name crif_name old new out_old out_new b status.Params m
 ends_with_margin params_name crif_name old new out_old out_new b status.Terms margin h = absurd h
 ends_with_margin params_name crif_name old new out_old out_new b status.Find margin h = absurd h
 ends_with_margin params_name crif_name old new out_old out_new b status.Read margin h = absurd h
+ends_with_margin params_name crif_name old new out_old out_new b status.Feed margin h = absurd h
 
 -- how a calculation with a fault ends
 pub ends_at_fault : (params_name crif_name : List ℕ) (old new : FolderSeen) (out_old out_new : SinkSeen) (f : CalcFault) (s : Status) → Cause params_name crif_name old new f → s ≡ status_of f → GotLine out_old out_new (fault_text params_name crif_name f) → CalcEnds params_name crif_name old new out_old out_new s

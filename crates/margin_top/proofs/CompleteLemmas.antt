@@ -81,6 +81,7 @@ pub ends_well : (pn cn : List ℕ) (old new : FolderSeen) (out_old out_new : Sin
 ends_well pn cn old new out_old out_new status.Done h w = tt
 ends_well pn cn old new out_old out_new status.Memory h w = tt
 ends_well pn cn old new out_old out_new status.Words h w = absurd h
+ends_well pn cn old new out_old out_new status.Feed h w = absurd h
 ends_well pn cn old new out_old out_new status.Write h w = absurd (w.puts_stood (h.printed).rose)
 ends_well pn cn old new out_old out_new status.Params h w = let e : status.Params ≡ status.Memory = sym h.status ∙ only_memory pn cn old new out_old out_new w h.f h.cause in cc
 ends_well pn cn old new out_old out_new status.Terms h w = let e : status.Terms ≡ status.Memory = sym h.status ∙ only_memory pn cn old new out_old out_new w h.f h.cause in cc

@@ -3,3 +3,4 @@ pub mod PrintLemmas
 pub mod CalcLemmas
 pub mod CompleteLemmas
 pub mod RowLemmas
+pub mod RunLemmas

@@ -160,5 +160,6 @@ pub record EndsDone (params_name crif_name : List ℕ) (old new : FolderSeen) (o
 abbrev pub CalcEnds : List ℕ → List ℕ → FolderSeen → FolderSeen → SinkSeen → SinkSeen → Status → Type 0
 CalcEnds params_name crif_name old new out_old out_new status.Done = EndsDone params_name crif_name old new out_old out_new
 CalcEnds params_name crif_name old new out_old out_new status.Words = ⊥
+CalcEnds params_name crif_name old new out_old out_new status.Feed = ⊥
 CalcEnds params_name crif_name old new out_old out_new status.Write = EndsAtWrite params_name crif_name old new out_old out_new
 CalcEnds params_name crif_name old new out_old out_new s = EndsAtFault params_name crif_name old new out_old out_new s

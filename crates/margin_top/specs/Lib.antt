@@ -5,5 +5,7 @@ pub mod Faults
 pub mod Files
 pub mod Calc
 pub mod Complete
+pub mod Run
+pub mod RunStages
 pub mod House
 pub mod StatusCode

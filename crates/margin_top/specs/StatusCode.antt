@@ -9,6 +9,7 @@ status_code status.Words = 2
 status_code status.Params = 3
 status_code status.Terms = 4
 status_code status.Find = 5
+status_code status.Feed = 6
 status_code status.Read = 7
 status_code status.Write = 8
 status_code status.Memory = 9

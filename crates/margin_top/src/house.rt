@@ -9,11 +9,13 @@ ghost use Rattle.margin_top.specs.Words.{Calc, form_of};
 use crate::calculation::calc;
 use crate::printing::print_line;
 use crate::status::Status;
-use crate::words::calc_files;
+use crate::running::run;
+use crate::words::{Command, command_of};
 use mh_io::{Folder, Sink};
 use std::alloc::Global;
 
-/// All that the program does: `calc PARAMS CRIF` prints the margin of one batch, as `calc` says. Words that are no
+/// All that the program does: `calc PARAMS CRIF` prints the margin of one batch, as `calc` says; `run PARAMS TERMS FEED`
+/// runs a feed on the netting sets of the terms, and prints the journals. Words that are no
 /// form of a command are status `Words`, with one fault line; then the folder isn't asked for anything.
 pub fn margin_house<F: Folder, K: Sink>(
     alloc: Global,
@@ -37,8 +39,9 @@ pub fn margin_house<F: Folder, K: Sink>(
         (record { holds = K.holds out.old; faults = K.faults out.old })
         (record { holds = K.holds out.new; faults = K.faults out.new }) → EndsWell result }
 {
-    match calc_files(words) {
-        Some(files) => calc(alloc, files.params, files.crif, folder, out),
+    match command_of(words) {
+        Some(Command::Calc(files)) => calc(alloc, files.params, files.crif, folder, out),
+        Some(Command::Run(files)) => run(alloc, files.params, files.terms, files.feed, folder, out),
         None => {
             print_line(out, b"FAULT\tWORDS\n");
             Status::Words

@@ -1,4 +1,4 @@
-//! The top call: words in, a margin or one fault line out.
+//! The top call: words in; a margin, the journals of a run, or one fault line out.
 #![tactic(auto)]
 
 mod calculation;
@@ -7,7 +7,12 @@ mod file;
 mod house;
 mod margin_of;
 mod printing;
+mod run_fault;
+mod run_files;
+mod run_printing;
+mod running;
 mod status;
+mod terms_line;
 mod words;
 
 pub use calculation::calc;

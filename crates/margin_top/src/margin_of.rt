@@ -17,7 +17,7 @@ use simm_rules::Breakdown;
 use std::alloc::Global;
 
 /// Reads the parameter file of this name.
-fn read_param_file<F: Folder>(
+pub(crate) fn read_param_file<F: Folder>(
     alloc: Global,
     folder: &mut F,
     name: &str,

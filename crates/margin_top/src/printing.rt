@@ -36,7 +36,7 @@ pub(crate) fn print_line<K: Sink>(out: &mut K, line: &[u8])
 }
 
 /// Prints one line whose last field is a file's name, or a front of it. It takes no memory.
-fn print_named<K: Sink>(out: &mut K, fields: &[u8], name: &str)
+pub(crate) fn print_named<K: Sink>(out: &mut K, fields: &[u8], name: &str)
     ensures count { K.faults out.old ≤ K.faults out.new }
     ensures printed { GotLine
         (record { holds = K.holds out.old; faults = K.faults out.old })
@@ -52,7 +52,7 @@ fn print_named<K: Sink>(out: &mut K, fields: &[u8], name: &str)
 }
 
 /// Prints the line of a file's fault; `refused` is the line and the status where its grammar refuses it.
-fn print_file_fault<K: Sink>(
+pub(crate) fn print_file_fault<K: Sink>(
     out: &mut K,
     fault: FileFault,
     name: &str,

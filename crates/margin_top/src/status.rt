@@ -10,10 +10,12 @@ pub enum Status {
     Words,
     /// The parameter file is too long, or its grammar refuses it.
     Params,
-    /// The CRIF file is too long, or refused by its grammar or for its range.
+    /// The terms file or the CRIF file is too long, or refused by its grammar, or the batch for its range.
     Terms,
     /// A file isn't there or can't be opened.
     Find,
+    /// A feed ended inside a block, or a line of it or the whole is too long. Its whole messages were done.
+    Feed,
     /// A file can't be read to its end.
     Read,
     /// The text couldn't be written whole.
@@ -33,6 +35,7 @@ impl Status {
             Status::Params => 3,
             Status::Terms => 4,
             Status::Find => 5,
+            Status::Feed => 6,
             Status::Read => 7,
             Status::Write => 8,
             Status::Memory => 9,

@@ -22,17 +22,47 @@ fn is_name(word: &str) -> bool
     }
 }
 
-/// The files of `calc PARAMS CRIF`, if the words are that form.
-pub(crate) fn calc_files(words: &[String]) -> Option<CalcFiles<'_>>
+/// The files of a feed's run.
+#[derive(Clone, Copy, Debug)]
+pub(crate) struct RunFiles<'a> {
+    /// The name of the parameter file.
+    pub params: &'a str,
+    /// The name of the terms file.
+    pub terms: &'a str,
+    /// The name of the feed.
+    pub feed: &'a str,
+}
+
+/// A command with its files.
+#[derive(Clone, Copy, Debug)]
+pub(crate) enum Command<'a> {
+    Calc(CalcFiles<'a>),
+    Run(RunFiles<'a>),
+}
+
+/// The command of the words, if they are a form of one.
+pub(crate) fn command_of(words: &[String]) -> Option<Command<'_>>
     ensures { IsForm result (form_of (map string_bytes words.now)) }
 {
     match words {
         [command, params, crif]
             if command.as_str() == "calc" && is_name(params.as_str()) && is_name(crif.as_str()) => {
-            Some(CalcFiles {
+            Some(Command::Calc(CalcFiles {
                 params: params.as_str(),
                 crif: crif.as_str(),
-            })
+            }))
+        }
+        [command, params, terms, feed]
+            if command.as_str() == "run"
+                && is_name(params.as_str())
+                && is_name(terms.as_str())
+                && is_name(feed.as_str()) =>
+        {
+            Some(Command::Run(RunFiles {
+                params: params.as_str(),
+                terms: terms.as_str(),
+                feed: feed.as_str(),
+            }))
         }
         _ => None,
     }

@@ -1,0 +1,182 @@
+-- The stages of a run, one after the other.
+use Rattle.std.proofs.Common.{◌≡◌, ℕ, ◌+◌, ◌<◌, ◌≤◌, arith, List, [], ◌∷◌, ◌++◌, map, length, take, drop, zero, suc, append-nil, Bool, true, false, cond, nat_le, nat_lt, Result, Ok, Err, Option, Some, None, refl, sym, ap, ◌∙◌, subst, inl, inr, ⊎_elim}
+use Rattle.std.specs.List.{AllByRecursion, IsDistinct}
+use Rattle.std.proofs.lemmas.Bool.{or_parts, leb-false, ltb-false, cases_lt}
+use Rattle.std.proofs.lemmas.List.{length-map, length-append, length-take-le, drop_all, take_all}
+use Rattle.std.proofs.lemmas.List.Sums.{sum_by-append}
+use Rattle.mh_io.specs.Faults.{Rises}
+use Rattle.mh_io.specs.Folder.{told_after_find}
+use Rattle.mh_io.specs.declared.folder.FindRefused.{FindRefused}
+use Rattle.mh_io.specs.declared.folder.FindRefused.TheVariants as find
+use Rattle.simm_kinds.specs.Order.{same_name}
+use Rattle.simm_rules.specs.Params.{Params}
+use Rattle.simm_params.specs.Grammar.{params_of}
+use Rattle.csa_terms.specs.declared.fault.TermsFault.{TermsFault}
+use Rattle.csa_terms.specs.Grammar.{terms_of}
+use Rattle.csa_terms.specs.Terms.{Agreement, AreTerms}
+use Rattle.held_cell.specs.Entries.{entry}
+use Rattle.set_core.specs.declared.event.Event.{Event}
+use Rattle.set_core.specs.Answer.{answer}
+use Rattle.set_core.specs.Room.{event_rows, journal_rows, is_full}
+use Rattle.set_core.specs.Set.{Set, IsSet, with_entry}
+use Rattle.set_core.proofs.Legal.{legal-push, legal-none}
+use Rattle.feed_reader.specs.Feed.{Item}
+use Rattle.feed_gate.specs.declared.report.FeedReport.{FeedReport}
+use Rattle.feed_gate.specs.Calls.{calls, called, after_calls, after_feed}
+use Rattle.feed_gate.specs.Sets.{AreApart}
+use Rattle.feed_gate.proofs.Runs.{after_terms}
+use Rattle.margin_top.specs.declared.fault.FileFault.{FileFault}
+use Rattle.margin_top.specs.declared.run_fault.RunFault.{RunFault}
+use Rattle.margin_top.specs.declared.run_fault.RunFault.TheVariants as fault
+use Rattle.margin_top.specs.declared.status.Status.{Status}
+use Rattle.margin_top.specs.Files.{FolderSeen, no_deeds, with_reading, IsRead, Failed}
+use Rattle.margin_top.specs.Lines.{terms_fault}
+use Rattle.margin_top.specs.Run.{start, HasInputs, IsFed, HasRun, TermsFail, TermsRefuse, FindEnds, FeedFails, RunStarves, RunCause}
+use Rattle.margin_top.specs.RunStages.{IsRefusedFault}
+use Rattle.margin_top.proofs.FileLemmas.{did_ask, did_nothing, did_more}
+use Rattle.margin_top.proofs.CalcLemmas.{whole_before, failed_after}
+
+-- a feed that wasn't found
+pub find_fails : (S : Type 0) (old new : FolderSeen) (name : List ℕ) (why : FindRefused) → new.told ≡ told_after_find {S = S} (Err why) name old.told → (why ≡ find.Failed → Rises old.finds new.finds) → FindEnds old new name why
+find_fails S old new name find.Failed told rose = record { did = told ∙ did_ask old.told name; rose = rose refl }
+find_fails S old new name find.Memory told rose = record { deeds = no_deeds; did = told ∙ did_nothing old.told; asked = inl refl }
+
+-- both files were read
+pub inputs_read : (old mid new : FolderSeen) (pn tn : List ℕ) (p : Params) (agreements : List Agreement) → IsRead old mid no_deeds pn (λ bytes. params_of bytes ≡ Some p) → IsRead mid new no_deeds tn (λ bytes. terms_of bytes ≡ Ok agreements) → HasInputs pn tn old new p agreements
+inputs_read old mid new pn tn p agreements first second = record {
+  param_bytes = first.bytes;
+  param_faults = first.faults;
+  terms_bytes = second.bytes;
+  terms_faults = second.faults;
+  did = did_more old mid new pn first.bytes first.faults (with_reading no_deeds tn second.bytes second.faults) first.did second.did;
+  params = record { whole = first.whole; values = first.so };
+  whole = whole_before old mid (with_reading no_deeds pn first.bytes first.faults) tn second.bytes first.did second.whole;
+  terms = second.so;
+}
+
+-- the parameters were read, and then the terms file gave nothing
+pub terms_failed : (old mid new : FolderSeen) (pn tn : List ℕ) (p : Params) (f : FileFault) → IsRead old mid no_deeds pn (λ bytes. params_of bytes ≡ Some p) → old.finds ≤ mid.finds → old.reads ≤ mid.reads → Failed mid new no_deeds tn (λ _. ⊥) f → TermsFail pn tn old new f
+terms_failed old mid new pn tn p f first finds reads h = record {
+  param_bytes = first.bytes;
+  param_faults = first.faults;
+  p = p;
+  params = record { whole = first.whole; values = first.so };
+  failed = failed_after old mid new pn first.bytes tn first.faults (λ _. ⊥) f first.did finds reads h;
+}
+
+-- memory ran out after both files were read
+starved : (old mid new : FolderSeen) (pn tn : List ℕ) (P Q : List ℕ → Type 0) → IsRead old mid no_deeds pn P → IsRead mid new no_deeds tn Q → RunStarves pn tn old new
+starved old mid new pn tn P Q first second = record {
+  deeds = with_reading (with_reading no_deeds pn first.bytes first.faults) tn second.bytes second.faults;
+  did = did_more old mid new pn first.bytes first.faults (with_reading no_deeds tn second.bytes second.faults) first.did second.did;
+  asked = refl;
+}
+
+pub run_starved : (old mid new : FolderSeen) (pn tn : List ℕ) (p : Params) (agreements : List Agreement) → IsRead old mid no_deeds pn (λ bytes. params_of bytes ≡ Some p) → IsRead mid new no_deeds tn (λ bytes. terms_of bytes ≡ Ok agreements) → RunStarves pn tn old new
+run_starved old mid new pn tn p agreements first second = starved old mid new pn tn (λ bytes. params_of bytes ≡ Some p) (λ bytes. terms_of bytes ≡ Ok agreements) first second
+
+-- the terms file was refused
+pub terms_refused : (old mid new : FolderSeen) (pn tn fn : List ℕ) (p : Params) (e : TermsFault) (f : RunFault) → IsRead old mid no_deeds pn (λ bytes. params_of bytes ≡ Some p) → IsRead mid new no_deeds tn (λ bytes. terms_of bytes ≡ Err e) → IsRefusedFault e f → RunCause pn tn fn old new f
+terms_refused old mid new pn tn fn p e (fault.TermsRefused line) first second h = record {
+  param_bytes = first.bytes;
+  param_faults = first.faults;
+  p = p;
+  params = record { whole = first.whole; values = first.so };
+  e = e;
+  read = record {
+    bytes = second.bytes;
+    faults = second.faults;
+    did = did_more old mid new pn first.bytes first.faults (with_reading no_deeds tn second.bytes second.faults) first.did second.did;
+    whole = whole_before old mid (with_reading no_deeds pn first.bytes first.faults) tn second.bytes first.did second.whole;
+    so = second.so;
+  };
+  line = h;
+}
+terms_refused old mid new pn tn fn p e fault.Memory first second h = starved old mid new pn tn (λ bytes. params_of bytes ≡ Some p) (λ bytes. terms_of bytes ≡ Err e) first second
+terms_refused old mid new pn tn fn p e (fault.OfParams f) first second h = absurd h
+terms_refused old mid new pn tn fn p e (fault.OfTerms f) first second h = absurd h
+terms_refused old mid new pn tn fn p e (fault.OfFeed why) first second h = absurd h
+
+-- ---- the sets
+
+same_terms : (p : Params) (agreements : List Agreement) → map (λ s. s.terms.name) (map (start p) agreements) ≡ map (λ t. t.name) agreements
+same_terms p [] = refl
+same_terms p (t ∷ ts) = ap (λ ns. t.name ∷ ns) (same_terms p ts)
+
+distinct_front : (i : ℕ) (n : List ℕ) (agreements : List Agreement) → AllByRecursion (λ m. same_name n m ≡ false) (map (λ t. t.name) agreements) → AllByRecursion (λ m. same_name n m ≡ false) (map (λ t. t.name) (take i agreements))
+distinct_front zero n agreements h = tt
+distinct_front (suc i) n [] h = tt
+distinct_front (suc i) n (t ∷ ts) h = (h.0, distinct_front i n ts h.1)
+
+front_distinct : (i : ℕ) (agreements : List Agreement) → IsDistinct same_name (map (λ t. t.name) agreements) → IsDistinct same_name (map (λ t. t.name) (take i agreements))
+unfolding IsDistinct
+front_distinct zero agreements h = tt
+front_distinct (suc i) [] h = tt
+front_distinct (suc i) (t ∷ ts) h = (distinct_front i t.name ts h.0, front_distinct i ts h.1)
+
+pub apart_start : (p : Params) (agreements : List Agreement) → AreTerms agreements → AreApart (map (start p) agreements)
+apart_start p agreements h = record {
+  few = omega (arith, h.few, length-map agreements (start p));
+  different = subst (IsDistinct same_name) (sym (same_terms p agreements)) h.different;
+}
+
+shorter : (i : ℕ) (agreements : List Agreement) → length (take i agreements) ≤ length agreements
+shorter i agreements = ⊎_elim
+    (λ lt. omega (arith, lt, length-take-le i agreements (omega (arith, lt))))
+    (λ ge. omega (arith, ap length (take_all i agreements (omega (arith, ge)))))
+    (cases_lt i (length agreements))
+
+-- the sets of a front of the terms
+pub apart_part : (p : Params) (i : ℕ) (agreements : List Agreement) (sets : List Set) → AreTerms agreements → sets ≡ map (start p) (take i agreements) → AreApart sets
+apart_part p i agreements sets h e = subst AreApart (sym e) (record {
+  few = omega (arith, h.few, length-map (take i agreements) (start p), shorter i agreements);
+  different = subst (IsDistinct same_name) (sym (same_terms p (take i agreements))) (front_distinct i agreements h.different);
+})
+
+called_set : (s : Set) (e : Event) → IsSet s.params s.journal → IsSet (called s e).params (called s e).journal
+called_set s e is = at (is_full s.journal e) refl
+  where
+    at : (b : Bool) → is_full s.journal e ≡ b → IsSet (cond b s (with_entry s 0 e (answer s.params s.journal e))).params (cond b s (with_entry s 0 e (answer s.params s.journal e))).journal
+    at true h = is
+    at false h =
+        let room = or_parts (nat_le 65535 (length s.journal)) (nat_lt 500000 (journal_rows s.journal + event_rows e)) h in
+        let few : length s.journal < 65535 = leb-false 65535 (length s.journal) room.0 in
+        let light : journal_rows s.journal + event_rows e ≤ 500000 = ltb-false 500000 (journal_rows s.journal + event_rows e) room.1 in
+        let rows : journal_rows (s.journal ++ entry 0 e (answer s.params s.journal e) ∷ []) ≡ journal_rows s.journal + event_rows e = sum_by-append (λ x. event_rows x.event) s.journal (entry 0 e (answer s.params s.journal e) ∷ []) ∙ omega arith in
+        record {
+          few = omega (arith, few, length-append s.journal (entry 0 e (answer s.params s.journal e) ∷ []));
+          light = omega (arith, light, rows);
+          legal = legal-push s.params s.journal (entry 0 e (answer s.params s.journal e)) is.legal refl;
+        }
+
+after_set : (s : Set) (events : List Event) → IsSet s.params s.journal → IsSet (after_calls s events).params (after_calls s events).journal
+after_set s [] is = is
+after_set s (e ∷ events) is = after_set (called s e) events (called_set s e is)
+
+start_set : (p : Params) (t : Agreement) → IsSet (start p t).params (start p t).journal
+start_set p t = record { few = omega arith; light = omega arith; legal = legal-none p }
+
+legal_sets : (p : Params) (items : List Item) (agreements : List Agreement) → AllByRecursion (λ s. IsSet s.params s.journal) (map (after_feed items) (map (start p) agreements))
+legal_sets p items [] = tt
+legal_sets p items (t ∷ ts) = (after_set (start p t) (calls t.name items) (start_set p t), legal_sets p items ts)
+
+terms_stay : (p : Params) (items : List Item) (agreements : List Agreement) → agreements ≡ map (λ s. s.terms) (map (after_feed items) (map (start p) agreements))
+terms_stay p items [] = refl
+terms_stay p items (t ∷ ts) = ap (λ us. t ∷ us) (terms_stay p items ts) ∙ ap (λ u. u ∷ map (λ s. s.terms) (map (after_feed items) (map (start p) ts))) (sym (after_terms (start p t) (calls t.name items)))
+
+-- all items of a list were written
+pub written : {X : Type 0} (new old : List X) (n : ℕ) → length new ≡ length old → n ≡ length old → take n (new ++ drop (length new) old) ≡ new
+written new old n same e =
+    ap (λ xs. take n (new ++ xs)) (drop_all (length new) old (omega (arith, same)))
+    ∙ ap (take n) (append-nil new)
+    ∙ take_all n new (omega (arith, same, e))
+
+-- the feed was run on the sets of the terms
+pub has_run : (old mid new : FolderSeen) (pn tn fn : List ℕ) (p : Params) (agreements : List Agreement) (started sets : List Set) (r : FeedReport) → HasInputs pn tn old mid p agreements → started ≡ map (start p) agreements → IsFed fn mid new started sets r → HasRun pn tn fn old new sets r × (agreements ≡ map (λ s. s.terms) sets)
+has_run old mid new pn tn fn p agreements started sets r inputs begun fed =
+    let its : IsFed fn mid new (map (start p) agreements) sets r = subst (λ ss. IsFed fn mid new ss sets r) begun fed in
+    (record { p = p; agreements = agreements; mid = mid; inputs = inputs; fed = its; legal = subst (AllByRecursion (λ s. IsSet s.params s.journal)) (sym its.ran.sets) (legal_sets p its.ran.items agreements) },
+     terms_stay p its.ran.items agreements ∙ ap (map (λ s. s.terms)) (sym its.ran.sets))
+
+pub feed_failed : (old mid new : FolderSeen) (pn tn fn : List ℕ) (p : Params) (agreements : List Agreement) (why : FindRefused) → HasInputs pn tn old mid p agreements → FindEnds mid new fn why → FeedFails pn tn fn old new why
+feed_failed old mid new pn tn fn p agreements why inputs h = record { p = p; agreements = agreements; mid = mid; inputs = inputs; missing = h }

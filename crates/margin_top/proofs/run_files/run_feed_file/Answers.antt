@@ -1,0 +1,28 @@
+use Rattle.std.proofs.Common.{ap, Err, refl, ◌∙◌, arith}
+use Rattle.mh_io.specs.Faults.{added_faults}
+use Rattle.margin_top.proofs.FileLemmas.{told_read, whole_file, file_front, rose_from_none, rises_by}
+use Rattle.margin_top.proofs.RunLemmas.{find_fails}
+use Rattle.margin_top.proofs.run_files.run_feed_file.Goals as goal
+
+pub returns-in-Err-clause-ends : goal.returns-in-Err-clause-ends
+returns-in-Err-clause-ends g c =
+    find_fails g.row.F-Src.Denot _ _ c.args.name.now c.in-Err.refused c.in-Err.ensures.told (λ e. c.in-Err.ensures.failed (ap Err e))
+
+pub returns-clause-ends : goal.returns-clause-ends
+returns-clause-ends g c =
+    let found = c.in-Ok.ensures.found in
+    let ran = c.run_feed-source.ensures in
+    let faults = g.F.Src.Source.faults c.run_feed-source.result.0 in
+    record {
+      taken = ran.taken;
+      ended = ran.ended;
+      faults = faults;
+      did = told_read _ _ _ c.args.name.now ran.taken faults _ _ _ _ _ _ c.in-Ok.ensures.told found ran.named ran.takes c.done.ensures.told;
+      front = file_front _ c.args.name.now ran.taken _ _ _ _ _ found ran.takes;
+      all = λ e. whole_file _ c.args.name.now ran.taken _ _ _ _ _ found ran.takes (ran.at_end e);
+      ran = ran.ran;
+      whole = ran.whole;
+      failed = λ e.
+        let up = rose_from_none faults _ c.in-Ok.ensures.clean (ran.failed e) in
+        (up, rises_by _ _ faults (omega (arith, c.done.ensures.count, c.in-Ok.ensures.reads_stand)) (c.done.ensures.rises ∙ ap (λ n. added_faults n faults) c.in-Ok.ensures.reads_stand) up);
+    }

@@ -1,0 +1,189 @@
+-- What a run of a feed does: for each status what happened, and what was printed.
+use Rattle.std.specs.Prelude.{ℕ, ◌≡◌, ◌<◌, ◌≤◌, List, [], ◌∷◌, ◌++◌, length, take, map, Bool, true, Option, Some, None, IfSome, Result, Ok, Err, ◌⊎◌}
+use Rattle.std.specs.List.{AllByRecursion, flat_map}
+use Rattle.mh_io.specs.Faults.{Rises}
+use Rattle.mh_io.specs.Folder.{file_of}
+use Rattle.mh_io.specs.declared.folder.FindRefused.{FindRefused}
+use Rattle.mh_io.specs.declared.folder.FindRefused.TheVariants as find
+use Rattle.simm_rules.specs.Params.{Params}
+use Rattle.simm_params.specs.Grammar.{params_of}
+use Rattle.csa_terms.specs.declared.fault.TermsFault.{TermsFault}
+use Rattle.csa_terms.specs.Faults.{terms_fault_number}
+use Rattle.csa_terms.specs.Grammar.{terms_of}
+use Rattle.csa_terms.specs.Terms.{Agreement}
+use Rattle.set_core.specs.Set.{Set, IsSet}
+use Rattle.feed_gate.specs.declared.report.FeedEnd.{FeedEnd}
+use Rattle.feed_gate.specs.declared.report.FeedEnd.TheVariants as end_at
+use Rattle.feed_gate.specs.declared.report.FeedReport.{FeedReport}
+use Rattle.feed_gate.specs.Run.{RanOver}
+use Rattle.margin_text.specs.Journal.{journal_text}
+use Rattle.margin_text.specs.Feeds.{feed_text}
+use Rattle.margin_top.specs.declared.status.Status.{Status}
+use Rattle.margin_top.specs.declared.status.Status.TheVariants as status
+use Rattle.margin_top.specs.declared.fault.FileFault.{FileFault}
+use Rattle.margin_top.specs.declared.run_fault.RunFault.{RunFault}
+use Rattle.margin_top.specs.declared.run_fault.RunFault.TheVariants as fault
+use Rattle.margin_top.specs.Lines.{params_fault, find_fault, terms_fault}
+use Rattle.margin_top.specs.Files.{FolderSeen, Deeds, no_deeds, with_reading, Did, IsWhole, IsRead, IsMissing, IsCutShort, Failed}
+use Rattle.margin_top.specs.Calc.{SinkSeen, Got, GotFront, GotLine, HasParams, status_of_file, line_of_file}
+
+-- the sink got a front of the text
+pub record GotPart (old new : SinkSeen) (text : List ℕ) : Type 0 where
+  pub put : ℕ
+  pub front : Got old new (take put text)
+
+-- the parameter file and then the terms file were read whole, with these values
+pub record HasInputs (params_name terms_name : List ℕ) (old new : FolderSeen) (p : Params) (agreements : List Agreement) : Type 0 where
+  pub param_bytes : List ℕ
+  pub param_faults : ℕ
+  pub terms_bytes : List ℕ
+  pub terms_faults : ℕ
+  pub did : Did old new (with_reading (with_reading no_deeds params_name param_bytes param_faults) terms_name terms_bytes terms_faults)
+  pub params : HasParams old params_name param_bytes p
+  pub whole : IsWhole old terms_name terms_bytes
+  pub terms : terms_of terms_bytes ≡ Ok agreements
+
+-- a set before its first call
+abbrev pub start : Params → Agreement → Set
+start p agreement = record { params = p; terms = agreement; journal = [] }
+
+-- The feed was run: so much of it was taken, all of it where it ended. What became of its items is the written rule
+-- (*RanOver*): each set has one journal, which holds the answers to the feed's calls on it, in the feed's order.
+pub record IsFed (name : List ℕ) (old new : FolderSeen) (old_sets new_sets : List Set) (r : FeedReport) : Type 0 where
+  pub taken : List ℕ
+  pub ended : Bool
+  pub faults : ℕ
+  pub did : Did old new (with_reading no_deeds name taken faults)
+  pub front : IfSome old.told (λ t. (rest : List ℕ) × (file_of t.files name ≡ Some (taken ++ rest)))
+  pub all : ended ≡ true → IfSome old.told (λ t. file_of t.files name ≡ Some taken)
+  pub ran : RanOver taken ended old_sets new_sets r
+  pub whole : r.end ≡ end_at.End → ended ≡ true
+  pub failed : r.end ≡ end_at.ReadFault → (0 < faults) × Rises old.reads new.reads
+
+-- Both files were read, and the feed was run on the sets of the terms. Each set's journal is legal: each reply is the
+-- answer of the written rule, from scratch, over the entries before it.
+pub record HasRun (params_name terms_name feed_name : List ℕ) (old new : FolderSeen) (sets : List Set) (r : FeedReport) : Type 0 where
+  pub p : Params
+  pub agreements : List Agreement
+  pub mid : FolderSeen
+  pub inputs : HasInputs params_name terms_name old mid p agreements
+  pub fed : IsFed feed_name mid new (map (start p) agreements) sets r
+  pub legal : AllByRecursion (λ s. IsSet s.params s.journal) sets
+
+-- all that is printed: the sets' journals in the order of the terms, and then what became of the feed
+abbrev pub run_text : List Set → FeedReport → List ℕ
+run_text sets r =
+    flat_map (λ s. journal_text s.terms.name s.journal) sets
+    ++ feed_text 0 (map (λ s. s.terms.name) sets) r.done r.refused r.end
+
+-- ---- runs that didn't reach the feed
+
+-- the parameters were read, and then the terms file gave nothing
+pub record TermsFail (params_name terms_name : List ℕ) (old new : FolderSeen) (f : FileFault) : Type 0 where
+  pub param_bytes : List ℕ
+  pub param_faults : ℕ
+  pub p : Params
+  pub params : HasParams old params_name param_bytes p
+  pub failed : Failed old new (with_reading no_deeds params_name param_bytes param_faults) terms_name (λ _. ⊥) f
+
+-- the parameters were read, and then the terms file was refused with this line
+pub record TermsRefuse (params_name terms_name : List ℕ) (old new : FolderSeen) (printed : List ℕ) : Type 0 where
+  pub param_bytes : List ℕ
+  pub param_faults : ℕ
+  pub p : Params
+  pub params : HasParams old params_name param_bytes p
+  pub e : TermsFault
+  pub read : IsRead old new (with_reading no_deeds params_name param_bytes param_faults) terms_name (λ bytes. terms_of bytes ≡ Err e)
+  pub line : printed ≡ terms_fault e
+
+-- a name was asked for, and no source of it came
+abbrev pub FindEnds : FolderSeen → FolderSeen → List ℕ → FindRefused → Type 0
+FindEnds old new name find.Failed = IsMissing old new no_deeds name
+FindEnds old new name find.Memory = IsCutShort old new no_deeds name
+
+-- both files were read, and then the feed wasn't found
+pub record FeedFails (params_name terms_name feed_name : List ℕ) (old new : FolderSeen) (why : FindRefused) : Type 0 where
+  pub p : Params
+  pub agreements : List Agreement
+  pub mid : FolderSeen
+  pub inputs : HasInputs params_name terms_name old mid p agreements
+  pub missing : FindEnds mid new feed_name why
+
+-- both files were asked for, and then memory ran out
+pub record RunStarves (params_name terms_name : List ℕ) (old new : FolderSeen) : Type 0 where
+  pub deeds : Deeds
+  pub did : Did old new deeds
+  pub asked : deeds.names ≡ params_name ∷ terms_name ∷ []
+
+-- what happened at each fault of a run
+abbrev pub RunCause : List ℕ → List ℕ → List ℕ → FolderSeen → FolderSeen → RunFault → Type 0
+RunCause params_name terms_name feed_name old new (fault.OfParams f) = Failed old new no_deeds params_name (λ bytes. params_of bytes ≡ None) f
+RunCause params_name terms_name feed_name old new (fault.OfTerms f) = TermsFail params_name terms_name old new f
+RunCause params_name terms_name feed_name old new (fault.TermsRefused line) = TermsRefuse params_name terms_name old new line
+RunCause params_name terms_name feed_name old new (fault.OfFeed why) = FeedFails params_name terms_name feed_name old new why
+RunCause params_name terms_name feed_name old new fault.Memory = RunStarves params_name terms_name old new
+
+-- the status of each fault
+abbrev pub status_of_find : FindRefused → Status
+status_of_find find.Failed = status.Find
+status_of_find find.Memory = status.Memory
+
+abbrev pub status_of_run : RunFault → Status
+status_of_run (fault.OfParams f) = status_of_file status.Params f
+status_of_run (fault.OfTerms f) = status_of_file status.Terms f
+status_of_run (fault.TermsRefused line) = status.Terms
+status_of_run (fault.OfFeed why) = status_of_find why
+status_of_run fault.Memory = status.Memory
+
+-- the one line that is printed at each fault; for want of memory none
+abbrev pub find_line : List ℕ → FindRefused → List ℕ
+find_line name find.Failed = find_fault name
+find_line name find.Memory = []
+
+abbrev pub run_fault_text : List ℕ → List ℕ → List ℕ → RunFault → List ℕ
+run_fault_text params_name terms_name feed_name (fault.OfParams f) = line_of_file params_name params_fault f
+run_fault_text params_name terms_name feed_name (fault.OfTerms f) = line_of_file terms_name [] f
+run_fault_text params_name terms_name feed_name (fault.TermsRefused line) = line
+run_fault_text params_name terms_name feed_name (fault.OfFeed why) = find_line feed_name why
+run_fault_text params_name terms_name feed_name fault.Memory = []
+
+-- ---- the ends of a run, by its status
+
+-- the status of a feed's end where all is printed
+abbrev pub status_of_end : FeedEnd → Status
+status_of_end end_at.End = status.Done
+status_of_end (end_at.Cut line) = status.Feed
+status_of_end (end_at.LineLong line) = status.Feed
+status_of_end (end_at.TooLong taken) = status.Feed
+status_of_end end_at.ReadFault = status.Read
+status_of_end (end_at.Memory line) = status.Memory
+
+-- What printing a run does, by its status: that of the feed's end, but Write where the sink failed at a feed that
+-- ended whole, and Memory where there was none for the text.
+abbrev pub RunPrints : List Set → FeedReport → SinkSeen → SinkSeen → Status → Type 0
+RunPrints sets r old new status.Done = (r.end ≡ end_at.End) × Got old new (run_text sets r)
+RunPrints sets r old new status.Write = (r.end ≡ end_at.End) × GotFront old new (run_text sets r)
+RunPrints sets r old new status.Feed = (status_of_end r.end ≡ status.Feed) × GotLine old new (run_text sets r)
+RunPrints sets r old new status.Read = (r.end ≡ end_at.ReadFault) × GotLine old new (run_text sets r)
+RunPrints sets r old new status.Memory = GotPart old new (run_text sets r)
+RunPrints sets r old new _ = ⊥
+
+-- the run reached its feed
+pub record EndsRun (params_name terms_name feed_name : List ℕ) (old new : FolderSeen) (out_old out_new : SinkSeen) (s : Status) : Type 0 where
+  pub sets : List Set
+  pub r : FeedReport
+  pub run : HasRun params_name terms_name feed_name old new sets r
+  pub printed : RunPrints sets r out_old out_new s
+
+-- the run ended before, with its cause, its status and its line
+pub record EndsRunAtFault (params_name terms_name feed_name : List ℕ) (old new : FolderSeen) (out_old out_new : SinkSeen) (s : Status) : Type 0 where
+  pub f : RunFault
+  pub cause : RunCause params_name terms_name feed_name old new f
+  pub status : status_of_run f ≡ s
+  pub printed : GotLine out_old out_new (run_fault_text params_name terms_name feed_name f)
+
+-- what a run with this status did
+abbrev pub RunEnds : List ℕ → List ℕ → List ℕ → FolderSeen → FolderSeen → SinkSeen → SinkSeen → Status → Type 0
+RunEnds params_name terms_name feed_name old new out_old out_new s =
+    EndsRun params_name terms_name feed_name old new out_old out_new s
+    ⊎ EndsRunAtFault params_name terms_name feed_name old new out_old out_new s

@@ -1,0 +1,147 @@
+//! The files of a run: parameters, terms, and the feed run on its sets.
+ghost use Rattle.std.specs.Prelude.{◌≡◌, ◌≤◌, map, IfOk};
+ghost use Rattle.csa_terms.specs.Grammar.{terms_of};
+ghost use Rattle.feed_gate.specs.Sets.{AreApart};
+ghost use Rattle.margin_top.specs.Files.{FolderSeen};
+ghost use Rattle.margin_top.specs.Run.{start};
+ghost use Rattle.margin_top.specs.RunStages.{TermsEnds, FeedEnds, RunFilesEnd, IsRefusedFault};
+
+use crate::fault::FileFault;
+use crate::file::read_file;
+use crate::margin_of::read_param_file;
+use crate::run_fault::RunFault;
+use crate::terms_line::terms_line;
+use csa_terms::{Terms, TermsFault, read_terms};
+use feed_gate::{FeedReport, run_feed};
+use mh_io::{FindRefused, Folder};
+use set_core::SetState;
+use simm_params::Params;
+use std::alloc::{AllocError, Global};
+
+/// Why a terms file gave no terms.
+#[derive(Debug, Drop)]
+pub(crate) enum TermsFileFault {
+    /// It could not be read.
+    OfFile(FileFault),
+    /// It is refused.
+    Refused(TermsFault),
+}
+
+/// What a run leaves: its sets with their terms, and the report of its feed.
+#[derive(Drop)]
+pub(crate) struct Outcome {
+    pub terms: Terms,
+    pub sets: Vec<SetState>,
+    pub report: FeedReport,
+}
+
+/// Reads the terms file of this name.
+fn read_terms_file<F: Folder>(
+    alloc: Global,
+    folder: &mut F,
+    name: &str,
+) -> Result<Terms, TermsFileFault>
+    ensures finds { F.find_faults folder.old ≤ F.find_faults folder.new }
+    ensures reads { F.read_faults folder.old ≤ F.read_faults folder.new }
+    ensures due { F.due folder.new ≡ F.due folder.old }
+    ensures ends { TermsEnds
+        (record { told = F.told folder.old; finds = F.find_faults folder.old; reads = F.read_faults folder.old })
+        (record { told = F.told folder.new; finds = F.find_faults folder.new; reads = F.read_faults folder.new })
+        name.now result }
+{
+    let bytes = match read_file(alloc, folder, name) {
+        Ok(bytes) => bytes,
+        Err(fault) => return Err(TermsFileFault::OfFile(fault)),
+    };
+    match read_terms(alloc, bytes.as_slice()) {
+        Ok(terms) => Ok(terms),
+        Err(TermsFault::Memory) => Err(TermsFileFault::OfFile(FileFault::Memory)),
+        Err(fault) => Err(TermsFileFault::Refused(fault)),
+    }
+}
+
+/// A set for each of the terms, without calls.
+fn make_sets(alloc: Global, params: &Params, terms: &Terms) -> Result<Vec<SetState>, AllocError>
+    ensures sets { IfOk result (λ sets. sets.items ≡ map (start params.now) terms.now) }
+    ensures apart { IfOk result (λ sets. AreApart sets.items) }
+{
+    let mut sets = Vec::new(alloc);
+    for agreement in terms.sets() {
+        let set = SetState::new(alloc, params.copy(alloc)?, agreement.copy(alloc)?)?;
+        sets.push(set)?;
+    }
+    Ok(sets)
+}
+
+/// Finds the feed of this name, runs it on the sets, and hands it back.
+fn run_feed_file<F: Folder>(
+    alloc: Global,
+    folder: &mut F,
+    name: &str,
+    sets: &mut [SetState],
+) -> Result<FeedReport, FindRefused>
+    requires { AreApart sets.old }
+    ensures finds { F.find_faults folder.old ≤ F.find_faults folder.new }
+    ensures reads { F.read_faults folder.old ≤ F.read_faults folder.new }
+    ensures due { F.due folder.new ≡ F.due folder.old }
+    ensures ends { FeedEnds
+        (record { told = F.told folder.old; finds = F.find_faults folder.old; reads = F.read_faults folder.old })
+        (record { told = F.told folder.new; finds = F.find_faults folder.new; reads = F.read_faults folder.new })
+        name.now sets.old sets.new result }
+{
+    let source = match folder.find(alloc, name) {
+        Ok(source) => source,
+        Err(refused) => return Err(refused),
+    };
+    let (source, report) = run_feed(alloc, source, sets);
+    folder.done(source);
+    Ok(report)
+}
+
+/// Reads both files, and runs the feed on the sets of the terms.
+pub(crate) fn run_files<F: Folder>(
+    alloc: Global,
+    params: &str,
+    terms: &str,
+    feed: &str,
+    folder: &mut F,
+) -> Result<Outcome, RunFault>
+    ensures finds { F.find_faults folder.old ≤ F.find_faults folder.new }
+    ensures reads { F.read_faults folder.old ≤ F.read_faults folder.new }
+    ensures due { F.due folder.new ≡ F.due folder.old }
+    ensures ends { RunFilesEnd params.now terms.now feed.now
+        (record { told = F.told folder.old; finds = F.find_faults folder.old; reads = F.read_faults folder.old })
+        (record { told = F.told folder.new; finds = F.find_faults folder.new; reads = F.read_faults folder.new })
+        result }
+{
+    let values = match read_param_file(alloc, folder, params) {
+        Ok(values) => values,
+        Err(fault) => return Err(RunFault::OfParams(fault)),
+    };
+    let agreements = match read_terms_file(alloc, folder, terms) {
+        Ok(agreements) => agreements,
+        Err(TermsFileFault::OfFile(fault)) => return Err(RunFault::OfTerms(fault)),
+        Err(TermsFileFault::Refused(fault)) => return Err(refused_terms(alloc, &fault)),
+    };
+    let Ok(mut sets) = make_sets(alloc, &values, &agreements) else {
+        return Err(RunFault::Memory);
+    };
+    match run_feed_file(alloc, folder, feed, &mut sets) {
+        Ok(report) => Ok(Outcome {
+            terms: agreements,
+            sets,
+            report,
+        }),
+        Err(refused) => Err(RunFault::OfFeed(refused)),
+    }
+}
+
+/// The fault of terms that are refused.
+fn refused_terms(alloc: Global, fault: &TermsFault) -> RunFault
+    ensures { IsRefusedFault fault.now result }
+{
+    match terms_line(alloc, fault) {
+        Ok(line) => RunFault::TermsRefused(line),
+        Err(_) => RunFault::Memory,
+    }
+}

@@ -1,0 +1,39 @@
+ghost use Rattle.std.specs.Prelude.{◌≡◌, ◌≤◌};
+ghost use Rattle.margin_top.specs.Files.{FolderSeen};
+ghost use Rattle.margin_top.specs.Calc.{SinkSeen};
+ghost use Rattle.margin_top.specs.Run.{RunEnds};
+
+use crate::run_files::run_files;
+use crate::run_printing::{print_run, print_run_fault};
+use crate::status::Status;
+use mh_io::{Folder, Sink};
+use std::alloc::Global;
+
+/// Runs a feed on the netting sets of a terms file, and prints each set's journal and what became of the feed.
+///
+/// With status `Done` the sink got all of the text; with `Feed`, and with `Read` where the feed couldn't be read to its
+/// end, the same or a front of it where the sink failed: the whole messages before the feed's end were done. With `Write`
+/// and `Memory` it got a front. Where the run didn't reach the feed it got one fault line.
+pub(crate) fn run<F: Folder, K: Sink>(
+    alloc: Global,
+    params: &str,
+    terms: &str,
+    feed: &str,
+    folder: &mut F,
+    out: &mut K,
+) -> Status
+    ensures finds { F.find_faults folder.old ≤ F.find_faults folder.new }
+    ensures reads { F.read_faults folder.old ≤ F.read_faults folder.new }
+    ensures due { F.due folder.new ≡ F.due folder.old }
+    ensures count { K.faults out.old ≤ K.faults out.new }
+    ensures ends { RunEnds params.now terms.now feed.now
+        (record { told = F.told folder.old; finds = F.find_faults folder.old; reads = F.read_faults folder.old })
+        (record { told = F.told folder.new; finds = F.find_faults folder.new; reads = F.read_faults folder.new })
+        (record { holds = K.holds out.old; faults = K.faults out.old })
+        (record { holds = K.holds out.new; faults = K.faults out.new }) result }
+{
+    match run_files(alloc, params, terms, feed, folder) {
+        Ok(run) => print_run(alloc, out, &run),
+        Err(fault) => print_run_fault(out, &fault, params, terms, feed),
+    }
+}
