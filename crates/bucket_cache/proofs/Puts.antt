@@ -57,7 +57,7 @@ pub put_trades-next : (ts : List TradeRows) (i : ℕ) (t : TradeRows) (us : List
 put_trades-next ts i t us h at =
     ap (λ xs. put_trades xs us) (take_more ts i t h ∙ ap (λ x. take i ts ++ x ∷ []) (sym at)) ∙ put_trades-push (take i ts) t us
 
-flip : (a b : List ℕ) → same_name a b ≡ false → same_name b a ≡ false
+pub flip : (a b : List ℕ) → same_name a b ≡ false → same_name b a ≡ false
 flip a b h = by (same_name b a) refl
   where
     by : (t : Bool) → same_name b a ≡ t → t ≡ false
