@@ -1,4 +1,4 @@
-use Rattle.std.proofs.Common.{◌≡◌, ℕ, ◌+◌, List, [], ◌∷◌, ◌++◌, Ok, Err, length, refl, sym, ap, ◌∙◌, subst, arith, append_assoc, length-append}
+use Rattle.std.proofs.Common.{◌≡◌, ◌+◌, [], ◌∷◌, ◌++◌, Err, length, sym, ap, ◌∙◌, subst, arith, append_assoc, length-append}
 use Rattle.mh_io.specs.Lined.{Lined, Gave}
 use Rattle.mh_io.proofs.LinesTaken.{then_gave}
 use Rattle.feed_reader.specs.Steps.{Means, feed_fault}

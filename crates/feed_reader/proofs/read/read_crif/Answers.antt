@@ -1,10 +1,8 @@
-use Rattle.std.proofs.Common.{◌≡◌, ℕ, ◌+◌, List, [], ◌∷◌, ◌++◌, Ok, Err, true, false, length, refl, sym, ap, ◌∙◌, subst, arith, length-append}
+use Rattle.std.proofs.Common.{◌≡◌, ◌+◌, [], ◌∷◌, ◌++◌, Ok, true, length, refl, ap, ◌∙◌, subst, arith, length-append}
 use Rattle.std.proofs.lemmas.List.{append-nil}
 use Rattle.mh_io.specs.Lined.{Gave}
 use Rattle.feed_reader.specs.Line.{is_end}
 use Rattle.feed_reader.specs.Feed.{block_of}
-use Rattle.feed_reader.specs.Steps.{Means}
-use Rattle.feed_reader.specs.declared.fault.FeedFault.{FeedFault}
 use Rattle.feed_reader.proofs.FeedMeanings.{block_means, cut_means, fault_means}
 use Rattle.feed_reader.proofs.read.read_crif.Goals as goal
 

@@ -1,4 +1,4 @@
-use Rattle.std.proofs.Common.{◌≡◌, [], refl, sym, ap, ◌∙◌}
+use Rattle.std.proofs.Common.{◌≡◌, [], sym, ap, ◌∙◌}
 use Rattle.mh_io.proofs.LinesTaken.{gave_none}
 use Rattle.feed_reader.specs.declared.message.Meaning.TheVariants as meaning
 use Rattle.feed_reader.specs.Line.{meaning_of}

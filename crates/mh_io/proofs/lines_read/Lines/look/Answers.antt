@@ -1,7 +1,7 @@
-use Rattle.std.proofs.Common.{◌≡◌, ℕ, ◌+◌, ◌-◌, ◌≤◌, ◌<◌, min, List, length, take, refl, sym, ap, ◌∙◌, subst, arith}
+use Rattle.std.proofs.Common.{◌≡◌, ◌-◌, ◌≤◌, length, take, refl, sym, ap, ◌∙◌, arith}
 use Rattle.std.proofs.lemmas.List.{length-take}
 use Rattle.mh_io.specs.Lined.{is_ended}
-use Rattle.mh_io.specs.LinesSteps.{HasNoLf, IsPart}
+use Rattle.mh_io.specs.LinesSteps.{HasNoLf}
 use Rattle.mh_io.specs.declared.reading.TheConstants.{MOST_BYTES}
 use Rattle.mh_io.proofs.LinesLooks.{line_found, none_near, near_bytes, part_found}
 use Rattle.mh_io.proofs.LinesRuns.{long_run, over_run}

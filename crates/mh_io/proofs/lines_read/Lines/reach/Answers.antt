@@ -1,7 +1,6 @@
-use Rattle.std.proofs.Common.{◌≡◌, ℕ, length, take, refl, sym, ap, ◌∙◌, subst, arith, length-append}
+use Rattle.std.proofs.Common.{◌≡◌, length, take, refl, sym, ap, ◌∙◌, subst, arith, length-append}
 use Rattle.mh_io.specs.Lined.{Lined, IsStopped}
 use Rattle.std.proofs.Math.Seq.{take-append_seam}
-use Rattle.mh_io.specs.LinesSteps.{HasNoLf}
 use Rattle.mh_io.proofs.LinesStops.{not_stopped}
 use Rattle.mh_io.proofs.LinesTaken.{more_nothing, then_more}
 use Rattle.mh_io.proofs.lines_read.Lines.reach.Goals as goal
