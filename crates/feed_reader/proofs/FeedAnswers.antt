@@ -1,6 +1,5 @@
 -- What the lines that a call was given make of its answer.
-use Rattle.std.proofs.Common.{◌≡◌, ℕ, ◌+◌, ◌<◌, ◌≤◌, Bool, true, false, List, [], ◌∷◌, ◌++◌, Option, Some, None, Result, Ok, Err, length, refl, sym, ap, ◌∙◌, subst, arith, append_assoc, length-append}
-use Rattle.std.specs.List.{AllByRecursion}
+use Rattle.std.proofs.Common.{◌≡◌, ℕ, ◌+◌, Bool, List, [], ◌∷◌, ◌++◌, Option, Some, None, Result, Ok, Err, length, refl, sym, ap, ◌∙◌, arith, append_assoc, length-append}
 use Rattle.std.proofs.lemmas.List.{append-nil}
 use Rattle.mh_io.specs.Lines as cut
 use Rattle.mh_io.specs.Lines.{LineRun, stopped, with_lines, lines_behind}
@@ -8,16 +7,15 @@ use Rattle.mh_io.specs.Lined as reader
 use Rattle.mh_io.specs.Lined.{Lined, CanCome, Took, Gave, IsStopped, is_ended, lines_with, lines_now}
 use Rattle.mh_io.specs.declared.lines_answer.Supply.{Supply}
 use Rattle.mh_io.specs.declared.lines_answer.Supply.TheVariants as supply
-use Rattle.mh_io.specs.declared.lines_answer.LineStep.{LineStep}
-use Rattle.mh_io.specs.declared.lines_answer.LineStep.TheVariants.{Line, End}
+use Rattle.mh_io.specs.declared.lines_answer.LineStep.TheVariants.{End}
 use Rattle.mh_io.specs.declared.lines_answer.LineFault.{LineFault}
 use Rattle.mh_io.specs.declared.lines_answer.LineFault.TheVariants as line_fault
 use Rattle.mh_io.specs.declared.reading.TheConstants.{MOST_BYTES}
 use Rattle.feed_reader.specs.declared.message.Fed.{Fed}
 use Rattle.feed_reader.specs.declared.fault.FeedFault.{FeedFault}
 use Rattle.feed_reader.specs.declared.fault.FeedFault.TheVariants as fault
-use Rattle.feed_reader.specs.Feed.{Item, Sent, BadAt, FeedStop, Whole, Cut, LineLong, TooLong, Open, FeedRun, no_items, with_items, stop_outside, items_of, items_from}
-use Rattle.feed_reader.specs.Answers.{feed_with, line_of, TellsItems, TellsStop, TellsNone, Answers, StopsLines, IsPlaced, answer_at}
+use Rattle.feed_reader.specs.Feed.{Item, Sent, BadAt, FeedStop, Whole, Cut, LineLong, TooLong, Open, no_items, with_items, items_of, items_from}
+use Rattle.feed_reader.specs.Answers.{feed_with, TellsItems, TellsStop, TellsNone, Answers, StopsLines, IsPlaced, answer_at}
 use Rattle.feed_reader.specs.Steps.{ArePassed, StopsAt, IsItem, Means, feed_fault}
 use Rattle.feed_reader.proofs.FeedItems.{passed_over, nothing_further, items_behind, items_at}
 

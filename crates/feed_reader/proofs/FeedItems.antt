@@ -1,16 +1,15 @@
 -- The items of lines whose front is known.
-use Rattle.std.proofs.Common.{◌≡◌, ℕ, zero, suc, ◌+◌, ◌≤◌, Bool, true, false, cond, not, List, [], ◌∷◌, ◌++◌, length, take, refl, sym, ap, ◌∙◌, subst, arith, add-zero, append_assoc, length-append}
-use Rattle.std.specs.List.{All, AllByRecursion, list_any, before_first, position_or_len}
+use Rattle.std.proofs.Common.{◌≡◌, ℕ, zero, suc, ◌+◌, ◌≤◌, true, false, cond, List, [], ◌∷◌, ◌++◌, length, refl, sym, ap, ◌∙◌, arith, append_assoc, length-append}
+use Rattle.std.specs.List.{AllByRecursion, list_any, before_first, position_or_len}
 use Rattle.std.proofs.Math.Seq.{take-append_seam}
 use Rattle.std.proofs.lemmas.List.Elements.{recursion_from_All}
 use Rattle.mh_io.specs.Lines as cut
-use Rattle.feed_reader.specs.declared.message.Fed.{Fed}
 use Rattle.feed_reader.specs.declared.message.Message.{Message}
 use Rattle.feed_reader.specs.declared.message.Message.TheVariants.{Crif}
 use Rattle.feed_reader.specs.declared.message.Meaning.{Meaning}
 use Rattle.feed_reader.specs.declared.message.Meaning.TheVariants.{Opens, Tells, Bad}
 use Rattle.feed_reader.specs.Line.{is_passed_over, meaning_of, is_end}
-use Rattle.feed_reader.specs.Feed.{Item, Sent, BadAt, FeedStop, FeedRun, no_items, with_items, stop_outside, stop_inside, block_of, block_at, by_meaning, items_of}
+use Rattle.feed_reader.specs.Feed.{Sent, BadAt, FeedRun, no_items, with_items, stop_outside, stop_inside, block_of, block_at, by_meaning, items_of}
 use Rattle.feed_reader.specs.Answers.{line_of}
 use Rattle.feed_reader.specs.Steps.{ArePassed, AreInside, IsItem}
 

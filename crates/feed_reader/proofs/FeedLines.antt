@@ -1,14 +1,14 @@
 -- Lines that are given one after another.
-use Rattle.std.proofs.Common.{◌≡◌, ℕ, ◌+◌, ◌<◌, Bool, true, false, List, [], ◌∷◌, ◌++◌, Option, Result, Ok, Err, length, flat_map, refl, sym, ap, ◌∙◌, subst, arith, append_assoc}
+use Rattle.std.proofs.Common.{◌≡◌, ℕ, Bool, true, false, List, [], ◌∷◌, ◌++◌, Option, Result, Ok, Err, refl, sym, ap, ◌∙◌, subst, append_assoc}
 use Rattle.std.proofs.lemmas.List.{append-nil}
 use Rattle.std.proofs.lemmas.List.Elements.{All-nil, All-append, All-cons}
 use Rattle.std.proofs.lemmas.Grind.{flat_map-append}
 use Rattle.mh_io.specs.Lines.{Stop, Whole, Open, Long, Over}
 use Rattle.mh_io.specs.Lined.{Lined, Gave, lines_given, answer_at}
 use Rattle.mh_io.specs.declared.lines_answer.LineStep.{LineStep}
-use Rattle.mh_io.specs.declared.lines_answer.LineStep.TheVariants.{Line, End}
+use Rattle.mh_io.specs.declared.lines_answer.LineStep.TheVariants.{Line}
 use Rattle.mh_io.specs.declared.lines_answer.LineFault.{LineFault}
-use Rattle.mh_io.proofs.LinesTaken.{gave_none, then_gave}
+use Rattle.mh_io.proofs.LinesTaken.{then_gave}
 use Rattle.feed_reader.specs.Line.{is_passed_over, is_end}
 use Rattle.feed_reader.specs.Feed.{block_of}
 use Rattle.feed_reader.specs.Steps.{ArePassed, AreInside, Skips, Encloses}

@@ -1,20 +1,17 @@
 -- What a line means together with those behind it.
-use Rattle.std.proofs.Common.{◌≡◌, ℕ, ◌+◌, ◌≤◌, Bool, true, false, List, [], ◌∷◌, ◌++◌, Option, Some, None, Result, Ok, Err, length, refl, sym, ap, ◌∙◌, subst, arith}
+use Rattle.std.proofs.Common.{◌≡◌, ℕ, ◌+◌, ◌≤◌, true, false, List, [], ◌∷◌, ◌++◌, Some, Ok, Err, length, refl, sym, ap, ◌∙◌, arith}
 use Rattle.mh_io.specs.Lines as cut
 use Rattle.mh_io.specs.Lined.{Lined, IsStopped}
 use Rattle.mh_io.specs.declared.lines_answer.LineFault.{LineFault}
 use Rattle.mh_io.specs.declared.lines_answer.LineFault.TheVariants as line_fault
 use Rattle.mh_io.specs.declared.reading.TheConstants.{MOST_BYTES}
-use Rattle.feed_reader.specs.declared.message.Fed.{Fed}
 use Rattle.feed_reader.specs.declared.message.Message.{Message}
 use Rattle.feed_reader.specs.declared.message.Message.TheVariants.{Crif}
-use Rattle.feed_reader.specs.declared.message.Meaning.{Meaning}
 use Rattle.feed_reader.specs.declared.message.Meaning.TheVariants.{Opens, Tells, Bad}
-use Rattle.feed_reader.specs.declared.fault.FeedFault.{FeedFault}
 use Rattle.feed_reader.specs.declared.fault.FeedFault.TheVariants as fault
 use Rattle.feed_reader.specs.Line.{is_passed_over, meaning_of, is_end}
-use Rattle.feed_reader.specs.Feed.{Item, Sent, BadAt, FeedStop, Cut, LineLong, no_items, items_of, block_of}
-use Rattle.feed_reader.specs.Steps.{AreInside, StopsAt, IsItem, Means, feed_fault}
+use Rattle.feed_reader.specs.Feed.{LineLong, no_items, block_of}
+use Rattle.feed_reader.specs.Steps.{AreInside, StopsAt, Means, feed_fault}
 use Rattle.feed_reader.proofs.FeedItems.{message_line, bad_line, block_lines, open_block}
 
 module _ {S : Type 0} where

@@ -1,12 +1,12 @@
 -- Calls in a row: the items that they tell, and then the way in which the feed stops, are the feed of all taken bytes.
-use Rattle.std.proofs.Common.{◌≡◌, ℕ, ◌+◌, ◌≤◌, Bool, true, false, List, [], ◌∷◌, ◌++◌, Option, Result, Ok, Err, OnOk, is_err, refl, sym, ap, ◌∙◌, subst, append_assoc}
+use Rattle.std.proofs.Common.{◌≡◌, ℕ, false, List, [], ◌∷◌, ◌++◌, Option, Result, Ok, Err, OnOk, is_err, refl, sym, ap, ◌∙◌, subst, append_assoc}
 use Rattle.std.proofs.lemmas.List.{append-nil}
-use Rattle.mh_io.specs.Lined.{Lined, CanCome, Took, is_ended}
+use Rattle.mh_io.specs.Lined.{Lined, CanCome, is_ended}
 use Rattle.mh_io.specs.declared.lines_answer.Supply.{Supply}
 use Rattle.mh_io.specs.declared.lines_answer.Supply.TheVariants as supply
 use Rattle.mh_io.proofs.LinesTaken.{took_nothing, then_took}
 use Rattle.feed_reader.specs.declared.message.Fed.{Fed}
-use Rattle.feed_reader.specs.Feed.{Item, Sent, BadAt, FeedStop, FeedRun, no_items, with_items, feed, messages_of, bad_lines_of}
+use Rattle.feed_reader.specs.Feed.{Item, Sent, BadAt, FeedStop, FeedRun, with_items, feed, messages_of, bad_lines_of}
 use Rattle.feed_reader.specs.declared.fault.FeedFault.{FeedFault}
 use Rattle.feed_reader.specs.declared.fault.FeedFault.TheVariants as fault
 use Rattle.feed_reader.specs.Answers.{feed_with, fresh, TellsItems, TellsStop, ReadsFeed, ReadsTo, Answers}

@@ -4,7 +4,6 @@ use Rattle.std.specs.List.{list_any, before_first, position_or_len}
 use Rattle.mh_io.specs.Lines as cut
 use Rattle.mh_io.specs.Lines.{LineRun, lines}
 use Rattle.feed_reader.specs.declared.message.Fed.{Fed}
-use Rattle.feed_reader.specs.declared.message.Message.{Message}
 use Rattle.feed_reader.specs.declared.message.Message.TheVariants.{Crif}
 use Rattle.feed_reader.specs.declared.message.Meaning.{Meaning}
 use Rattle.feed_reader.specs.declared.message.Meaning.TheVariants.{Opens, Tells, Bad}

@@ -1,10 +1,9 @@
 -- Feed grammar: what a line outside a block is.
-use Rattle.std.specs.Prelude.{ℕ, List, [], ◌∷◌, ◌++◌, Bool, true, false, ◌==◌, ◌&&◌, not, codes, is_none, Option, Some, None, if◌then◌else◌}
+use Rattle.std.specs.Prelude.{ℕ, List, [], ◌∷◌, Bool, true, false, ◌==◌, codes, is_none, Option, Some, None, if◌then◌else◌}
 use Rattle.std.specs.List.{slice_split, list_all}
 use Rattle.std.specs.Str.{bytes_eq}
 use Rattle.simm_kinds.specs.NameText.{name_fault}
-use Rattle.feed_reader.specs.declared.message.Message.{Message}
-use Rattle.feed_reader.specs.declared.message.Message.TheVariants.{Crif, Withdraw, Ask}
+use Rattle.feed_reader.specs.declared.message.Message.TheVariants.{Withdraw, Ask}
 use Rattle.feed_reader.specs.declared.message.Meaning.{Meaning}
 use Rattle.feed_reader.specs.declared.message.Meaning.TheVariants.{Opens, Tells, Bad}
 

@@ -1,5 +1,5 @@
 -- The steps within a call for the next message.
-use Rattle.std.specs.Prelude.{◌≡◌, ℕ, ◌+◌, ◌≤◌, List, [], ◌∷◌, ◌++◌, length, Bool, true, false, Option, Some, None, Result, Ok, Err}
+use Rattle.std.specs.Prelude.{◌≡◌, ℕ, ◌+◌, ◌≤◌, List, [], ◌∷◌, ◌++◌, length, true, false, Option, Some, None, Result, Ok, Err}
 use Rattle.std.specs.List.{All}
 use Rattle.mh_io.specs.Lines as cut
 use Rattle.mh_io.specs.Lined.{Lined, Gave, IsStopped, lines_given}
@@ -12,7 +12,7 @@ use Rattle.feed_reader.specs.declared.message.Fed.{Fed}
 use Rattle.feed_reader.specs.declared.fault.FeedFault.{FeedFault}
 use Rattle.feed_reader.specs.declared.fault.FeedFault.TheVariants as fault
 use Rattle.feed_reader.specs.Line.{is_passed_over, is_end}
-use Rattle.feed_reader.specs.Feed.{Item, Sent, BadAt, FeedStop, Cut, LineLong, TooLong, Open, Whole, no_items, with_items, items_of, block_of}
+use Rattle.feed_reader.specs.Feed.{Item, Sent, BadAt, Cut, LineLong, TooLong, Open, no_items, with_items, items_of, block_of}
 
 abbrev pub ArePassed : List (List ℕ) → Type 0
 ArePassed lines = All (λ line. is_passed_over line ≡ true) lines

@@ -1,5 +1,5 @@
 ghost use Rattle.mh_io.specs.declared.reading.TheConstants.{MOST_BYTES};
-ghost use Rattle.std.specs.Prelude.{◌≡◌, ◌≤◌, ◌++◌, ◌∷◌, [], Ok, OnOk, true, false};
+ghost use Rattle.std.specs.Prelude.{◌≡◌, ◌≤◌, ◌+◌, length, ◌++◌, ◌∷◌, [], Ok, OnOk, true, false};
 ghost use Rattle.feed_reader.specs.Line.{is_passed_over, is_end};
 ghost use Rattle.feed_reader.specs.Steps.{Skips, Encloses, StopsAt};
 ghost use Rattle.mh_io.specs.Lines.{Stop};
@@ -18,6 +18,7 @@ pub(crate) fn skip_to_line<S: Source>(
 ) -> Result<LineStep, LineFault>
     ensures skips { Skips S.faults S.name S.gave S.left lines.old lines.new result line.new }
     ensures stops { StopsAt result lines.new }
+    ensures bounded { lines.new.passed + length lines.new.pending ≤ MOST_BYTES + 1 }
     ensures full { result ≡ Ok LineStep.Line → is_passed_over line.new ≡ false }
     ensures again { (stop : Stop) → IsStopped lines.old stop → (lines.new ≡ lines.old) × (result ≡ reader.answer_at stop) }
 {
@@ -51,6 +52,7 @@ pub(crate) fn read_block<S: Source>(
 ) -> Result<LineStep, LineFault>
     ensures encloses { Encloses S.faults S.name S.gave S.left lines.old lines.new result line.new block.old block.new }
     ensures stops { StopsAt result lines.new }
+    ensures bounded { lines.new.passed + length lines.new.pending ≤ MOST_BYTES + 1 }
     ensures ends { result ≡ Ok LineStep.Line → is_end line.new ≡ true }
     ensures few { result ≡ Ok LineStep.Line → lines.new.given ≤ MOST_BYTES }
 {

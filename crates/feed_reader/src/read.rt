@@ -1,5 +1,6 @@
-ghost use Rattle.std.specs.Prelude.{◌≡◌, ℕ, ◌+◌, List, [], ◌∷◌, ◌++◌, false};
+ghost use Rattle.std.specs.Prelude.{◌≡◌, ℕ, ◌+◌, ◌≤◌, length, List, [], ◌∷◌, ◌++◌, false};
 ghost use Rattle.mh_io.specs.Lines.{Stop};
+ghost use Rattle.mh_io.specs.declared.reading.TheConstants.{MOST_BYTES};
 ghost use Rattle.mh_io.specs.Lined.{Gave, IsStopped};
 ghost use Rattle.feed_reader.specs.Line.{is_passed_over, meaning_of};
 ghost use Rattle.feed_reader.specs.Answers.{Answers, StopsLines, IsPlaced, answer_at};
@@ -36,7 +37,8 @@ fn read_crif<S: Source>(
 ) -> Result<Option<Fed>, FeedFault>
     requires opens { meaning_of line.old ≡ Meaning.Opens set }
     requires full { is_passed_over line.old ≡ false }
-    ensures { Tells S.faults S.name S.gave S.left lines.old lines.new line.old result }
+    ensures tells { Tells S.faults S.name S.gave S.left lines.old lines.new line.old result }
+    ensures bounded { lines.new.passed + length lines.new.pending ≤ MOST_BYTES + 1 }
 {
     let first = lines.given();
     let mut block = Bytes::new(alloc);
@@ -56,8 +58,10 @@ fn read_message<S: Source>(
     lines: &mut Lines<S>,
     line: &mut Bytes,
 ) -> Result<Option<Fed>, FeedFault>
-    requires { is_passed_over line.old ≡ false }
-    ensures { Tells S.faults S.name S.gave S.left lines.old lines.new line.old result }
+    requires full { is_passed_over line.old ≡ false }
+    requires bounded { lines.old.passed + length lines.old.pending ≤ MOST_BYTES + 1 }
+    ensures tells { Tells S.faults S.name S.gave S.left lines.old lines.new line.old result }
+    ensures bounded { lines.new.passed + length lines.new.pending ≤ MOST_BYTES + 1 }
 {
     let first = lines.given();
     match read_line(alloc, line.as_slice()) {
@@ -90,6 +94,8 @@ pub fn next_message<S: Source>(
     ensures answers { Answers S.faults S.name S.gave S.left lines.old lines.new result }
     ensures stops { StopsLines result lines.new }
     ensures placed { IsPlaced result lines.old lines.new }
+    // No more bytes were taken in all.
+    ensures bounded { lines.new.passed + length lines.new.pending ≤ MOST_BYTES + 1 }
     // Where the lines stopped before, the answer is the one of the way in which they stopped, and nothing changes.
     ensures again { (stop : Stop) → IsStopped lines.old stop → (lines.new ≡ lines.old) × (result ≡ answer_at lines.old.given stop) }
 {

@@ -1,18 +1,17 @@
 -- What giving a line, or a fault, means for the lines of all that is taken.
-use Rattle.std.proofs.Common.{◌≡◌, ℕ, ◌+◌, ◌-◌, ◌<◌, ◌≤◌, Bool, true, false, List, [], ◌∷◌, ◌++◌, Option, Ok, Err, length, take, drop, refl, sym, ap, ◌∙◌, subst, arith, append_assoc, if◌then◌else◌}
+use Rattle.std.proofs.Common.{◌≡◌, ℕ, ◌+◌, ◌<◌, ◌≤◌, Bool, true, false, List, [], ◌∷◌, ◌++◌, Option, Err, length, take, drop, refl, sym, ap, ◌∙◌, arith, append_assoc}
 use Rattle.std.proofs.lemmas.List.{append-nil, length-take-le, drop_all}
 use Rattle.std.proofs.lemmas.List.Elements.{All-nil}
-use Rattle.mh_io.specs.Lines.{LineRun, Stop, Whole, Open, Long, Over, stopped, with_lines, is_lf, last_line, lines_behind, without_cr}
-use Rattle.mh_io.specs.Lined.{Lined, CanCome, Took, Gave, IsStopped, ComesWhere, answer_at, is_ended, lines_with, lines_now}
+use Rattle.mh_io.specs.Lines.{LineRun, Stop, Whole, Open, Long, Over, stopped, with_lines, is_lf, lines_behind, without_cr}
+use Rattle.mh_io.specs.Lined.{Lined, Took, Gave, IsStopped, ComesWhere, answer_at, is_ended, lines_with, lines_now}
 use Rattle.mh_io.specs.LinesSteps.{BeginsLine, IsPart, TookMore, Shows, past}
 use Rattle.mh_io.specs.declared.reading.TheConstants.{MOST_BYTES}
 use Rattle.mh_io.specs.declared.lines_window.TheConstants.{LINE_BYTES}
-use Rattle.mh_io.specs.declared.lines_answer.Supply.{Supply}
 use Rattle.mh_io.specs.declared.lines_answer.Supply.TheVariants as supply
 use Rattle.mh_io.specs.declared.lines_answer.LineFault.{LineFault}
 use Rattle.mh_io.specs.declared.lines_answer.LineFault.TheVariants.{ReadFault, LineLong, TooLong, Memory}
 use Rattle.mh_io.proofs.LinesRuns.{line_run, part_run}
-use Rattle.mh_io.proofs.LinesStops.{part_now, failed_stop}
+use Rattle.mh_io.proofs.LinesStops.{failed_stop}
 
 -- a line stands at the front, whatever follows
 line_with : (passed count : ℕ) (pending later : List ℕ) (ended : Bool) → BeginsLine passed pending count → lines_behind passed (pending ++ later) ended ≡ with_lines (without_cr (take count pending) ∷ []) (lines_behind (passed + (count + 1)) (drop (count + 1) pending ++ later) ended)

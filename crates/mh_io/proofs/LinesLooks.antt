@@ -1,8 +1,8 @@
 -- What a search for an LF tells of the bytes that were searched.
-use Rattle.std.proofs.Common.{◌≡◌, ℕ, ◌+◌, ◌-◌, ◌≤◌, ◌<◌, min, Bool, true, false, cond, ltb, Option, Some, None, List, [], ◌∷◌, ◌++◌, length, take, drop, get_or, refl, sym, ap, ◌∙◌, subst, arith}
+use Rattle.std.proofs.Common.{◌≡◌, ℕ, ◌+◌, ◌-◌, ◌≤◌, ◌<◌, min, false, cond, ltb, Some, None, List, ◌∷◌, ◌++◌, length, take, drop, get_or, sym, ap, ◌∙◌, arith}
 use Rattle.std.specs.List.{position, position_or_len}
 use Rattle.std.proofs.lemmas.Bool.{lt-ltb, eqb-true}
-use Rattle.std.proofs.lemmas.List.{take_all, take_min, take-take, take-append-drop, get_or-take, get_or-drop, drop_more, length-take, length-drop}
+use Rattle.std.proofs.lemmas.List.{take_all, take_min, take-take, take-append-drop, get_or-take, get_or-drop, drop_more, length-take}
 use Rattle.std.proofs.lemmas.List.Elements.{All-from_get_or, All-append}
 use Rattle.std.proofs.lemmas.List.Sums.{fails_before_first, passes_at_first}
 use Rattle.std.proofs.Math.Seq.{take-add}

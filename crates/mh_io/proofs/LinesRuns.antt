@@ -1,12 +1,11 @@
 -- The lines of bytes whose front is known.
-use Rattle.std.proofs.Common.{◌≡◌, ℕ, ◌+◌, ◌-◌, ◌≤◌, ◌<◌, Bool, true, false, cond, List, [], ◌∷◌, ◌++◌, length, take, drop, refl, sym, ap, ◌∙◌, subst, arith, one-add, nat_le, nat_lt, if◌then◌else◌, length-append}
+use Rattle.std.proofs.Common.{◌≡◌, ℕ, ◌+◌, ◌-◌, ◌≤◌, ◌<◌, Bool, true, false, cond, List, [], ◌∷◌, ◌++◌, length, take, refl, sym, ap, ◌∙◌, subst, arith, one-add, nat_le, nat_lt, if◌then◌else◌, length-append}
 use Rattle.std.specs.List.{slice_split, onto_first}
-use Rattle.std.proofs.lemmas.List.{take_all, length-take-le}
+use Rattle.std.proofs.lemmas.List.{take_all}
 use Rattle.std.proofs.lemmas.List.Splits.{slice_split_none, slice_split_at}
-use Rattle.std.proofs.lemmas.Bool.{lt-ltb, le-leb}
 use Rattle.std.proofs.lemmas.Bool.Decides.{nat_tests}
-use Rattle.mh_io.specs.Lines.{LineRun, Stop, Whole, Open, Long, Over, stopped, with_lines, is_lf, without_cr, last_line, at_rest, cut, lines_behind}
-use Rattle.mh_io.specs.LinesSteps.{HasNoLf, BeginsLine, IsPart}
+use Rattle.mh_io.specs.Lines.{Open, Long, Over, stopped, with_lines, is_lf, without_cr, last_line, at_rest, cut, lines_behind}
+use Rattle.mh_io.specs.LinesSteps.{HasNoLf, IsPart}
 use Rattle.mh_io.specs.declared.reading.TheConstants.{MOST_BYTES}
 use Rattle.mh_io.specs.declared.lines_window.TheConstants.{LINE_BYTES}
 use Rattle.mh_io.proofs.LinesPieces.{front_and}

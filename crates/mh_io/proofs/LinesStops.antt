@@ -1,9 +1,8 @@
 -- Where the bytes stop for good, and where they don't.
-use Rattle.std.proofs.Common.{◌≡◌, ℕ, ◌<◌, Bool, true, false, List, [], ◌∷◌, length, refl, sym, ap, ◌∙◌, subst, arith, if◌then◌else◌}
-use Rattle.mh_io.specs.Lines.{LineRun, Stop, Whole, Open, Long, Over, stopped, with_lines, last_line, lines_behind}
+use Rattle.std.proofs.Common.{◌≡◌, ℕ, List, [], ◌∷◌, length, refl, sym, ap, ◌∙◌, subst, arith, if◌then◌else◌}
+use Rattle.mh_io.specs.Lines.{LineRun, Stop, Whole, Open, stopped, last_line}
 use Rattle.mh_io.specs.Lined.{Lined, IsStopped, IsFinal, is_ended, lines_now}
 use Rattle.mh_io.specs.LinesSteps.{IsPart}
-use Rattle.mh_io.specs.declared.lines_answer.Supply.{Supply}
 use Rattle.mh_io.specs.declared.lines_answer.Supply.TheVariants as supply
 use Rattle.mh_io.proofs.LinesRuns.{part_run}
 

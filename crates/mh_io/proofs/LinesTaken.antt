@@ -1,11 +1,9 @@
 -- What a reader of lines took, call by call.
-use Rattle.std.proofs.Common.{◌≡◌, ◌≢◌, ◌⊎◌, inl, inr, ℕ, ◌+◌, ◌≤◌, Bool, true, false, List, [], ◌∷◌, ◌++◌, Option, length, refl, sym, ap, ◌∙◌, subst, arith, append_assoc, length-append}
+use Rattle.std.proofs.Common.{◌≡◌, ◌≢◌, ◌⊎◌, inl, inr, ℕ, List, [], ◌++◌, Option, refl, sym, ap, ◌∙◌, arith, append_assoc, length-append}
 use Rattle.std.proofs.lemmas.List.{append-nil}
-use Rattle.std.specs.Io.KnownBytes.{IsAtEnd}
 use Rattle.mh_io.specs.Faults.{Rises}
-use Rattle.mh_io.specs.Source.{Takes}
 use Rattle.mh_io.specs.Lines.{LineRun, with_lines}
-use Rattle.mh_io.specs.Lined.{Lined, CanCome, Took, Gave, lines_with}
+use Rattle.mh_io.specs.Lined.{Lined, Took, Gave, lines_with}
 use Rattle.mh_io.specs.LinesSteps.{TookMore}
 use Rattle.mh_io.specs.declared.lines_answer.Supply.{Supply}
 use Rattle.mh_io.specs.declared.lines_answer.Supply.TheVariants as supply

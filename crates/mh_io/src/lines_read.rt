@@ -77,7 +77,8 @@ impl<S: Source> Lines<S> {
         requires there { looked ≤ length self.now.pending }
         requires near { looked ≤ MOST_BYTES - self.now.passed }
         requires text { HasNoLf (take looked self.now.pending) }
-        ensures { Shows self.now result }
+        ensures shows { Shows self.now result }
+        ensures bounded { self.now.passed + length self.now.pending ≤ MOST_BYTES + 1 }
     {
         let bytes = self.window.bytes();
         let near = bytes.len().min(MOST_BYTES - self.passed);
@@ -121,6 +122,7 @@ impl<S: Source> Lines<S> {
         ensures took { TookMore S.faults S.name S.gave S.left self.old self.new }
         ensures reached { Reached self.new result }
         ensures again { (stop : Stop) → IsStopped self.old stop → self.new ≡ self.old }
+        ensures bounded { self.new.passed + length self.new.pending ≤ MOST_BYTES + 1 }
     {
         let mut looked = 0;
         loop {
@@ -141,6 +143,7 @@ impl<S: Source> Lines<S> {
         requires near { self.old.passed + count ≤ MOST_BYTES }
         ensures past { self.new ≡ past self.old count }
         ensures few { self.new.given ≤ MOST_BYTES }
+        ensures bounded { self.new.passed + length self.new.pending ≤ MOST_BYTES + 1 }
     {
         self.window.skip(count);
         self.passed += count;
@@ -153,6 +156,7 @@ impl<S: Source> Lines<S> {
         requires begins { BeginsLine self.old.passed self.old.pending count }
         ensures ok { OnOk result ((self.new ≡ past self.old (count + 1)) × (line.new ≡ without_cr (take count self.old.pending))) }
         ensures few { OnOk result (self.new.given ≤ MOST_BYTES) }
+        ensures bounded { OnOk result (self.new.passed + length self.new.pending ≤ MOST_BYTES + 1) }
         ensures err { OnErr result ((self.new ≡ self.old) × (line.new ≡ [])) }
     {
         line.extend(without_cr(&self.window.bytes()[..count]))?;
@@ -167,6 +171,7 @@ impl<S: Source> Lines<S> {
         requires some { 0 < length self.old.pending }
         ensures ok { OnOk result ((self.new ≡ past self.old (length self.old.pending)) × (line.new ≡ self.old.pending)) }
         ensures few { OnOk result (self.new.given ≤ MOST_BYTES) }
+        ensures bounded { OnOk result (self.new.passed + length self.new.pending ≤ MOST_BYTES + 1) }
         ensures err { OnErr result ((self.new ≡ self.old) × (line.new ≡ [])) }
     {
         let rest = self.window.bytes();
@@ -192,6 +197,8 @@ impl<S: Source> Lines<S> {
         ensures comes { ComesWhere result self.new }
         ensures line_only { IsLineOnly result line.new }
         ensures few { result ≡ Ok LineStep.Line → self.new.given ≤ MOST_BYTES }
+        // No more bytes were taken in all.
+        ensures bounded { self.new.passed + length self.new.pending ≤ MOST_BYTES + 1 }
         // Where no line is left, and the bytes stop for good, the answer is the one of the way in which they stop.
         ensures again { (stop : Stop) → IsStopped self.old stop → (self.new ≡ self.old) × (result ≡ answer_at stop) }
     {

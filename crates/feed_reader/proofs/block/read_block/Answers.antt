@@ -1,7 +1,6 @@
-use Rattle.std.proofs.Common.{◌≡◌, ◌++◌, ◌∷◌, [], Ok, Err, Bool, true, false, not, refl, sym, ap, ◌∙◌, subst}
+use Rattle.std.proofs.Common.{◌≡◌, ◌++◌, ◌∷◌, [], Ok, Err, false, sym, ap, ◌∙◌}
 use Rattle.std.proofs.lemmas.List.{append-nil}
 use Rattle.std.proofs.lemmas.Result.{err_from_is_err_and}
-use Rattle.mh_io.specs.Lined.{Gave, lines_given}
 use Rattle.mh_io.specs.declared.lines_answer.LineStep.TheVariants.{Line, End}
 use Rattle.mh_io.proofs.LinesTaken.{gave_none, then_gave}
 use Rattle.feed_reader.specs.Line.{is_end}

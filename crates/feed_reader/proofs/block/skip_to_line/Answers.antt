@@ -1,5 +1,5 @@
-use Rattle.std.proofs.Common.{◌≡◌, ◌++◌, ◌∷◌, [], Ok, Err, true, false, refl, sym, ap, ◌∙◌, subst}
-use Rattle.mh_io.specs.Lined.{Lined, IsStopped, Gave, lines_given}
+use Rattle.std.proofs.Common.{◌≡◌, ◌++◌, ◌∷◌, [], Ok, Err, true, refl, sym, ap, ◌∙◌, subst}
+use Rattle.mh_io.specs.Lined.{Lined, IsStopped}
 use Rattle.mh_io.specs.declared.lines_answer.LineStep.TheVariants.{Line, End}
 use Rattle.mh_io.proofs.LinesTaken.{gave_none, then_gave}
 use Rattle.feed_reader.specs.Line.{is_passed_over}

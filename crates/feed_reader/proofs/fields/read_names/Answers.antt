@@ -1,4 +1,4 @@
-use Rattle.std.proofs.Common.{◌≡◌, ◌++◌, ◌∷◌, [], true, List, ℕ, sym, ap, ◌∙◌}
+use Rattle.std.proofs.Common.{◌≡◌, ◌++◌, ◌∷◌, [], sym, ap, ◌∙◌}
 use Rattle.feed_reader.specs.Line.{fields_of}
 use Rattle.feed_reader.proofs.FieldNames.{more_names, all_names}
 use Rattle.feed_reader.proofs.fields.read_names.Goals as goal

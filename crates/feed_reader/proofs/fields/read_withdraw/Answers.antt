@@ -1,5 +1,5 @@
-use Rattle.std.proofs.Common.{◌≡◌, Some, sym, ap, ◌∙◌, refl}
-use Rattle.feed_reader.specs.Line.{withdrawal, withdrawn}
+use Rattle.std.proofs.Common.{sym, ap, ◌∙◌, refl}
+use Rattle.feed_reader.specs.Line.{withdrawal}
 use Rattle.feed_reader.proofs.FieldNames.{withdrawal_of}
 use Rattle.feed_reader.proofs.fields.read_withdraw.Goals as goal
 

@@ -1,4 +1,4 @@
-use Rattle.std.proofs.Common.{◌≡◌, ℕ, ◌+◌, List, [], ◌∷◌, ◌++◌, Ok, Err, length, refl, sym, ap, ◌∙◌, subst, arith, append_assoc, length-append}
+use Rattle.std.proofs.Common.{◌≡◌, ◌+◌, [], ◌∷◌, ◌++◌, Err, length, sym, ap, ◌∙◌, subst, arith, append_assoc, length-append}
 use Rattle.mh_io.specs.Lined.{Lined, Gave}
 use Rattle.mh_io.proofs.LinesTaken.{then_gave}
 use Rattle.feed_reader.specs.Steps.{Means, feed_fault}
@@ -9,7 +9,7 @@ use Rattle.feed_reader.proofs.read.next_message.Goals as goal
 pub returns-in-Ok-Line : goal.returns-in-Ok-Line
 returns-in-Ok-Line g c =
     let s = rw c.in-Ok-Line.field-0-is at c.in-Ok-Line.ensures.skips in
-    let t = c.read_message.ensures in
+    let t = c.read_message.ensures.tells in
     let line = c.skip_to_line.new.line in
     let given : Gave g.S.Source.faults g.S.Source.name g.S.Source.gave g.S.Source.left c.args.lines.now c.read_message.new.lines (s.passed ++ line ∷ t.further) =
     subst (Gave g.S.Source.faults g.S.Source.name g.S.Source.gave g.S.Source.left c.args.lines.now c.read_message.new.lines) (append_assoc s.passed (line ∷ []) t.further) (then_gave g.S.Source.faults g.S.Source.name g.S.Source.gave g.S.Source.left s.lines t.lines) in
@@ -19,6 +19,7 @@ returns-in-Ok-Line g c =
       answers = owed.answers;
       stops = owed.stops;
       placed = owed.placed;
+      bounded = c.read_message.ensures.bounded;
       again = λ stop is_stopped. absurd (no_line_at stop (rw c.in-Ok-Line.field-0-is at (c.in-Ok-Line.ensures.again stop is_stopped).1));
     }
 
@@ -31,6 +32,7 @@ returns-in-Ok-End g c =
       answers = owed.answers;
       stops = owed.stops;
       placed = owed.placed;
+      bounded = c.in-Ok-End.ensures.bounded;
       again = λ stop is_stopped. ((c.in-Ok-End.ensures.again stop is_stopped).0, end_again c.args.lines.now.given stop (rw c.in-Ok-End.field-0-is at (c.in-Ok-End.ensures.again stop is_stopped).1));
     }
 
@@ -48,6 +50,7 @@ returns g c =
       answers = all.answers;
       stops = all.stops;
       placed = all.placed;
+      bounded = c.in-Err.ensures.bounded;
       again = λ stop is_stopped.
           let h = c.in-Err.ensures.again stop is_stopped in
           (h.0, same ∙ (ap (λ (l : Lined g.row.S.Denot). Err (feed_fault fault (l.given + 1) (l.given + 1))) h.0 ∙ fault_again c.args.lines.now.given fault stop h.1));

@@ -1,15 +1,13 @@
-use Rattle.std.proofs.Common.{◌≡◌, ℕ, ◌+◌, List, [], ◌∷◌, ◌++◌, Ok, Err, true, false, length, refl, sym, ap, ◌∙◌, subst, arith, length-append}
+use Rattle.std.proofs.Common.{◌≡◌, ◌+◌, [], ◌∷◌, ◌++◌, Ok, true, length, refl, ap, ◌∙◌, subst, arith, length-append}
 use Rattle.std.proofs.lemmas.List.{append-nil}
 use Rattle.mh_io.specs.Lined.{Gave}
 use Rattle.feed_reader.specs.Line.{is_end}
 use Rattle.feed_reader.specs.Feed.{block_of}
-use Rattle.feed_reader.specs.Steps.{Means}
-use Rattle.feed_reader.specs.declared.fault.FeedFault.{FeedFault}
 use Rattle.feed_reader.proofs.FeedMeanings.{block_means, cut_means, fault_means}
 use Rattle.feed_reader.proofs.read.read_crif.Goals as goal
 
-pub returns-in-Ok-Line : goal.returns-in-Ok-Line
-returns-in-Ok-Line g c =
+pub returns-in-Ok-Line-clause-tells : goal.returns-in-Ok-Line-clause-tells
+returns-in-Ok-Line-clause-tells g c =
     let e = rw c.in-Ok-Line.field-0-is at c.in-Ok-Line.ensures.encloses in
     let last = c.read_block.new.line in
     let ends : is_end last ≡ true = c.in-Ok-Line.ensures.ends (ap (λ s. Ok s) c.in-Ok-Line.field-0-is) in
@@ -20,8 +18,8 @@ returns-in-Ok-Line g c =
       means = block_means c.read_block.new.lines c.args.lines.now.given c.given-first.result c.args.line.now c.args.set e.inside last c.read_block.new.block c.requires.full c.requires.opens e.within ends c.given-first.ensures.value block (c.in-Ok-Line.ensures.few (ap (λ s. Ok s) c.in-Ok-Line.field-0-is));
     }
 
-pub returns-in-Ok-End : goal.returns-in-Ok-End
-returns-in-Ok-End g c =
+pub returns-in-Ok-End-clause-tells : goal.returns-in-Ok-End-clause-tells
+returns-in-Ok-End-clause-tells g c =
     let e = rw c.in-Ok-End.field-0-is at c.in-Ok-End.ensures.encloses in
     let over = rw c.in-Ok-End.field-0-is at c.in-Ok-End.ensures.stops in
     record {
@@ -30,8 +28,8 @@ returns-in-Ok-End g c =
       means = cut_means c.read_block.new.lines c.args.lines.now.given c.given-first.result c.args.line.now c.args.set e.inside c.requires.full c.requires.opens e.within over c.given-first.ensures.value;
     }
 
-pub returns-in-Err : goal.returns-in-Err
-returns-in-Err g c =
+pub returns-in-Err-clause-tells : goal.returns-in-Err-clause-tells
+returns-in-Err-clause-tells g c =
     let e = c.in-Err.ensures.encloses in
     let next : c.given.result + 1 ≡ c.args.lines.now.given + 1 + length e.inside = omega (arith, c.given.ensures.value, e.lines.count, length-append e.inside []) in
     record {

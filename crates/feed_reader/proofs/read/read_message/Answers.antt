@@ -1,30 +1,30 @@
-use Rattle.std.proofs.Common.{◌≡◌, [], refl, sym, ap, ◌∙◌}
+use Rattle.std.proofs.Common.{◌≡◌, [], sym, ap, ◌∙◌}
 use Rattle.mh_io.proofs.LinesTaken.{gave_none}
 use Rattle.feed_reader.specs.declared.message.Meaning.TheVariants as meaning
 use Rattle.feed_reader.specs.Line.{meaning_of}
 use Rattle.feed_reader.proofs.FeedMeanings.{message_means, bad_means}
 use Rattle.feed_reader.proofs.read.read_message.Goals as goal
 
-pub returns-in-Ok-Tells : goal.returns-in-Ok-Tells
-returns-in-Ok-Tells g c =
+pub returns-in-Ok-Tells-clause-tells : goal.returns-in-Ok-Tells-clause-tells
+returns-in-Ok-Tells-clause-tells g c =
     let is : meaning_of c.args.line.now ≡ meaning.Tells c.in-Ok-Tells.message = ap meaning_of (sym c.as_slice.ensures) ∙ (sym c.in-Ok-Tells.ensures ∙ c.in-Ok-Tells.field-0-is) in
     record {
       further = [];
       lines = gave_none g.S.Source.faults g.S.Source.name g.S.Source.gave g.S.Source.left c.args.lines.now;
-      means = message_means c.args.lines.now c.args.lines.now.given c.given-first.result c.args.line.now c.in-Ok-Tells.message c.requires is c.given-first.ensures.value (rw c.given-first.ensures.value at c.given-first.ensures.few);
+      means = message_means c.args.lines.now c.args.lines.now.given c.given-first.result c.args.line.now c.in-Ok-Tells.message c.requires.full is c.given-first.ensures.value (rw c.given-first.ensures.value at c.given-first.ensures.few);
     }
 
-pub returns-in-Ok-Bad : goal.returns-in-Ok-Bad
-returns-in-Ok-Bad g c =
+pub returns-in-Ok-Bad-clause-tells : goal.returns-in-Ok-Bad-clause-tells
+returns-in-Ok-Bad-clause-tells g c =
     let is : meaning_of c.args.line.now ≡ meaning.Bad = ap meaning_of (sym c.as_slice.ensures) ∙ (sym c.in-Ok-Bad.ensures ∙ c.in-Ok-Bad.field-0-is) in
     record {
       further = [];
       lines = gave_none g.S.Source.faults g.S.Source.name g.S.Source.gave g.S.Source.left c.args.lines.now;
-      means = bad_means c.args.lines.now c.args.lines.now.given c.given-first.result c.args.line.now c.requires is c.given-first.ensures.value (rw c.given-first.ensures.value at c.given-first.ensures.few);
+      means = bad_means c.args.lines.now c.args.lines.now.given c.given-first.result c.args.line.now c.requires.full is c.given-first.ensures.value (rw c.given-first.ensures.value at c.given-first.ensures.few);
     }
 
-pub returns-in-Err : goal.returns-in-Err
-returns-in-Err g c = record {
+pub returns-in-Err-clause-tells : goal.returns-in-Err-clause-tells
+returns-in-Err-clause-tells g c = record {
   further = [];
   lines = gave_none g.S.Source.faults g.S.Source.name g.S.Source.gave g.S.Source.left c.args.lines.now;
   means = c.given-first.ensures.value;

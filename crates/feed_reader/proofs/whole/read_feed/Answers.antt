@@ -1,5 +1,5 @@
-use Rattle.std.proofs.Common.{◌≡◌, [], ◌∷◌, ◌++◌, List, Ok, Err, Some, None, is_err, refl, sym, ap, ◌∙◌}
-use Rattle.feed_reader.specs.Feed.{Sent, BadAt, messages_of, bad_lines_of}
+use Rattle.std.proofs.Common.{[], ◌∷◌, ◌++◌, sym, ap, ◌∙◌}
+use Rattle.feed_reader.specs.Feed.{Sent, BadAt}
 use Rattle.feed_reader.proofs.FeedWhole.{nothing_told, then_tells, then_stops, messages_and, messages_but, bad_lines_and, bad_lines_but, kept, reads_to_fault}
 use Rattle.feed_reader.proofs.whole.read_feed.Goals as goal
 

@@ -1,14 +1,14 @@
-use Rattle.std.proofs.Common.{◌≡◌, ℕ, ◌+◌, ◌-◌, ◌≤◌, ◌<◌, min, List, length, take, refl, sym, ap, ◌∙◌, subst, arith}
+use Rattle.std.proofs.Common.{◌≡◌, ◌-◌, ◌≤◌, length, take, refl, sym, ap, ◌∙◌, arith}
 use Rattle.std.proofs.lemmas.List.{length-take}
 use Rattle.mh_io.specs.Lined.{is_ended}
-use Rattle.mh_io.specs.LinesSteps.{HasNoLf, IsPart}
+use Rattle.mh_io.specs.LinesSteps.{HasNoLf}
 use Rattle.mh_io.specs.declared.reading.TheConstants.{MOST_BYTES}
 use Rattle.mh_io.proofs.LinesLooks.{line_found, none_near, near_bytes, part_found}
 use Rattle.mh_io.proofs.LinesRuns.{long_run, over_run}
 use Rattle.mh_io.proofs.lines_read.Lines.look.Goals as goal
 
-pub returns-in-Some : goal.returns-in-Some
-returns-in-Some g c =
+pub returns-in-Some-clause-shows : goal.returns-in-Some-clause-shows
+returns-in-Some-clause-shows g c =
     let held = c.self.inside in
     let bytes = c.bytes-bytes.result.now in
     let pending : bytes ≡ c.args.self.now.pending = c.bytes-bytes.ensures.value ∙ ap (λ h. h.pending) c.self.view_is in
@@ -18,8 +18,8 @@ returns-in-Some g c =
     let order : c.args.looked ≤ c.min-near.result = omega (arith, ap length pending) in
     rw (← passed, ← pending) (line_found held.passed c.args.looked c.min-near.result c.in-Some.place bytes (omega arith) c.min-near.ensures order few free (sym c.find_lf.ensures ∙ c.in-Some.is))
 
-pub returns-then-near-eq-LINE_BYTES : goal.returns-then-near-eq-LINE_BYTES
-returns-then-near-eq-LINE_BYTES g c =
+pub returns-then-near-eq-LINE_BYTES-clause-shows : goal.returns-then-near-eq-LINE_BYTES-clause-shows
+returns-then-near-eq-LINE_BYTES-clause-shows g c =
     let held = c.self.inside in
     let bytes = c.bytes-bytes.result.now in
     let pending : bytes ≡ c.args.self.now.pending = c.bytes-bytes.ensures.value ∙ ap (λ h. h.pending) c.self.view_is in
@@ -32,8 +32,8 @@ returns-then-near-eq-LINE_BYTES g c =
     let looks : HasNoLf (take (MOST_BYTES - held.passed) bytes) = rw (← all) near in
     rw (← passed, ← pending) (long_run held.passed bytes (is_ended c.args.self.now.supply) looks (omega (arith, length-take (MOST_BYTES - held.passed) bytes)))
 
-pub returns-then-near-bytes : goal.returns-then-near-bytes
-returns-then-near-bytes g c =
+pub returns-then-near-bytes-clause-shows : goal.returns-then-near-bytes-clause-shows
+returns-then-near-bytes-clause-shows g c =
     let held = c.self.inside in
     let bytes = c.bytes-bytes.result.now in
     let pending : bytes ≡ c.args.self.now.pending = c.bytes-bytes.ensures.value ∙ ap (λ h. h.pending) c.self.view_is in
@@ -46,8 +46,8 @@ returns-then-near-bytes g c =
     let looks : HasNoLf (take (MOST_BYTES - held.passed) bytes) = rw (← all) near in
     (rw (← passed, ← pending) (over_run held.passed bytes (is_ended c.args.self.now.supply) looks (omega (arith, length-take (MOST_BYTES - held.passed) bytes)) (omega arith)), refl)
 
-pub returns-in-Open : goal.returns-in-Open
-returns-in-Open g c =
+pub returns-in-Open-clause-shows : goal.returns-in-Open-clause-shows
+returns-in-Open-clause-shows g c =
     let held = c.self.inside in
     let bytes = c.bytes-bytes.result.now in
     let pending : bytes ≡ c.args.self.now.pending = c.bytes-bytes.ensures.value ∙ ap (λ h. h.pending) c.self.view_is in
@@ -60,8 +60,8 @@ returns-in-Open g c =
     let looks : HasNoLf (take (MOST_BYTES - held.passed) bytes) = rw (← all) near in
     (rw (← passed, ← pending) (part_found held.passed c.min-near.result bytes (omega arith) c.min-near.ensures near (omega arith) (omega arith)), sym (ap (λ h. h.supply) c.self.view_is) ∙ c.in-Open.is)
 
-pub returns-in-Ended : goal.returns-in-Ended
-returns-in-Ended g c =
+pub returns-in-Ended-clause-shows : goal.returns-in-Ended-clause-shows
+returns-in-Ended-clause-shows g c =
     let held = c.self.inside in
     let bytes = c.bytes-bytes.result.now in
     let pending : bytes ≡ c.args.self.now.pending = c.bytes-bytes.ensures.value ∙ ap (λ h. h.pending) c.self.view_is in
@@ -74,8 +74,8 @@ returns-in-Ended g c =
     let looks : HasNoLf (take (MOST_BYTES - held.passed) bytes) = rw (← all) near in
     (rw (← passed, ← pending) (part_found held.passed c.min-near.result bytes (omega arith) c.min-near.ensures near (omega arith) (omega arith)), sym (ap (λ h. h.supply) c.self.view_is) ∙ c.in-Ended.is)
 
-pub returns-in-Failed : goal.returns-in-Failed
-returns-in-Failed g c =
+pub returns-in-Failed-clause-shows : goal.returns-in-Failed-clause-shows
+returns-in-Failed-clause-shows g c =
     let held = c.self.inside in
     let bytes = c.bytes-bytes.result.now in
     let pending : bytes ≡ c.args.self.now.pending = c.bytes-bytes.ensures.value ∙ ap (λ h. h.pending) c.self.view_is in

@@ -1,7 +1,6 @@
-use Rattle.std.proofs.Common.{◌≡◌, ℕ, length, take, refl, sym, ap, ◌∙◌, subst, arith, length-append}
+use Rattle.std.proofs.Common.{◌≡◌, length, take, refl, sym, ap, ◌∙◌, subst, arith, length-append}
 use Rattle.mh_io.specs.Lined.{Lined, IsStopped}
 use Rattle.std.proofs.Math.Seq.{take-append_seam}
-use Rattle.mh_io.specs.LinesSteps.{HasNoLf}
 use Rattle.mh_io.proofs.LinesStops.{not_stopped}
 use Rattle.mh_io.proofs.LinesTaken.{more_nothing, then_more}
 use Rattle.mh_io.proofs.lines_read.Lines.reach.Goals as goal
@@ -19,8 +18,8 @@ pub loop-front-preserved : goal.loop-front-preserved
 loop-front-preserved g c =
     let held = c.loop-front.self in
     let bytes = c.bytes-looked.result.now in
-    let part = (rw c.in-Ok-None.field-0-is at c.in-Ok-None.ensures).0 in
-    let is_open = (rw c.in-Ok-None.field-0-is at c.in-Ok-None.ensures).1 in
+    let part = (rw c.in-Ok-None.field-0-is at c.in-Ok-None.ensures.shows).0 in
+    let is_open = (rw c.in-Ok-None.field-0-is at c.in-Ok-None.ensures.shows).1 in
     let more = c.refill.ensures.took in
     let pending : bytes ≡ held.pending = c.bytes-looked.ensures.value ∙ ap (λ h. h.pending) c.self.view_is in
     let front : take (length bytes) c.refill.new.self.pending ≡ held.pending = rw (pending, more.pending) (take-append_seam held.pending more.taken) in

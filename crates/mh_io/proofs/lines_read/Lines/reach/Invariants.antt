@@ -1,4 +1,4 @@
-use Rattle.std.proofs.Common.{◌≡◌, ℕ, ◌-◌, ◌≤◌, length, take}
+use Rattle.std.proofs.Common.{◌≡◌, ◌-◌, ◌≤◌, length, take}
 use Rattle.mh_io.specs.Lines.{Stop}
 use Rattle.mh_io.specs.Lined.{IsStopped}
 use Rattle.mh_io.specs.LinesSteps.{HasNoLf, TookMore, turns_left}

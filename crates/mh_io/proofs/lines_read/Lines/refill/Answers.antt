@@ -1,4 +1,4 @@
-use Rattle.std.proofs.Common.{refl, sym, ap, ◌∙◌}
+use Rattle.std.proofs.Common.{refl, ap, ◌∙◌}
 use Rattle.mh_io.proofs.LinesTaken.{failed_now}
 use Rattle.mh_io.proofs.lines_read.Lines.refill.Goals as goal
 

@@ -1,4 +1,3 @@
-use Rattle.std.proofs.Common.{length, ap, ◌∙◌, sym, ◌≤◌, subst}
 use Rattle.mh_io.proofs.LinesPieces.{skipped}
 use Rattle.mh_io.proofs.lines_window.Window.skip.Goals as goal
 
