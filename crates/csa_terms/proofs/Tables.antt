@@ -77,16 +77,20 @@ AreShares-with hs class rate all few share = record {
 
 -- ---- a haircut behind all others
 
-at_class : (P : List ℕ → Type 0) (hs : List Haircut) (h : Haircut) (rest : List Haircut) → AllByRecursion P (classes (hs ++ h ∷ rest)) → P h.class
-at_class P [] h rest all = all.0
-at_class P (x ∷ xs) h rest all = at_class P xs h rest all.1
+at_class : (P : List ℕ → Type 0) (before : List (List ℕ)) (c : List ℕ) (after : List (List ℕ)) → AllByRecursion P (before ++ c ∷ after) → P c
+at_class P [] c after all = all.0
+at_class P (x ∷ xs) c after all = at_class P xs c after all.1
 
-pub with-last : (hs : List Haircut) (h : Haircut) (rest : List Haircut) → IsStrictlySortedBy name_cmp (classes (hs ++ h ∷ rest)) → with_haircut hs h.class h.rate ≡ hs ++ h ∷ []
-with-last [] h rest sorted = refl
-with-last (x ∷ xs) h rest sorted =
-    let below : name_cmp x.class h.class ≡ Less = at_class (λ c. name_cmp x.class c ≡ Less) xs h rest (sorted_head name_cmp x.class (classes (xs ++ h ∷ rest)) sorted) in
+pub with-last : (hs : List Haircut) (h : Haircut) (keys : List (List ℕ)) → IsStrictlySortedBy name_cmp (classes hs ++ h.class ∷ keys) → with_haircut hs h.class h.rate ≡ hs ++ h ∷ []
+with-last [] h keys sorted = refl
+with-last (x ∷ xs) h keys sorted =
+    let below : name_cmp x.class h.class ≡ Less = at_class (λ c. name_cmp x.class c ≡ Less) (classes xs) h.class keys (sorted_head name_cmp x.class (classes xs ++ h.class ∷ keys) sorted) in
     let above : name_cmp h.class x.class ≡ Greater = nat_list_cmp_total.antisymm h.class x.class ∙ ap ordering_reverse below in
-    rw above (ap (λ hs. x ∷ hs) (with-last xs h rest (sorted_tail name_cmp x.class (classes (xs ++ h ∷ rest)) sorted)))
+    rw above (ap (λ hs. x ∷ hs) (with-last xs h keys (sorted_tail name_cmp x.class (classes xs ++ h.class ∷ keys) sorted)))
+
+classes-behind : (hs : List Haircut) (h : Haircut) (rest : List Haircut) → classes (hs ++ h ∷ rest) ≡ classes hs ++ h.class ∷ classes rest
+classes-behind [] h rest = refl
+classes-behind (x ∷ xs) h rest = ap (λ l. x.class ∷ l) (classes-behind xs h rest)
 
 share_here : (hs : List Haircut) (h : Haircut) (rest : List Haircut) → Shares (hs ++ h ∷ rest) → IsShare h.rate
 share_here [] h rest s = s.0
@@ -105,4 +109,5 @@ module _ (hs : List Haircut) (h : Haircut) (rest all : List Haircut) (whole : hs
   room_at most few = let room : length hs < length (hs ++ h ∷ rest) = room_here hs h rest in let same = ap length whole in omega arith
 
   pub last_at : IsStrictlySortedBy name_cmp (classes all) → with_haircut hs h.class h.rate ≡ hs ++ h ∷ []
-  last_at sorted = with-last hs h rest (subst (λ l. IsStrictlySortedBy name_cmp (classes l)) (sym whole) sorted)
+  last_at sorted =
+      with-last hs h (classes rest) (subst (IsStrictlySortedBy name_cmp) (classes-behind hs h rest) (subst (λ (l : List Haircut). IsStrictlySortedBy name_cmp (classes l)) (sym whole) sorted))

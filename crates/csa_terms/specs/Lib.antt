@@ -1,3 +1,9 @@
 pub mod Terms
 pub mod Held
 pub mod SetView
+pub mod Calendar
+pub mod Ranges
+pub mod Faults
+pub mod Dates
+pub mod Values
+pub mod Grammar

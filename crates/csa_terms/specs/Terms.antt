@@ -88,3 +88,11 @@ pub record IsAgreement (agreement : Agreement) : Type 0 where
   pub fx_haircut : IsShare agreement.fx_haircut
   pub haircuts : AreHaircuts agreement.haircuts
   pub holidays : AreHolidays agreement.holidays
+
+-- ---- the sets of a file
+
+-- one to sixteen sets of different names
+pub record AreTerms (sets : List Agreement) : Type 0 where
+  pub some : 0 < length sets
+  pub few : length sets ≤ 16
+  pub different : IsDistinct same_name (map (λ s. s.name) sets)

@@ -2,10 +2,34 @@
 //! day on which a call is due.
 #![tactic(auto)]
 
+mod date;
+mod due;
+mod fault;
+mod haircut_entries;
 mod haircut_table;
 mod holiday_list;
+mod holiday_places;
+mod keyed;
+mod moment;
+mod names;
+mod path;
+mod range;
+mod reading;
+mod set_reader;
 mod set_terms;
+mod sets;
+mod terms;
+mod value;
+mod value_fault;
 
+pub use due::{DayRange, due_day};
+pub use fault::TermsFault;
 pub use haircut_table::HaircutTable;
 pub use holiday_list::HolidayList;
+pub use moment::Moment;
+pub use reading::read_terms;
 pub use set_terms::{Amounts, SetTerms};
+pub use terms::Terms;
+
+#[cfg(test)]
+mod tests;

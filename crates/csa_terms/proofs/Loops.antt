@@ -1,0 +1,239 @@
+-- The entries of a table and the places of an array, read one after another.
+use Rattle.std.proofs.Common.{◌≡◌, ℕ, suc, ◌-◌, None, Bool, true, false, cond, ◌||◌, is_some, take, Less, subst, length-append, slice_range, ◌+◌, ◌<◌, ◌≤◌, List, [], ◌∷◌, ◌++◌, length, map, get_or, drop, Result, Ok, Err, Some, String, string_bytes, Global, refl, sym, ap, ◌∙◌, arith, append_assoc, add-one, ℤ, decimal, codes}
+use Rattle.std.specs.Result.{result_map_both}
+use Rattle.std.specs.List.{AllByRecursion, IsDistinct, list_any}
+use Rattle.std.specs.List.Sorted.{IsStrictlySortedBy}
+use Rattle.std.specs.Map.{keys_of}
+use Rattle.std.specs.String.{string_cmp}
+use Rattle.std.specs.Cmp.{IsEquivalence}
+use Rattle.std.proofs.lemmas.Cmp.{eq_by_cmp_equiv, nat_list_cmp_total}
+use Rattle.std.proofs.lemmas.Map.Keys.{IsDistinct-push}
+use Rattle.std.proofs.Math.Seq.{drop-cons}
+use Rattle.std.proofs.lemmas.List.{append-nil, drop_all, take_more}
+use Rattle.toml.specs.Data.{Data, Items, no_items, item, as_table}
+use Rattle.toml.specs.View.{view, items_view, members_view}
+use Rattle.toml.specs.declared.value.Value.{Value}
+use Rattle.toml.proofs.Views.{Entry, items_view-drop}
+use Rattle.simm_kinds.specs.Order.{name_cmp, same_name}
+use Rattle.csa_terms.specs.declared.fault.TermsFault.{TermsFault}
+use Rattle.csa_terms.specs.declared.fault.TermsFault.TheVariants.{Toml, Missing, BadNumber, OutOfRange, DuplicateSet, BadDate, TooManySets, BadName, Memory}
+use Rattle.csa_terms.specs.Terms.{Haircut, Agreement}
+use Rattle.csa_terms.specs.Held.{classes, with_haircut}
+use Rattle.csa_terms.specs.Faults.{part_path, ◌>>=◌, at, Fails}
+use Rattle.csa_terms.specs.Values.{date_of}
+use Rattle.csa_terms.specs.Grammar.{members_count, items_count, haircut_of_entry, haircuts_of, holidays_of, set_at, sets_of, has_table, repeated}
+use Rattle.csa_terms.proofs.Tables.{with-last}
+
+-- what is read behind what was read
+abbrev pub with_front : {A : Type 0} → List A → Result (List A) TermsFault → Result (List A) TermsFault
+with_front front read = result_map_both (λ xs. front ++ xs) (λ e. e) read
+
+pub regroup : {A : Type 0} (front : List A) (x : A) (read : Result (List A) TermsFault) → with_front front (read >>= (λ xs. Ok (x ∷ xs))) ≡ with_front (front ++ x ∷ []) read
+regroup front x (Ok xs) = ap Ok (sym (append_assoc front (x ∷ []) xs))
+regroup front x (Err e) = refl
+
+-- a fault of a test is one of the chain that begins with it
+pub Fails-first : {A B : Type 0} (e : TermsFault) (front : List B) (r : Result A TermsFault) (f : A → Result (List B) TermsFault) → Fails e r → Fails e (with_front front (r >>= f))
+Fails-first Memory front r f h = tt
+Fails-first Toml front r f h = rw h refl
+Fails-first (Missing p) front r f h = rw h refl
+Fails-first (BadNumber p) front r f h = rw h refl
+Fails-first (OutOfRange p n) front r f h = rw h refl
+Fails-first (DuplicateSet n) front r f h = rw h refl
+Fails-first (BadDate p) front r f h = rw h refl
+Fails-first (TooManySets n) front r f h = rw h refl
+Fails-first (BadName p) front r f h = rw h refl
+
+pub items_count-view : (vs : List Value) → items_count (items_view vs) ≡ length vs
+items_count-view [] = refl
+items_count-view (v ∷ vs) = ap (λ n. n + 1) (items_count-view vs) ∙ add-one (length vs)
+
+pub members_count-view : (es : List Entry) → members_count (members_view es) ≡ length es
+members_count-view [] = refl
+members_count-view (e ∷ es) = ap (λ n. n + 1) (members_count-view es) ∙ add-one (length es)
+
+pub has_table-view : (vs : List Value) → list_any (λ v. is_some (as_table (view v))) vs ≡ has_table (items_view vs)
+has_table-view [] = refl
+has_table-view (v ∷ vs) = ap (λ b. is_some (as_table (view v)) || b) (has_table-view vs)
+
+pub has_table-some : (vs : List Value) → has_table (items_view vs) ≡ true → 0 < items_count (items_view vs)
+has_table-some [] h = absurd cc
+has_table-some (v ∷ vs) h = omega arith
+
+-- ---- the places of an array, which count from 1, by a test of each
+
+-- what is left of an array, behind what was read, gives what the whole array gives
+pub record SoFar {A : Type 0} (each : ℕ → Items → Result (List A) TermsFault) (front : List A) (i : ℕ) (vs : List Value) (total : Result (List A) TermsFault) : Type 0 where
+  pub value : with_front front (each (i + 1) (items_view (drop i vs))) ≡ total
+  pub count : length front ≡ i
+
+-- each place is read by the test
+pub record Reads {A : Type 0} (test : ℕ → Data → Result A TermsFault) (each : ℕ → Items → Result (List A) TermsFault) : Type 0 where
+  pub none : (n : ℕ) → each n no_items ≡ Ok []
+  pub more : (n : ℕ) (d : Data) (ds : Items) → each n (item d ds) ≡ (test n d >>= (λ x. each (n + 1) ds >>= (λ xs. Ok (x ∷ xs))))
+
+with_none : {A : Type 0} (read : Result (List A) TermsFault) → with_front [] read ≡ read
+with_none (Ok xs) = refl
+with_none (Err e) = refl
+
+pub begins : {A : Type 0} (each : ℕ → Items → Result (List A) TermsFault) (vs : List Value) → SoFar each [] 0 vs (each 1 (items_view vs))
+begins each vs = record { value = with_none (each 1 (items_view vs)); count = refl }
+
+module _ {A : Type 0} {test : ℕ → Data → Result A TermsFault} {each : ℕ → Items → Result (List A) TermsFault} (reads : Reads test each)
+    (front : List A) (i : ℕ) (vs : List Value) (total : Result (List A) TermsFault) where
+  abbrev rest : A → Result (List A) TermsFault
+  rest y = each (i + 1 + 1) (items_view (drop (i + 1) vs)) >>= (λ xs. Ok (y ∷ xs))
+
+  place : (x : Value) → i < length vs → x ≡ get_or vs i x → each (i + 1) (items_view (drop i vs)) ≡ (test (i + 1) (view x) >>= rest)
+  place x lt at =
+      ap (each (i + 1)) (items_view-drop vs i x lt ∙ ap (λ v. item (view v) (items_view (drop (i + 1) vs))) (sym at))
+      ∙ reads.more (i + 1) (view x) (items_view (drop (i + 1) vs))
+
+  pub goes_on : (x : Value) (y : A) → i < length vs → x ≡ get_or vs i x → test (i + 1) (view x) ≡ Ok y → SoFar each front i vs total → SoFar each (front ++ y ∷ []) (i + 1) vs total
+  goes_on x y lt at h so_far =
+      let one : each (i + 1) (items_view (drop i vs)) ≡ rest y = place x lt at ∙ ap (λ r. r >>= rest) h in
+      let count = so_far.count in
+      record {
+        value = sym (regroup front y (each (i + 1 + 1) (items_view (drop (i + 1) vs)))) ∙ ap (with_front front) (sym one) ∙ so_far.value;
+        count = simp length-append (omega arith);
+      }
+
+  pub ends : (e : TermsFault) (x : Value) → i < length vs → x ≡ get_or vs i x → Fails e (test (i + 1) (view x)) → SoFar each front i vs total → Fails e total
+  ends e x lt at h so_far =
+      subst (Fails e) (ap (with_front front) (sym (place x lt at)) ∙ so_far.value) (Fails-first e front (test (i + 1) (view x)) rest h)
+
+  pub is_done : length vs ≤ i → SoFar each front i vs total → total ≡ Ok front
+  is_done le so_far =
+      let none : drop i vs ≡ [] = drop_all i vs le in
+      sym so_far.value ∙ ap (λ (l : List Value). with_front front (each (i + 1) (items_view l))) none ∙ ap (with_front front) (reads.none (i + 1)) ∙ ap Ok (append-nil front)
+
+-- the holidays of a set, and the sets
+abbrev pub holiday_at : ℕ → ℕ → Data → Result ℤ TermsFault
+holiday_at set place value = at (part_path set (codes "holidays") (decimal place)) (date_of (Some value))
+
+pub holidays_read : (set : ℕ) → Reads (holiday_at set) (holidays_of set)
+unfolding holidays_of
+holidays_read set = record { none = λ n. refl; more = λ n d ds. refl }
+
+pub sets_read : Reads set_at sets_of
+unfolding sets_of
+sets_read = record { none = λ n. refl; more = λ n d ds. refl }
+
+-- ---- the entries of a set's haircuts
+
+abbrev pub keys_in : List Entry → List (List ℕ)
+keys_in es = map (λ (e : Entry). string_bytes e.0) es
+
+pub record EntriesSoFar (set : ℕ) (table : List Haircut) (left : List Entry) (total : Result (List Haircut) TermsFault) : Type 0 where
+  pub value : with_front table (haircuts_of set (members_view left)) ≡ total
+  pub room : length table + length left ≤ 256
+  pub ascending : IsStrictlySortedBy name_cmp (classes table ++ keys_in left)
+
+all_keys : (k : String Global) (es : List Entry) → AllByRecursion (λ y. string_cmp k y ≡ Less) (keys_of es) → AllByRecursion (λ b. name_cmp (string_bytes k) b ≡ Less) (keys_in es)
+all_keys k [] all = tt
+all_keys k (e ∷ es) all = (all.0, all_keys k es all.1)
+
+pub keys_ascend : (es : List Entry) → IsStrictlySortedBy string_cmp (keys_of es) → IsStrictlySortedBy name_cmp (keys_in es)
+unfolding IsStrictlySortedBy
+keys_ascend [] sorted = tt
+keys_ascend (e ∷ es) sorted = (all_keys e.0 es sorted.0, keys_ascend es sorted.1)
+
+pub entries_begin : (set : ℕ) (es : List Entry) → length es ≤ 256 → IsStrictlySortedBy string_cmp (keys_of es) → EntriesSoFar set [] es (haircuts_of set (members_view es))
+entries_begin set es few sorted = record {
+  value = with_none (haircuts_of set (members_view es));
+  room = omega arith;
+  ascending = keys_ascend es sorted;
+}
+
+classes-append : (hs : List Haircut) (h : Haircut) → classes (hs ++ h ∷ []) ≡ classes hs ++ h.class ∷ []
+classes-append [] h = refl
+classes-append (x ∷ xs) h = ap (λ l. x.class ∷ l) (classes-append xs h)
+
+module _ (set : ℕ) (table : List Haircut) (class : String Global) (value : Value) (left : List Entry) (total : Result (List Haircut) TermsFault)
+    (so_far : EntriesSoFar set table ((class, value) ∷ left) total) where
+  pub has_room : length table < 256
+  has_room = let room = so_far.room in omega arith
+
+  pub entry_ends : (e : TermsFault) → Fails e (haircut_of_entry set (string_bytes class) (view value)) → Fails e total
+  unfolding haircuts_of
+  entry_ends e h =
+      subst (Fails e) so_far.value
+      (Fails-first e table (haircut_of_entry set (string_bytes class) (view value)) (λ x. haircuts_of set (members_view left) >>= (λ xs. Ok (x ∷ xs))) h)
+
+  pub entry_goes_on : (h : Haircut) (new : List Haircut) → haircut_of_entry set (string_bytes class) (view value) ≡ Ok h → h.class ≡ string_bytes class
+      → new ≡ with_haircut table h.class h.rate → EntriesSoFar set new left total
+  unfolding haircuts_of
+  entry_goes_on h new read same put =
+      let keys : List (List ℕ) = keys_in left in
+      let sorted : IsStrictlySortedBy name_cmp (classes table ++ h.class ∷ keys) = subst (λ (c : List ℕ). IsStrictlySortedBy name_cmp (classes table ++ c ∷ keys)) (sym same) so_far.ascending in
+      let is : new ≡ table ++ h ∷ [] = put ∙ with-last table h keys sorted in
+      let one : haircuts_of set (members_view ((class, value) ∷ left)) ≡ (haircuts_of set (members_view left) >>= (λ xs. Ok (h ∷ xs)))
+      = ap (λ (r : Result Haircut TermsFault). r >>= (λ x. haircuts_of set (members_view left) >>= (λ xs. Ok (x ∷ xs)))) read in
+      let room = so_far.room in
+      let grown : classes (table ++ h ∷ []) ++ keys ≡ classes table ++ h.class ∷ keys = ap (λ l. l ++ keys) (classes-append table h) ∙ append_assoc (classes table) (h.class ∷ []) keys in
+      rw is (record {
+        value = sym (regroup table h (haircuts_of set (members_view left))) ∙ ap (with_front table) (sym one) ∙ so_far.value;
+        room = simp length-append (omega arith);
+        ascending = rw grown sorted;
+      })
+
+pub entries_done : (set : ℕ) (table : List Haircut) (left : List Entry) (total : Result (List Haircut) TermsFault) → left ≡ [] → EntriesSoFar set table left total → total ≡ Ok table
+unfolding haircuts_of
+entries_done set table left total none so_far =
+    sym so_far.value ∙ ap (λ (l : List Entry). with_front table (haircuts_of set (members_view l))) none ∙ ap Ok (append-nil table)
+
+-- ---- names that stand once
+
+abbrev pub names : List Agreement → List (List ℕ)
+names sets = map (λ s. s.name) sets
+
+any-names : (name : List ℕ) (sets : List Agreement) → list_any (λ (s : Agreement). same_name name s.name) sets ≡ list_any (same_name name) (names sets)
+any-names name [] = refl
+any-names name (s ∷ sets) = ap (λ b. same_name name s.name || b) (any-names name sets)
+
+pub record NoneSoFar (sets : List Agreement) (i : ℕ) : Type 0 where
+  pub value : repeated (names (take i sets)) (drop i sets) ≡ repeated [] sets
+
+names-push : (sets : List Agreement) (s : Agreement) → names (sets ++ s ∷ []) ≡ names sets ++ s.name ∷ []
+names-push [] s = refl
+names-push (x ∷ xs) s = ap (λ l. x.name ∷ l) (names-push xs s)
+
+module _ (sets : List Agreement) (i : ℕ) (s : Agreement) (within : i < length sets) (is : s ≡ get_or sets i s) (so_far : NoneSoFar sets i) where
+  next_name : repeated (names (take i sets)) (drop i sets) ≡ cond (list_any (same_name s.name) (names (take i sets))) (Some s.name) (repeated (names (take i sets) ++ s.name ∷ []) (drop (i + 1) sets))
+  next_name =
+      let one : i + 1 ≡ suc i = omega arith in
+      rw one (ap (repeated (names (take i sets))) (drop-cons sets i s within ∙ ap (λ x. x ∷ drop (suc i) sets) (sym is)))
+
+  front_any : list_any (λ (x : Agreement). same_name s.name x.name) (slice_range sets 0 i) ≡ list_any (same_name s.name) (names (take i sets))
+  front_any = let e : i - 0 ≡ i = omega arith in ap (λ n. list_any (λ (x : Agreement). same_name s.name x.name) (take n sets)) e ∙ any-names s.name (take i sets)
+
+  pub is_repeated : true ≡ list_any (λ (x : Agreement). same_name s.name x.name) (slice_range sets 0 i) → Some s.name ≡ repeated [] sets
+  is_repeated there = sym (rw (sym (there ∙ front_any)) at next_name) ∙ so_far.value
+
+  pub is_new : false ≡ list_any (λ (x : Agreement). same_name s.name x.name) (slice_range sets 0 i) → NoneSoFar sets (i + 1)
+  is_new there =
+      let next : take (i + 1) sets ≡ take i sets ++ s ∷ [] = take_more sets i s within ∙ ap (λ x. take i sets ++ x ∷ []) (sym is) in
+      let grown : names (take (i + 1) sets) ≡ names (take i sets) ++ s.name ∷ [] = ap names next ∙ names-push (take i sets) s in
+      record { value = rw grown (sym (rw (sym (there ∙ front_any)) at next_name) ∙ so_far.value) }
+
+pub none_repeated : (sets : List Agreement) (i : ℕ) → length sets ≤ i → NoneSoFar sets i → None ≡ repeated [] sets
+none_repeated sets i past so_far = sym (ap (repeated (names (take i sets))) (drop_all i sets past)) ∙ so_far.value
+
+name_laws : IsEquivalence same_name
+name_laws = eq_by_cmp_equiv nat_list_cmp_total
+
+distinct-next : (b : Bool) (before : List (List ℕ)) (s : Agreement) (sets : List Agreement) → list_any (same_name s.name) before ≡ b
+    → (IsDistinct same_name (before ++ s.name ∷ []) → None ≡ repeated (before ++ s.name ∷ []) sets → IsDistinct same_name ((before ++ s.name ∷ []) ++ names sets))
+    → IsDistinct same_name before → None ≡ cond b (Some s.name) (repeated (before ++ s.name ∷ []) sets) → IsDistinct same_name (before ++ s.name ∷ names sets)
+distinct-next true before s sets e later distinct none = absurd cc
+distinct-next false before s sets e later distinct none =
+    subst (IsDistinct same_name) (append_assoc before (s.name ∷ []) (names sets)) (later (IsDistinct-push name_laws before s.name distinct e) none)
+
+distinct-behind : (before : List (List ℕ)) (sets : List Agreement) → IsDistinct same_name before → None ≡ repeated before sets → IsDistinct same_name (before ++ names sets)
+distinct-behind before [] distinct none = subst (IsDistinct same_name) (sym (append-nil before)) distinct
+distinct-behind before (s ∷ sets) distinct none =
+    distinct-next (list_any (same_name s.name) before) before s sets refl (distinct-behind (before ++ s.name ∷ []) sets) distinct none
+
+pub names_differ : (sets : List Agreement) → None ≡ repeated [] sets → IsDistinct same_name (names sets)
+unfolding IsDistinct
+names_differ sets none = distinct-behind [] sets tt none

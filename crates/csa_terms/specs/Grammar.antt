@@ -1,0 +1,151 @@
+-- The grammar of the terms file: its tests in order, each with its path, its kind of value and its range; the first fault ends
+-- them. Other keys are passed over.
+-- (ISDA 2016 Credit Support Annex for Initial Margin: the terms that its paragraph 13 fills in.)
+use Rattle.std.specs.Prelude.{ℕ, ◌+◌, List, [], ◌∷◌, ◌++◌, Bool, false, ◌||◌, nat_lt, if◌then◌else◌, Option, Some, None, is_some, ok_or, Result, Ok, Err, ℤ, pos, codes, decimal}
+use Rattle.std.specs.List.{list_any}
+use Rattle.std.specs.Str.{is_utf8}
+use Rattle.toml.specs.Data.{Data, Items, no_items, item, Members, no_members, member, get_member, as_table}
+use Rattle.toml.specs.Parse.{parse_document}
+use Rattle.simm_kinds.specs.Order.{same_name}
+use Rattle.csa_terms.specs.declared.fault.TermsFault.{TermsFault}
+use Rattle.csa_terms.specs.declared.fault.TermsFault.TheVariants.{Toml, Missing, OutOfRange, DuplicateSet, TooManySets}
+use Rattle.csa_terms.specs.declared.range.Range.{Range}
+use Rattle.csa_terms.specs.Terms.{Haircut, Agreement}
+use Rattle.csa_terms.specs.Ranges.{amounts, units, shares}
+use Rattle.csa_terms.specs.Faults.{set_path, key_path, part_path, ◌>>=◌, at}
+use Rattle.csa_terms.specs.Values.{array_of, table_of, set_name_of, name_of, money_of, rate_of, minute_of, date_of}
+
+-- how many entries a table has, and how many places an array
+abbrev pub members_count : Members → ℕ
+members_count no_members = 0
+members_count (member key value rest) = members_count rest + 1
+
+abbrev pub items_count : Items → ℕ
+items_count no_items = 0
+items_count (item value rest) = items_count rest + 1
+
+-- more than the most are out of range, with their count
+abbrev pub at_most : ℕ → List ℕ → ℕ → Result (Unit {0}) TermsFault
+at_most most path count = if nat_lt most count then Err (OutOfRange path (pos count)) else Ok tt
+
+-- ---- haircuts, in the order of their classes: the class is tested before its rate
+
+unfoldable pub haircut_of_entry : ℕ → List ℕ → Data → Result Haircut TermsFault
+haircut_of_entry set class value = do
+  name ← at (part_path set (codes "haircuts") class) (name_of class)
+  rate ← at (part_path set (codes "haircuts") class) (rate_of shares (Some value))
+  Ok (record { class = name; rate = rate })
+
+unfoldable pub haircuts_of : ℕ → Members → Result (List Haircut) TermsFault
+haircuts_of set no_members = Ok []
+haircuts_of set (member class value rest) = do
+  haircut ← haircut_of_entry set class value
+  others ← haircuts_of set rest
+  Ok (haircut ∷ others)
+
+unfoldable pub haircut_table_of : ℕ → Members → Result (List Haircut) TermsFault
+haircut_table_of set table = do
+  entries ← at (key_path set (codes "haircuts")) (table_of (get_member (codes "haircuts") table))
+  few ← at_most 256 (key_path set (codes "haircuts")) (members_count entries)
+  haircuts_of set entries
+
+-- ---- holidays, whose places count from 1
+
+unfoldable pub holidays_of : ℕ → ℕ → Items → Result (List ℤ) TermsFault
+holidays_of set place no_items = Ok []
+holidays_of set place (item value rest) = do
+  day ← at (part_path set (codes "holidays") (decimal place)) (date_of (Some value))
+  others ← holidays_of set (place + 1) rest
+  Ok (day ∷ others)
+
+unfoldable pub holiday_list_of : ℕ → Members → Result (List ℤ) TermsFault
+holiday_list_of set table = do
+  places ← at (key_path set (codes "holidays")) (array_of (get_member (codes "holidays") table))
+  few ← at_most 4096 (key_path set (codes "holidays")) (items_count places)
+  holidays_of set 1 places
+
+-- ---- a set
+
+abbrev pub money_at : ℕ → List ℕ → Members → Range → Result ℤ TermsFault
+money_at set key table range = at (key_path set key) (money_of range (get_member key table))
+
+unfoldable pub amounts_of : ℕ → Members → Result (ℤ × ℤ × ℤ × ℤ) TermsFault
+amounts_of set table = do
+  threshold ← money_at set (codes "threshold") table amounts
+  mta_delivery ← money_at set (codes "mta_delivery") table amounts
+  mta_return ← money_at set (codes "mta_return") table amounts
+  rounding ← money_at set (codes "rounding") table units
+  Ok (threshold, mta_delivery, mta_return, rounding)
+
+unfoldable pub set_of : ℕ → Members → Result Agreement TermsFault
+set_of set table = do
+  name ← at (key_path set (codes "name")) (set_name_of (get_member (codes "name") table))
+  cents ← amounts_of set table
+  notification ← at (key_path set (codes "notification")) (minute_of (get_member (codes "notification") table))
+  fx_haircut ← at (key_path set (codes "fx_haircut")) (rate_of shares (get_member (codes "fx_haircut") table))
+  haircuts ← haircut_table_of set table
+  holidays ← holiday_list_of set table
+  Ok (record {
+    name = name;
+    threshold = cents.0;
+    mta_delivery = cents.1;
+    mta_return = cents.2;
+    rounding = cents.3;
+    notification = notification;
+    fx_haircut = fx_haircut;
+    haircuts = haircuts;
+    holidays = holidays;
+  })
+
+-- ---- the sets, counted from 1
+
+unfoldable pub set_at : ℕ → Data → Result Agreement TermsFault
+set_at number value = do
+  table ← at (set_path number) (table_of (Some value))
+  set_of number table
+
+unfoldable pub sets_of : ℕ → Items → Result (List Agreement) TermsFault
+sets_of number no_items = Ok []
+sets_of number (item value rest) = do
+  set ← set_at number value
+  others ← sets_of (number + 1) rest
+  Ok (set ∷ others)
+
+-- a place has a table
+abbrev pub has_table : Items → Bool
+has_table no_items = false
+has_table (item value rest) = is_some (as_table value) || has_table rest
+
+abbrev pub some_table : Items → Result (Unit {0}) TermsFault
+some_table places = if has_table places then Ok tt else Err (Missing (codes "set"))
+
+abbrev pub few_sets : ℕ → Result (Unit {0}) TermsFault
+few_sets count = if nat_lt 16 count then Err (TooManySets count) else Ok tt
+
+-- the first name that stood before, in the order of the sets
+abbrev pub repeated : List (List ℕ) → List Agreement → Option (List ℕ)
+repeated before [] = None
+repeated before (set ∷ sets) =
+    if list_any (same_name set.name) before then Some set.name else repeated (before ++ set.name ∷ []) sets
+
+abbrev pub once_each : Option (List ℕ) → Result (Unit {0}) TermsFault
+once_each None = Ok tt
+once_each (Some name) = Err (DuplicateSet name)
+
+-- ---- the file
+
+unfoldable pub terms_of_table : Members → Result (List Agreement) TermsFault
+terms_of_table root = do
+  places ← at (codes "set") (array_of (get_member (codes "set") root))
+  few ← few_sets (items_count places)
+  some ← some_table places
+  sets ← sets_of 1 places
+  different ← once_each (repeated [] sets)
+  Ok sets
+
+-- the TOML document of UTF-8 text
+unfoldable pub document_of : List ℕ → Result Members TermsFault
+document_of bytes = ok_or (if is_utf8 bytes then parse_document bytes else None) Toml
+
+unfoldable pub terms_of : List ℕ → Result (List Agreement) TermsFault
+terms_of bytes = document_of bytes >>= terms_of_table

@@ -1,0 +1,84 @@
+ghost use Rattle.std.specs.Prelude.{◌≡◌, ◌≤◌, Some, codes, length, IfOk};
+ghost use Rattle.toml.specs.View.{view, table_view};
+ghost use Rattle.csa_terms.specs.Terms.{IsShare};
+ghost use Rattle.csa_terms.specs.Faults.{part_path, at, Gives};
+ghost use Rattle.csa_terms.specs.Ranges.{shares};
+ghost use Rattle.csa_terms.specs.Values.{name_of, rate_of};
+ghost use Rattle.csa_terms.specs.Grammar.{members_count, haircut_of_entry, haircuts_of, haircut_table_of};
+
+use crate::fault::TermsFault;
+use crate::haircut_table::HaircutTable;
+use crate::keyed::{at_most, entry_count, table_at};
+use crate::path::haircut_path;
+use crate::range::SHARE;
+use crate::value::{name, rate};
+use mh_units::Rate4;
+use simm_kinds::Name;
+use std::alloc::Global;
+use toml::{Table, Value};
+
+/// How many haircuts a set has at most.
+const MOST: usize = 256;
+
+/// An entry of a set's haircuts.
+#[derive(Debug, Drop)]
+struct Entry {
+    class: Name,
+    rate: Rate4,
+}
+
+fn class_of(alloc: Global, set: usize, class: &str) -> Result<Name, TermsFault>
+    ensures value { Gives (λ n. n) result (at (part_path set (codes "haircuts") class.now) (name_of class.now)) }
+    ensures same { IfOk result (λ n. n ≡ class.now) }
+{
+    match name(alloc, class) {
+        Ok(name) => Ok(name),
+        Err(fault) => Err(fault.at(haircut_path(alloc, set, class)?)),
+    }
+}
+
+fn rate_of(alloc: Global, set: usize, class: &str, value: &Value) -> Result<Rate4, TermsFault>
+    ensures value { Gives (λ r. r.0) result (at (part_path set (codes "haircuts") class.now) (rate_of shares (Some (view value.now)))) }
+    ensures share { IfOk result (λ r. IsShare r.0) }
+{
+    match rate(SHARE, Some(value)) {
+        Ok(rate) => Ok(rate),
+        Err(fault) => Err(fault.at(haircut_path(alloc, set, class)?)),
+    }
+}
+
+#[tactic(auto, unfolding(crate::specs::Grammar::haircut_of_entry))]
+fn read_entry(alloc: Global, set: usize, class: &str, value: &Value) -> Result<Entry, TermsFault>
+    ensures value { Gives (λ e. record { class = e.class; rate = e.rate.0 }) result (haircut_of_entry set class.now (view value.now)) }
+    ensures share { IfOk result (λ e. IsShare e.rate.0) }
+    ensures same { IfOk result (λ e. e.class ≡ class.now) }
+{
+    let name = class_of(alloc, set, class)?;
+    let rate = rate_of(alloc, set, class, value)?;
+    Ok(Entry { class: name, rate })
+}
+
+/// The haircuts of a table's entries.
+fn read_entries(alloc: Global, set: usize, entries: &Table) -> Result<HaircutTable, TermsFault>
+    requires { members_count (table_view entries.now) ≤ 256 }
+    ensures { Gives (λ t. t) result (haircuts_of set (table_view entries.now)) }
+{
+    // The classes ascend.
+    let _count = entries.len();
+    let mut table = HaircutTable::new(alloc);
+    for (class, value) in entries {
+        let entry = read_entry(alloc, set, class.as_str(), value)?;
+        table.put(entry.class, entry.rate)?;
+    }
+    Ok(table)
+}
+
+/// The haircuts of a set.
+#[tactic(auto, unfolding(crate::specs::Grammar::haircut_table_of))]
+pub fn read_haircuts(alloc: Global, set: usize, terms: &Table) -> Result<HaircutTable, TermsFault>
+    ensures { Gives (λ t. t) result (haircut_table_of set (table_view terms.now)) }
+{
+    let entries = table_at(alloc, set, "haircuts", terms)?;
+    at_most(alloc, set, "haircuts", MOST, entry_count(entries))?;
+    read_entries(alloc, set, entries)
+}

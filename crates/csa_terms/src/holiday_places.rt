@@ -1,0 +1,50 @@
+ghost use Rattle.std.specs.Prelude.{◌≡◌, ◌≤◌, Some, codes, decimal, length, IfOk};
+ghost use Rattle.toml.specs.View.{view, items_view, table_view};
+ghost use Rattle.csa_terms.specs.Terms.{IsCalendarDay};
+ghost use Rattle.csa_terms.specs.Faults.{part_path, at, Gives};
+ghost use Rattle.csa_terms.specs.Values.{date_of};
+ghost use Rattle.csa_terms.specs.Grammar.{items_count, holidays_of, holiday_list_of};
+
+use crate::fault::TermsFault;
+use crate::holiday_list::HolidayList;
+use crate::keyed::{array_at, at_most, place_count};
+use crate::path::holiday_path;
+use crate::value::date;
+use std::alloc::Global;
+use toml::{Table, Value};
+
+/// How many holidays a set has at most.
+const MOST: usize = 4_096;
+
+/// The day of a place, counted from 1.
+fn read_place(alloc: Global, set: usize, place: usize, value: &Value) -> Result<i32, TermsFault>
+    ensures value { Gives (λ d. d) result (at (part_path set (codes "holidays") (decimal place)) (date_of (Some (view value.now)))) }
+    ensures calendar { IfOk result IsCalendarDay }
+{
+    match date(Some(value)) {
+        Ok(day) => Ok(day),
+        Err(fault) => Err(fault.at(holiday_path(alloc, set, place)?)),
+    }
+}
+
+/// The holidays of an array's places.
+fn read_places(alloc: Global, set: usize, places: &[Value]) -> Result<HolidayList, TermsFault>
+    requires { items_count (items_view places.now) ≤ 4096 }
+    ensures { Gives (λ l. l) result (holidays_of set 1 (items_view places.now)) }
+{
+    let mut list = HolidayList::new(alloc);
+    for (index, value) in places.iter().enumerate() {
+        list.push(read_place(alloc, set, index + 1, value)?)?;
+    }
+    Ok(list)
+}
+
+/// The holidays of a set.
+#[tactic(auto, unfolding(crate::specs::Grammar::holiday_list_of))]
+pub fn read_holidays(alloc: Global, set: usize, terms: &Table) -> Result<HolidayList, TermsFault>
+    ensures { Gives (λ l. l) result (holiday_list_of set (table_view terms.now)) }
+{
+    let places = array_at(alloc, set, "holidays", terms)?;
+    at_most(alloc, set, "holidays", MOST, place_count(places))?;
+    read_places(alloc, set, places)
+}

@@ -1,0 +1,40 @@
+ghost use Rattle.std.specs.Prelude.{◌≡◌, [], map, option_map, OnOk};
+ghost use Rattle.std.specs.List.{IsDistinct, list_any};
+ghost use Rattle.simm_kinds.specs.Order.{same_name};
+ghost use Rattle.csa_terms.specs.Faults.{Gives};
+ghost use Rattle.csa_terms.specs.Grammar.{once_each, repeated};
+
+use crate::fault::TermsFault;
+use crate::set_terms::SetTerms;
+use simm_kinds::Name;
+use std::alloc::Global;
+
+fn has_name(sets: &[SetTerms], name: &Name) -> bool
+    ensures { result ≡ list_any (λ s. same_name name.now s.name) sets.now }
+{
+    sets.iter()
+        .any(|set| name.bytes().cmp(set.name().bytes()).is_eq())
+}
+
+/// The first name that stood before.
+fn first_repeated(sets: &[SetTerms]) -> Option<&Name>
+    ensures { option_map (λ n. n.now) result ≡ repeated [] sets.now }
+{
+    for (index, set) in sets.iter().enumerate() {
+        if has_name(&sets[0..index], set.name()) {
+            return Some(set.name());
+        }
+    }
+    None
+}
+
+/// Refuses a set that has the name of one before it.
+pub fn check_names(alloc: Global, sets: &[SetTerms]) -> Result<(), TermsFault>
+    ensures value { Gives (λ u. u) result (once_each (repeated [] sets.now)) }
+    ensures different { OnOk result (IsDistinct same_name (map (λ s. s.name) sets.now)) }
+{
+    match first_repeated(sets) {
+        Some(name) => Err(TermsFault::DuplicateSet(name.copy(alloc)?)),
+        None => Ok(()),
+    }
+}

@@ -1,0 +1,106 @@
+ghost use Rattle.std.specs.Prelude.{◌≡◌, ◌≤◌, ◌<◌, Some, is_some, codes, length, IsTrue, IfOk, OnOk};
+ghost use Rattle.toml.specs.Data.{get_member, as_table};
+ghost use Rattle.std.specs.List.{list_any};
+ghost use Rattle.toml.specs.View.{view, items_view, table_view};
+ghost use Rattle.csa_terms.specs.Faults.{set_path, at, Gives};
+ghost use Rattle.csa_terms.specs.Values.{array_of, table_of};
+ghost use Rattle.csa_terms.specs.Grammar.{items_count, few_sets, has_table, some_table, set_at, sets_of, terms_of_table};
+
+use crate::fault::TermsFault;
+use crate::keyed::{member, place_count};
+use crate::names::check_names;
+use crate::path::{set_path, sets_path};
+use crate::set_reader::read_set;
+use crate::set_terms::SetTerms;
+use crate::terms::Terms;
+use crate::value::{array, table};
+use std::alloc::Global;
+use toml::{Table, Value};
+
+/// How many sets a file has at most.
+const MOST: usize = 16;
+
+fn set_places(alloc: Global, root: &Table) -> Result<&[Value], TermsFault>
+    ensures { Gives (λ a. items_view a.now) result (at (codes "set") (array_of (get_member (codes "set") (table_view root.now)))) }
+{
+    match array(member(root, "set")) {
+        Ok(places) => Ok(places),
+        Err(fault) => Err(fault.at(sets_path(alloc)?)),
+    }
+}
+
+fn check_count(places: &[Value]) -> Result<(), TermsFault>
+    ensures value { Gives (λ u. u) result (few_sets (items_count (items_view places.now))) }
+    ensures few { OnOk result (items_count (items_view places.now) ≤ 16) }
+{
+    let count = place_count(places);
+    if MOST < count {
+        return Err(TermsFault::TooManySets(count));
+    }
+    Ok(())
+}
+
+fn any_table(places: &[Value]) -> bool
+    ensures { result ≡ list_any (λ v. is_some (as_table (view v))) places.now }
+{
+    places.iter().any(|value| value.as_table().is_some())
+}
+
+fn has_table(places: &[Value]) -> bool
+    ensures value { result ≡ has_table (items_view places.now) }
+    ensures some { IsTrue result → 0 < items_count (items_view places.now) }
+{
+    any_table(places)
+}
+
+fn check_tables(alloc: Global, places: &[Value]) -> Result<(), TermsFault>
+    ensures value { Gives (λ u. u) result (some_table (items_view places.now)) }
+    ensures some { OnOk result (0 < items_count (items_view places.now)) }
+{
+    if !has_table(places) {
+        return Err(TermsFault::Missing(sets_path(alloc)?));
+    }
+    Ok(())
+}
+
+fn set_table<'a>(alloc: Global, number: usize, value: &'a Value) -> Result<&'a Table, TermsFault>
+    ensures { Gives (λ t. table_view t.now) result (at (set_path number) (table_of (Some (view value.now)))) }
+{
+    match table(Some(value)) {
+        Ok(table) => Ok(table),
+        Err(fault) => Err(fault.at(set_path(alloc, number)?)),
+    }
+}
+
+#[tactic(auto, unfolding(crate::specs::Grammar::set_at))]
+fn read_place(alloc: Global, number: usize, value: &Value) -> Result<SetTerms, TermsFault>
+    ensures { Gives (λ t. t) result (set_at number (view value.now)) }
+{
+    let terms = set_table(alloc, number, value)?;
+    read_set(alloc, number, terms)
+}
+
+/// The terms of the sets in their tables.
+fn read_places(alloc: Global, places: &[Value]) -> Result<Vec<SetTerms>, TermsFault>
+    ensures value { Gives (λ v. v.items) result (sets_of 1 (items_view places.now)) }
+    ensures len { IfOk result (λ v. length v.items ≡ items_count (items_view places.now)) }
+{
+    let mut sets = Vec::with_capacity(alloc, places.len())?;
+    for (index, value) in places.iter().enumerate() {
+        sets.push(read_place(alloc, index + 1, value)?)?;
+    }
+    Ok(sets)
+}
+
+/// The terms of the sets of a document.
+#[tactic(auto, unfolding(crate::specs::Grammar::terms_of_table))]
+pub fn read_sets(alloc: Global, root: &Table) -> Result<Terms, TermsFault>
+    ensures { Gives (λ t. t) result (terms_of_table (table_view root.now)) }
+{
+    let places = set_places(alloc, root)?;
+    check_count(places)?;
+    check_tables(alloc, places)?;
+    let sets = read_places(alloc, places)?;
+    check_names(alloc, sets.as_slice())?;
+    Ok(Terms::from_sets(sets))
+}

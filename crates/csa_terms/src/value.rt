@@ -1,0 +1,137 @@
+ghost use Rattle.std.specs.Prelude.{◌≡◌, ◌<◌, length, option_map, IfOk};
+ghost use Rattle.toml.specs.View.{view, items_view, table_view};
+ghost use Rattle.csa_terms.specs.Terms.{IsCalendarDay};
+ghost use Rattle.csa_terms.specs.Ranges.{IsWithin};
+ghost use Rattle.csa_terms.specs.Faults.{Tells};
+ghost use Rattle.csa_terms.specs.Values.{text_of, array_of, table_of, name_of, set_name_of, money_of, rate_of, minute_of, date_of};
+
+use crate::date::{date_in, minute_in};
+use crate::range::Range;
+use crate::value_fault::ValueFault;
+use mh_units::{Cents, Rate4, read_cents, read_fixed};
+use simm_kinds::{Name, NameFault};
+use std::alloc::Global;
+use toml::{Table, Value};
+
+/// The text of a value.
+fn text(value: Option<&Value>) -> Result<&str, ValueFault>
+    ensures { Tells (λ s. s.now) result (text_of (option_map (λ v. view v.now) value.entry)) }
+{
+    let Some(value) = value else {
+        return Err(ValueFault::Missing);
+    };
+    match value.as_str() {
+        Some(text) => Ok(text),
+        None => Err(ValueFault::Missing),
+    }
+}
+
+/// The places of an array.
+pub fn array(value: Option<&Value>) -> Result<&[Value], ValueFault>
+    ensures { Tells (λ a. items_view a.now) result (array_of (option_map (λ v. view v.now) value.entry)) }
+{
+    let Some(value) = value else {
+        return Err(ValueFault::Missing);
+    };
+    match value.as_array() {
+        Some(array) => Ok(array.as_slice()),
+        None => Err(ValueFault::Missing),
+    }
+}
+
+/// A table.
+pub fn table(value: Option<&Value>) -> Result<&Table, ValueFault>
+    ensures { Tells (λ t. table_view t.now) result (table_of (option_map (λ v. view v.now) value.entry)) }
+{
+    let Some(value) = value else {
+        return Err(ValueFault::Missing);
+    };
+    match value.as_table() {
+        Some(table) => Ok(table),
+        None => Err(ValueFault::Missing),
+    }
+}
+
+/// A name, which may be empty.
+pub fn name(alloc: Global, text: &str) -> Result<Name, ValueFault>
+    ensures { Tells (λ n. n) result (name_of text.now) }
+{
+    match Name::read(alloc, text.as_bytes()) {
+        Ok(name) => Ok(name),
+        Err(NameFault::Memory) => Err(ValueFault::Memory),
+        Err(_) => Err(ValueFault::BadName),
+    }
+}
+
+/// A name that isn't empty.
+#[tactic(auto, unfolding(crate::specs::Values::set_name_of))]
+pub fn set_name(alloc: Global, value: Option<&Value>) -> Result<Name, ValueFault>
+    ensures value { Tells (λ n. n) result (set_name_of (option_map (λ v. view v.now) value.entry)) }
+    ensures named { IfOk result (λ n. 0 < length n) }
+{
+    let text = text(value)?;
+    let name = name(alloc, text)?;
+    if name.bytes().is_empty() {
+        return Err(ValueFault::BadName);
+    }
+    Ok(name)
+}
+
+/// An amount of money in the range.
+#[tactic(auto, unfolding(crate::specs::Values::money_of))]
+pub fn money(range: Range, value: Option<&Value>) -> Result<Cents, ValueFault>
+    ensures value { Tells (λ c. c.0) result (money_of range (option_map (λ v. view v.now) value.entry)) }
+    ensures within { IfOk result (λ c. IsWithin range c.0) }
+{
+    let text = text(value)?;
+    let Ok(cents) = read_cents(text.as_bytes()) else {
+        return Err(ValueFault::BadNumber);
+    };
+    if !range.has(cents.0) {
+        return Err(ValueFault::OutOfRange(cents.0));
+    }
+    Ok(cents)
+}
+
+/// A rate in the range.
+#[tactic(auto, unfolding(crate::specs::Values::rate_of))]
+pub fn rate(range: Range, value: Option<&Value>) -> Result<Rate4, ValueFault>
+    ensures value { Tells (λ r. r.0) result (rate_of range (option_map (λ v. view v.now) value.entry)) }
+    ensures within { IfOk result (λ r. IsWithin range r.0) }
+{
+    let text = text(value)?;
+    let Some(rate) = read_fixed(text.as_bytes(), 4) else {
+        return Err(ValueFault::BadNumber);
+    };
+    let number = i128::from(rate);
+    if !range.has(number) {
+        return Err(ValueFault::OutOfRange(number));
+    }
+    Ok(Rate4(rate))
+}
+
+/// A time of day `HH:MM`, in minutes from midnight.
+#[tactic(auto, unfolding(crate::specs::Values::minute_of))]
+pub fn minute(value: Option<&Value>) -> Result<u16, ValueFault>
+    ensures value { Tells (λ n. n) result (minute_of (option_map (λ v. view v.now) value.entry)) }
+    ensures within { IfOk result (λ n. n < 1440) }
+{
+    let text = text(value)?;
+    match minute_in(text.as_bytes()) {
+        Some(minute) => Ok(minute),
+        None => Err(ValueFault::BadDate),
+    }
+}
+
+/// A date `YYYY-MM-DD`, as a day counted from 1970-01-01.
+#[tactic(auto, unfolding(crate::specs::Values::date_of))]
+pub fn date(value: Option<&Value>) -> Result<i32, ValueFault>
+    ensures value { Tells (λ d. d) result (date_of (option_map (λ v. view v.now) value.entry)) }
+    ensures calendar { IfOk result IsCalendarDay }
+{
+    let text = text(value)?;
+    match date_in(text.as_bytes()) {
+        Some(day) => Ok(day),
+        None => Err(ValueFault::BadDate),
+    }
+}
