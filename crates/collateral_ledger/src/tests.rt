@@ -1,3 +1,4 @@
+ghost use Rattle.std.specs.Prelude.{◌≡◌, pos, ◌≤ℤ◌};
 ghost use Rattle.csa_terms.specs.Terms.{IsShare};
 
 use crate::{Ledger, LedgerFault};
@@ -34,92 +35,170 @@ fn terms(alloc: Global, haircut: i64) -> Result<SetTerms, Fail>
     Ok(SetTerms::of_parts(set, amounts, 780, Rate4(800), haircuts, holidays))
 }
 
+/// An empty ledger, of which a proof knows nothing, so that the tests are quickly proved.
+fn empty(alloc: Global, haircut: i64) -> Result<Ledger, Fail>
+    requires { IsShare haircut }
+{
+    Ok(Ledger::new(alloc, terms(alloc, haircut)?))
+}
+
+/// Puts a lot, and answers why it is refused.
+fn put(
+    alloc: Global,
+    ledger: &mut Ledger,
+    lot: &str,
+    class: &str,
+    value: i64,
+    other: bool,
+) -> Result<Option<LedgerFault>, Fail> {
+    let lot = name(alloc, lot)?;
+    let class = name(alloc, class)?;
+    Ok(ledger.put_lot(alloc, &lot, &class, value, other).err())
+}
+
+/// Takes a lot, and answers why it is refused.
+fn take(alloc: Global, ledger: &mut Ledger, lot: &str) -> Result<Option<LedgerFault>, Fail> {
+    let lot = name(alloc, lot)?;
+    Ok(ledger.take_lot(&lot).err())
+}
+
+/// Marks a lot, and answers why it is refused.
+fn mark(
+    alloc: Global,
+    ledger: &mut Ledger,
+    lot: &str,
+    value: i64,
+) -> Result<Option<LedgerFault>, Fail> {
+    let lot = name(alloc, lot)?;
+    Ok(ledger.mark_lot(&lot, value).err())
+}
+
+fn is_refused(refusal: Option<LedgerFault>, reason: LedgerFault) -> bool {
+    refusal == Some(reason)
+}
+
 #[test]
 fn a_lot_in_another_currency_counts_less(rt: HostRuntime) -> Result<(), Fail> {
     let alloc = rt.alloc();
-    let first = name(alloc, "L1")?;
-    let class = name(alloc, "USD")?;
-    let mut ledger = Ledger::new(alloc, terms(alloc, 0)?);
-    ledger.put_lot(alloc, &first, &class, 100_000, true)?;
+    let mut ledger = empty(alloc, 0)?;
+    let first = put(alloc, &mut ledger, "L1", "USD", 100_000, true)?;
+    assert!(rt; first.is_none());
     assert_eq!(rt; ledger.booked(), 92_000);
-    let second = name(alloc, "L2")?;
-    ledger.put_lot(alloc, &second, &class, 7, false)?;
+    let second = put(alloc, &mut ledger, "L2", "USD", 7, false)?;
+    assert!(rt; second.is_none());
     assert_eq!(rt; ledger.booked(), 92_007);
-    ledger.mark_lot(&first, 50_000)?;
+    Ok(())
+}
+
+#[test]
+fn a_lot_is_marked_and_taken(rt: HostRuntime) -> Result<(), Fail> {
+    let alloc = rt.alloc();
+    let mut ledger = empty(alloc, 0)?;
+    put(alloc, &mut ledger, "L1", "USD", 100_000, true)?;
+    put(alloc, &mut ledger, "L2", "USD", 7, false)?;
+    let marked = mark(alloc, &mut ledger, "L1", 50_000)?;
+    assert!(rt; marked.is_none());
     assert_eq!(rt; ledger.booked(), 46_007);
-    ledger.take_lot(&first)?;
+    let taken = take(alloc, &mut ledger, "L1")?;
+    assert!(rt; taken.is_none());
     assert_eq!(rt; ledger.booked(), 7);
     Ok(())
 }
 
 #[test]
-fn what_counts_is_rounded_down_and_never_below_zero(rt: HostRuntime) -> Result<(), Fail> {
+fn what_counts_is_rounded_down(rt: HostRuntime) -> Result<(), Fail> {
     let alloc = rt.alloc();
-    let lot = name(alloc, "L1")?;
-    let class = name(alloc, "USD")?;
-    let mut bonds = Ledger::new(alloc, terms(alloc, 550)?);
-    bonds.put_lot(alloc, &lot, &class, 999, false)?;
+    let mut bonds = empty(alloc, 550)?;
+    put(alloc, &mut bonds, "L1", "USD", 999, false)?;
     assert_eq!(rt; bonds.booked(), 944);
-    let mut worthless = Ledger::new(alloc, terms(alloc, 9_500)?);
-    worthless.put_lot(alloc, &lot, &class, 999, true)?;
+    Ok(())
+}
+
+#[test]
+fn what_counts_is_never_below_zero(rt: HostRuntime) -> Result<(), Fail> {
+    let alloc = rt.alloc();
+    let mut worthless = empty(alloc, 9_500)?;
+    put(alloc, &mut worthless, "L1", "USD", 999, true)?;
     assert_eq!(rt; worthless.booked(), 0);
     Ok(())
 }
 
 #[test]
-fn each_refusal_has_its_reason(rt: HostRuntime) -> Result<(), Fail> {
+fn each_lot_that_is_refused_has_its_reason(rt: HostRuntime) -> Result<(), Fail> {
     let alloc = rt.alloc();
-    let lot = name(alloc, "L1")?;
-    let other = name(alloc, "L2")?;
-    let class = name(alloc, "USD")?;
-    let mut ledger = Ledger::new(alloc, terms(alloc, 0)?);
-    ledger.put_lot(alloc, &lot, &class, 100_000, false)?;
-    let again = ledger.put_lot(alloc, &lot, &other, -1, false);
-    assert_eq!(rt; again, Err(LedgerFault::LotKnown));
-    let unknown = ledger.put_lot(alloc, &other, &other, -1, false);
-    assert_eq!(rt; unknown, Err(LedgerFault::ClassUnknown));
-    let beyond = ledger.put_lot(alloc, &other, &class, GREATEST + 1, false);
-    assert_eq!(rt; beyond, Err(LedgerFault::LotRange(1_000_000_000_000_001)));
-    assert_eq!(rt; ledger.take_lot(&other), Err(LedgerFault::LotUnknown));
-    assert_eq!(rt; ledger.mark_lot(&other, -1), Err(LedgerFault::LotUnknown));
-    assert_eq!(rt;
-        ledger.mark_lot(&lot, -100),
-        Err(LedgerFault::LotRange(-100))
-    );
-    assert_eq!(rt; ledger.close_call(7), Err(LedgerFault::CallUnknown));
+    let mut ledger = empty(alloc, 0)?;
+    put(alloc, &mut ledger, "L1", "USD", 100_000, false)?;
+    let again = put(alloc, &mut ledger, "L1", "EUR", -1, false)?;
+    assert!(rt; is_refused(again, LedgerFault::LotKnown));
+    let unknown = put(alloc, &mut ledger, "L2", "EUR", -1, false)?;
+    assert!(rt; is_refused(unknown, LedgerFault::ClassUnknown));
+    let beyond = put(alloc, &mut ledger, "L2", "USD", GREATEST + 1, false)?;
+    assert!(rt; is_refused(beyond, LedgerFault::LotRange(1_000_000_000_000_001)));
+    Ok(())
+}
+
+#[test]
+fn each_other_refusal_has_its_reason(rt: HostRuntime) -> Result<(), Fail> {
+    let alloc = rt.alloc();
+    let mut ledger = empty(alloc, 0)?;
+    put(alloc, &mut ledger, "L1", "USD", 100_000, false)?;
+    let taken = take(alloc, &mut ledger, "L2")?;
+    assert!(rt; is_refused(taken, LedgerFault::LotUnknown));
+    let unknown = mark(alloc, &mut ledger, "L2", -100)?;
+    assert!(rt; is_refused(unknown, LedgerFault::LotUnknown));
+    let below = mark(alloc, &mut ledger, "L1", -100)?;
+    assert!(rt; is_refused(below, LedgerFault::LotRange(-100)));
+    let refused = ledger.close_call(7).err();
+    assert!(rt; is_refused(refused, LedgerFault::CallUnknown));
     assert_eq!(rt; ledger.booked(), 100_000);
     Ok(())
+}
+
+/// Adds a delivery and then a return to a ledger with no calls.
+fn add_two(ledger: &mut Ledger, delivery: i64, back: i64) -> Result<(u32, u32), Fail>
+    requires none { ledger.old.added ≡ 0 }
+    requires delivery_from { pos 1 ≤ℤ delivery }
+    requires delivery_to { delivery ≤ℤ pos 1000000 }
+    requires back_from { pos 1 ≤ℤ back }
+    requires back_to { back ≤ℤ pos 1000000 }
+{
+    let first = ledger.add_call(true, delivery)?;
+    let second = ledger.add_call(false, back)?;
+    Ok((first, second))
 }
 
 #[test]
 fn outstanding_calls_are_booked(rt: HostRuntime) -> Result<(), Fail> {
     let alloc = rt.alloc();
     let mut ledger = Ledger::new(alloc, terms(alloc, 0)?);
-    let delivery = ledger.add_call(true, 240_000)?;
-    assert_eq!(rt; delivery, 1);
-    let back = ledger.add_call(false, 10_000)?;
-    assert_eq!(rt; back, 2);
+    let numbers = add_two(&mut ledger, 240_000, 10_000)?;
+    assert_eq!(rt; numbers, (1, 2));
     assert_eq!(rt; ledger.booked(), 230_000);
     ledger.close_call(1)?;
-    assert_eq!(rt; ledger.close_call(1), Err(LedgerFault::CallUnknown));
     assert_eq!(rt; ledger.booked(), -10_000);
+    let refused = ledger.close_call(1).err();
+    assert!(rt; is_refused(refused, LedgerFault::CallUnknown));
+    Ok(())
+}
+
+/// Puts this many lots of the greatest value.
+fn fill(alloc: Global, ledger: &mut Ledger, count: u32) -> Result<(), Fail> {
+    for number in 0..count {
+        let lot = format!(in alloc; "L{number}")?;
+        put(alloc, ledger, lot.as_str(), "USD", GREATEST, false)?;
+    }
     Ok(())
 }
 
 #[test]
 fn there_are_4096_lots_at_most(rt: HostRuntime) -> Result<(), Fail> {
     let alloc = rt.alloc();
-    let class = name(alloc, "USD")?;
-    let mut ledger = Ledger::new(alloc, terms(alloc, 0)?);
-    for number in 0..4096u32 {
-        let lot = name(alloc, format!(in alloc; "L{number}")?.as_str())?;
-        ledger.put_lot(alloc, &lot, &class, GREATEST, false)?;
-    }
+    let mut ledger = empty(alloc, 0)?;
+    fill(alloc, &mut ledger, 4096)?;
     assert_eq!(rt; ledger.booked(), 4_096_000_000_000_000_000);
-    let lot = name(alloc, "L4096")?;
-    let more = ledger.put_lot(alloc, &lot, &class, 1, false);
-    assert_eq!(rt; more, Err(LedgerFault::LotsFull(4096)));
-    let unknown = ledger.put_lot(alloc, &lot, &lot, 1, false);
-    assert_eq!(rt; unknown, Err(LedgerFault::ClassUnknown));
+    let more = put(alloc, &mut ledger, "L4096", "USD", 1, false)?;
+    assert!(rt; is_refused(more, LedgerFault::LotsFull(4096)));
+    let unknown = put(alloc, &mut ledger, "L4096", "EUR", 1, false)?;
+    assert!(rt; is_refused(unknown, LedgerFault::ClassUnknown));
     Ok(())
 }
