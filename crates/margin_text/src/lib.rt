@@ -12,3 +12,6 @@ mod trade_parts;
 pub use breakdown_lines::margin_lines;
 pub use feed_lines::report_text;
 pub use set_journal::journal_text;
+
+#[cfg(test)]
+mod tests;
