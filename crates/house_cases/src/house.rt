@@ -50,7 +50,7 @@ pub struct Outcome {
     pub text: Vec<u8>,
 }
 
-fn one(alloc: Global, number: u64) -> Result<Vec<u64>, AllocError> {
+pub fn one(alloc: Global, number: u64) -> Result<Vec<u64>, AllocError> {
     let mut numbers = Vec::new(alloc);
     if number > 0 {
         numbers.push(number)?;
@@ -58,7 +58,7 @@ fn one(alloc: Global, number: u64) -> Result<Vec<u64>, AllocError> {
     Ok(numbers)
 }
 
-fn strings(alloc: Global, words: &[&str]) -> Result<Vec<String>, AllocError> {
+pub fn strings(alloc: Global, words: &[&str]) -> Result<Vec<String>, AllocError> {
     let mut all = Vec::new(alloc);
     for word in words {
         all.push(String::from_str(alloc, word)?)?;

@@ -7,3 +7,5 @@ mod calculations;
 mod faults;
 #[cfg(test)]
 mod house;
+#[cfg(test)]
+mod runs;

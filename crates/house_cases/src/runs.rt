@@ -1,0 +1,218 @@
+use crate::house::{Outcome, PARAMS, one, strings};
+use margin_top::{Status, margin_house};
+use mh_io::{MemFolder, MemSink};
+use mh_units::Bytes;
+use std::alloc::Global;
+use std::test::Fail;
+
+const RUN: [&str; 4] = ["run", "params", "terms", "feed"];
+
+const TERMS: &str = r#"[[set]]
+name = "ALPHA"
+threshold = "5000.00"
+mta_delivery = "500.00"
+mta_return = "500.00"
+rounding = "100.00"
+notification = "13:00"
+fx_haircut = "0.08"
+haircuts = { CASH-USD = "0" }
+holidays = []
+
+[[set]]
+name = "BETA"
+threshold = "0"
+mta_delivery = "0"
+mta_return = "0"
+rounding = "0.01"
+notification = "13:00"
+fx_haircut = "0.08"
+haircuts = {}
+holidays = []
+"#;
+
+/// The call at which the feed fails, the most bytes that the sink takes at once, and its call that fails; 0 for none.
+#[derive(Clone, Copy)]
+struct Trouble {
+    feed: u64,
+    sink_most: usize,
+    put: u64,
+}
+
+const NONE: Trouble = Trouble {
+    feed: 0,
+    sink_most: 65_536,
+    put: 0,
+};
+
+/// Runs these words over a folder with the files `params`, `terms` and `feed`.
+fn run(
+    alloc: Global,
+    words: &[&str],
+    terms: &str,
+    feed: &str,
+    trouble: Trouble,
+) -> Result<Outcome, Fail> {
+    let mut folder = MemFolder::new(Vec::new(alloc));
+    let params = Bytes::from_vec(PARAMS.as_bytes().to_vec(alloc)?);
+    folder.add(alloc, "params", params, 7, Vec::new(alloc))?;
+    let terms = Bytes::from_vec(terms.as_bytes().to_vec(alloc)?);
+    folder.add(alloc, "terms", terms, 7, Vec::new(alloc))?;
+    let feed = Bytes::from_vec(feed.as_bytes().to_vec(alloc)?);
+    folder.add(alloc, "feed", feed, 65_536, one(alloc, trouble.feed)?)?;
+    let mut out = MemSink::new(alloc, 4096, trouble.sink_most, one(alloc, trouble.put)?)?;
+    let words = strings(alloc, words)?;
+    let status = margin_house(alloc, words.as_slice(), &mut folder, &mut out);
+    Ok(Outcome {
+        status,
+        text: out.bytes().to_vec(alloc)?,
+    })
+}
+
+/// One trade of one euro row, in the first four lines of a feed.
+const BLOCK: &str = "CRIF\tALPHA\nTradeID,ProductClass,RiskType,Qualifier,Bucket,Label1,Label2,Amount,AmountCurrency,AmountUSD\n\
+T1,RatesFX,Risk_FX,EUR,,,,1000,USD,1000\nEND\n";
+
+const SUBMITTED: &str =
+    "1\t0\tSUBMIT\t1\t1\t=\tOK\nTRADE\tT1\t1\nROW\tRatesFX\tRisk_FX\tEUR\t\t\t\t\t1000.00\n";
+
+const MARGIN: &str = "\tMARGIN\t7400.00\nPRODUCT\tRatesFX\t7400.00\nCLASS\tRatesFX\tFX\t7400.00\n";
+
+/// The rest of a feed behind the block, the status, how many entries the first set has, their text behind the submit's,
+/// and what is printed behind both sets.
+const FEEDS: [(&str, Status, &str, &str, &str); 5] = [
+    // A withdrawal that names an unknown trade takes none out.
+    (
+        "WITHDRAW\tALPHA\tT1\tT9\nASK\tALPHA\n",
+        Status::Done,
+        "3",
+        "2\t0\tWITHDRAW\t2\tT1\tT9\t=\tREFUSED\t1\t2\n3\t0\tASK\t=\tMARGIN\t7400.00\nPRODUCT\tRatesFX\t7400.00\nCLASS\tRatesFX\tFX\t7400.00\n",
+        "FEED\t0\t3\t0\tEND\n",
+    ),
+    // A name that stands twice counts once.
+    (
+        "# a comment\n\nWITHDRAW\tALPHA\tT1\tT1\r\nASK\tALPHA",
+        Status::Done,
+        "3",
+        "2\t0\tWITHDRAW\t2\tT1\tT1\t=\tOK\n3\t0\tASK\t=\tMARGIN\t0.00\n",
+        "FEED\t0\t3\t0\tEND\n",
+    ),
+    // The input ends in a block: what stood before is done.
+    (
+        "ASK\tALPHA\nCRIF\tALPHA\nT1,RatesFX\n",
+        Status::Feed,
+        "2",
+        "2\t0\tASK\t=\tMARGIN\t7400.00\nPRODUCT\tRatesFX\t7400.00\nCLASS\tRatesFX\tFX\t7400.00\n",
+        "FEED\t0\t2\t0\tCUT\t6\n",
+    ),
+    // No message, no such set, no batch: the feed goes on.
+    (
+        "HELLO\nASK\tNOSET\nCRIF\tALPHA\nT1,RatesFX\nEND\nASK\tALPHA\n",
+        Status::Done,
+        "2",
+        "2\t0\tASK\t=\tMARGIN\t7400.00\nPRODUCT\tRatesFX\t7400.00\nCLASS\tRatesFX\tFX\t7400.00\n",
+        "REFUSED\t0\t5\t1\nREFUSED\t0\t6\t2\nREFUSED\t0\t7\t3\nFEED\t0\t2\t3\tEND\n",
+    ),
+    (
+        "",
+        Status::Done,
+        "1",
+        "",
+        "FEED\t0\t1\t0\tEND\n",
+    ),
+];
+
+#[test]
+fn feeds(rt: HostRuntime) -> Result<(), Fail> {
+    let alloc = rt.alloc();
+    for (rest, status, count, entries, end) in FEEDS {
+        let feed = format!(in alloc; "{BLOCK}{rest}")?;
+        let outcome = run(alloc, &RUN, TERMS, feed.as_str(), NONE)?;
+        let text = format!(in alloc;
+            "SET\tALPHA\t{count}\n{SUBMITTED}{entries}SET\tBETA\t0\n{end}"
+        )?;
+        assert_eq!(rt; outcome.status, status, "at {rest}");
+        assert_eq!(rt; outcome.text.as_slice(), text.as_bytes(), "at {rest}");
+    }
+    Ok(())
+}
+
+/// Words, terms, and the line and status of a run that doesn't reach its feed.
+const FAULTS: [(&[&str], &str, Status, &str); 6] = [
+    (&["run", "params", "terms"], TERMS, Status::Words, "FAULT\tWORDS\n"),
+    (
+        &["run", "params", "terms", "-feed"],
+        TERMS,
+        Status::Words,
+        "FAULT\tWORDS\n",
+    ),
+    (
+        &["run", "params", "absent", "feed"],
+        TERMS,
+        Status::Find,
+        "FAULT\tFIND\tabsent\n",
+    ),
+    (
+        &["run", "params", "terms", "absent"],
+        TERMS,
+        Status::Find,
+        "FAULT\tFIND\tabsent\n",
+    ),
+    (
+        &["run", "params", "terms", "feed"],
+        "[[set]]\nname = \"ALPHA\"\n",
+        Status::Terms,
+        "FAULT\tTERMS\t2\tset.1.threshold\n",
+    ),
+    (
+        &["run", "params", "terms", "feed"],
+        "set = []\n",
+        Status::Terms,
+        "FAULT\tTERMS\t2\tset\n",
+    ),
+];
+
+#[test]
+fn faults_before_the_feed(rt: HostRuntime) -> Result<(), Fail> {
+    let alloc = rt.alloc();
+    for (words, terms, status, text) in FAULTS {
+        let outcome = run(alloc, words, terms, BLOCK, NONE)?;
+        assert_eq!(rt; outcome.status, status, "at {text}");
+        assert_eq!(rt; outcome.text.as_slice(), text.as_bytes(), "at {text}");
+    }
+    Ok(())
+}
+
+// A feed that fails behind its bytes has its whole messages done.
+#[test]
+fn a_feed_that_fails(rt: HostRuntime) -> Result<(), Fail> {
+    let alloc = rt.alloc();
+    let feed = format!(in alloc; "{BLOCK}ASK\tALPHA\nCRIF\tALPHA\nT1,RatesFX\n")?;
+    let trouble = Trouble { feed: 2, ..NONE };
+    let outcome = run(alloc, &RUN, TERMS, feed.as_str(), trouble)?;
+    let text = format!(in alloc;
+        "SET\tALPHA\t2\n{SUBMITTED}2\t0\tASK\t={MARGIN}SET\tBETA\t0\nFEED\t0\t2\t0\tREAD\n"
+    )?;
+    assert_eq!(rt; outcome.status, Status::Read);
+    assert_eq!(rt; outcome.text.as_slice(), text.as_bytes());
+    Ok(())
+}
+
+// A sink that takes a byte at a time and fails at each of its calls in turn holds the bytes before that call.
+#[test]
+fn cut_journals(rt: HostRuntime) -> Result<(), Fail> {
+    let alloc = rt.alloc();
+    let whole = format!(in alloc;
+        "SET\tALPHA\t1\n{SUBMITTED}SET\tBETA\t0\nFEED\t0\t1\t0\tEND\n"
+    )?;
+    for (put, _) in whole.bytes().enumerate() {
+        let trouble = Trouble {
+            sink_most: 1,
+            put: put as u64 + 1,
+            ..NONE
+        };
+        let outcome = run(alloc, &RUN, TERMS, BLOCK, trouble)?;
+        assert_eq!(rt; outcome.status, Status::Write, "at {put}");
+        assert_eq!(rt; outcome.text.as_slice(), &whole.as_bytes()[..put], "at {put}");
+    }
+    Ok(())
+}
