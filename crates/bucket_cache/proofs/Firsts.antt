@@ -32,7 +32,7 @@ new_after t us [] h new = tt
 new_after t us (s ∷ ts) h new =
     let parts = or_parts (same_name t.trade s.trade) (list_any (same_name t.trade) (names_of ts)) h in (
       ap (list_any (same_name s.trade)) (map-append (λ (x : TradeRows). x.trade) us (t ∷ [])) ∙ list_any-append (same_name s.trade) (names_of us) (t.trade ∷ [])
-      ∙ or_from (list_any (same_name s.trade) (names_of us)) (same_name s.trade t.trade || false) new.0 (or_from (same_name s.trade t.trade) false (flip t.trade s.trade parts.0) refl),
+          ∙ or_from (list_any (same_name s.trade) (names_of us)) (same_name s.trade t.trade || false) new.0 (or_from (same_name s.trade t.trade) false (flip t.trade s.trade parts.0) refl),
       new_after t us ts parts.1 new.1,
     )
 

@@ -1,5 +1,5 @@
 -- One message as a call on the one set of its name.
-use Rattle.std.proofs.Common.{◌≡◌, ℕ, zero, suc, ◌+◌, ◌<◌, ◌≤◌, arith, List, [], ◌∷◌, Bool, true, false, cond, map, length, get_or, set, slice_get, Option, Some, None, position, refl, sym, ap, ◌∙◌, subst, nat_lt}
+use Rattle.std.proofs.Common.{◌≡◌, ℕ, zero, suc, ◌<◌, ◌≤◌, arith, List, [], ◌∷◌, Bool, true, false, cond, map, length, get_or, set, Some, None, position, refl, sym, ap, ◌∙◌, nat_lt}
 use Rattle.std.specs.List.{AllByRecursion, IsDistinct, position_or_len, filter_map}
 use Rattle.std.specs.Option.{is_some}
 use Rattle.std.proofs.lemmas.Bool.{true≢false, false≢true, ltb-false}
@@ -8,12 +8,12 @@ use Rattle.std.proofs.lemmas.List.Quantifiers.{position-Some}
 use Rattle.std.proofs.lemmas.List.Sums.{fails_before_first}
 use Rattle.simm_kinds.specs.Order.{same_name}
 use Rattle.feed_reader.specs.declared.message.Fed.{Fed}
-use Rattle.feed_reader.specs.Feed.{Item, Sent}
+use Rattle.feed_reader.specs.Feed.{Sent}
 use Rattle.set_core.specs.declared.event.Event.{Event}
 use Rattle.set_core.specs.Set.{Set}
 use Rattle.set_core.proofs.Names.{one_name, same_name_sym}
 use Rattle.feed_gate.specs.declared.report.RefusedMessage.TheVariants as refused
-use Rattle.feed_gate.specs.Calls.{set_of, event_of, call_on, called, after_calls, after_feed}
+use Rattle.feed_gate.specs.Calls.{set_of, event_of, called, after_calls, after_feed}
 use Rattle.feed_gate.specs.Refused.{place_of, refusal, unless_no_batch, unless_unknown, set_at}
 
 abbrev pub has_name : List ℕ → Set → Bool

@@ -3,12 +3,9 @@ use Rattle.std.proofs.Common.{◌≡◌, ℕ, ◌+◌, ◌≤◌, ◌<◌, arith
 use Rattle.std.specs.List.{AllByRecursion, count_by, filter_map}
 use Rattle.std.specs.Option.{is_none}
 use Rattle.std.proofs.lemmas.Bool.{false≢true}
-use Rattle.std.specs.Io.KnownBytes.{IsAtEnd}
-use Rattle.mh_io.specs.Faults.{Rises}
 use Rattle.mh_io.specs.Lined.{Lined, CanCome, Took, is_ended}
 use Rattle.mh_io.specs.declared.lines_answer.Supply.{Supply}
 use Rattle.mh_io.specs.declared.lines_answer.Supply.TheVariants as supply
-use Rattle.mh_io.specs.declared.reading.TheConstants.{MOST_BYTES}
 use Rattle.mh_io.proofs.TakesLemmas.{nothing_taken}
 use Rattle.mh_io.proofs.LinesTaken.{took_nothing, then_took}
 use Rattle.feed_reader.specs.Feed as message
@@ -21,7 +18,7 @@ use Rattle.feed_gate.specs.declared.report.FeedEnd.TheVariants as end_at
 use Rattle.feed_gate.specs.declared.report.FeedReport.{FeedReport}
 use Rattle.feed_gate.specs.Calls.{after_feed}
 use Rattle.feed_gate.specs.Refused.{refusal}
-use Rattle.feed_gate.specs.Run.{no_report, with_answer, Meets, EndsAt, TakesItem, TakesNone, Takes, RanTo, RanLines, IsEnd, RanOver, RanSource}
+use Rattle.feed_gate.specs.Run.{no_report, with_answer, Meets, EndsAt, TakesItem, Takes, RanTo, RanLines, IsEnd, RanSource}
 use Rattle.feed_gate.proofs.Runs.{sets_after, nothing_after, refused-push, done-push, answer_done, answer_refused}
 
 -- nothing more comes
@@ -88,10 +85,10 @@ module _ {S : Type 0} (faults : S → ℕ) (name gave left : S → Option (List 
     taken = first.taken ++ second.taken;
     took = then_took faults name gave left first.took second.took;
     feed = λ later ended can.
-      ap (λ bytes. feed_with a bytes ended) (append_assoc first.taken second.taken later)
-      ∙ first.feed (second.taken ++ later) ended (second.took.came later ended can)
-      ∙ ap (with_items xs) (second.feed later ended can)
-      ∙ ap (λ items. record { items = items; stop = (feed_with c later ended).stop }) (sym (append_assoc xs ys (feed_with c later ended).items));
+        ap (λ bytes. feed_with a bytes ended) (append_assoc first.taken second.taken later)
+        ∙ first.feed (second.taken ++ later) ended (second.took.came later ended can)
+        ∙ ap (with_items xs) (second.feed later ended can)
+        ∙ ap (λ items. record { items = items; stop = (feed_with c later ended).stop }) (sym (append_assoc xs ys (feed_with c later ended).items));
   }
 
   pub ran_none : (held : Lined S) (sets : List Set) → RanTo faults name gave left held held sets sets no_report []
@@ -99,13 +96,13 @@ module _ {S : Type 0} (faults : S → ℕ) (name gave left : S → Option (List 
 
   pub ran_more : {a b c : Lined S} {s0 s1 s2 : List Set} {r1 r2 : FeedReport} {items : List Item} → RanTo faults name gave left a b s0 s1 r1 items → (t : TakesItem faults name gave left b c s1 s2 r1 r2) → RanTo faults name gave left a c s0 s2 r2 (items ++ t.item ∷ [])
   ran_more {a} {b} {c} {s0} {s1} {s2} {r1} {r2} {items} ran t =
-    let answer : refusal s1 t.item ≡ refusal (map (after_feed items) s0) t.item = ap (λ s. refusal s t.item) ran.sets in
-    record {
-      told = tells_then ran.told t.told;
-      sets = t.sets ∙ ap (map (after_feed (t.item ∷ []))) ran.sets ∙ sets_after items (t.item ∷ []) s0;
-      done = ap (λ r. r.done) t.report ∙ ap (λ x. (with_answer r1 x).done) answer ∙ answer_done r1 (refusal (map (after_feed items) s0) t.item) ∙ ap (λ n. n + count_by is_none (refusal (map (after_feed items) s0) t.item ∷ [])) ran.done ∙ sym (done-push s0 items t.item);
-      refused = ap (λ r. r.refused) t.report ∙ ap (λ x. (with_answer r1 x).refused) answer ∙ answer_refused r1 (refusal (map (after_feed items) s0) t.item) ∙ ap (λ rs. rs ++ filter_map (λ x. x) (refusal (map (after_feed items) s0) t.item ∷ [])) ran.refused ∙ sym (refused-push s0 items t.item);
-    }
+      let answer : refusal s1 t.item ≡ refusal (map (after_feed items) s0) t.item = ap (λ s. refusal s t.item) ran.sets in
+      record {
+        told = tells_then ran.told t.told;
+        sets = t.sets ∙ ap (map (after_feed (t.item ∷ []))) ran.sets ∙ sets_after items (t.item ∷ []) s0;
+        done = ap (λ r. r.done) t.report ∙ ap (λ x. (with_answer r1 x).done) answer ∙ answer_done r1 (refusal (map (after_feed items) s0) t.item) ∙ ap (λ n. n + count_by is_none (refusal (map (after_feed items) s0) t.item ∷ [])) ran.done ∙ sym (done-push s0 items t.item);
+        refused = ap (λ r. r.refused) t.report ∙ ap (λ x. (with_answer r1 x).refused) answer ∙ answer_refused r1 (refusal (map (after_feed items) s0) t.item) ∙ ap (λ rs. rs ++ filter_map (λ x. x) (refusal (map (after_feed items) s0) t.item ∷ [])) ran.refused ∙ sym (refused-push s0 items t.item);
+      }
 
   -- ---- the whole
 
@@ -115,18 +112,19 @@ module _ {S : Type 0} (faults : S → ℕ) (name gave left : S → Option (List 
 
   stopped_at : {s : S} {held new : Lined S} {items : List Item} (stop : FeedStop) → (told : TellsItems faults name gave left (fresh s) held items) → (last : TellsStop faults name gave left held new stop) → feed (told.taken ++ last.taken) (is_ended new.supply) ≡ record { items = items; stop = stop }
   stopped_at {s} {held} {new} {items} stop told last =
-    let more : CanCome held.supply (last.taken ++ []) (is_ended new.supply) = last.took.came [] (is_ended new.supply) (nothing_more new.supply) in
-    told.feed last.taken (is_ended new.supply) (subst (λ bytes. CanCome held.supply bytes (is_ended new.supply)) (append-nil last.taken) more)
-    ∙ ap (with_items items) last.feed
-    ∙ ap (λ xs. record { items = xs; stop = stop }) (append-nil items)
+      let more : CanCome held.supply (last.taken ++ []) (is_ended new.supply) = last.took.came [] (is_ended new.supply) (nothing_more new.supply) in
+      told.feed last.taken (is_ended new.supply) (subst (λ bytes. CanCome held.supply bytes (is_ended new.supply)) (append-nil last.taken) more)
+      ∙ ap (with_items items) last.feed
+      ∙ ap (λ xs. record { items = xs; stop = stop }) (append-nil items)
 
   starved : {s : S} {held new : Lined S} {items : List Item} (line : ℕ) → (told : TellsItems faults name gave left (fresh s) held items) → (last : TellsNone faults name gave left held new line) → IsEnd (end_at.Memory line) items (feed (told.taken ++ last.taken) (is_ended new.supply))
   starved {s} {held} {new} {items} line told last =
-    let can : CanCome new.supply [] (is_ended new.supply) = nothing_more new.supply in
-    let more : CanCome held.supply (last.taken ++ []) (is_ended new.supply) = last.took.came [] (is_ended new.supply) can in
-    ((feed_with held (last.taken ++ []) (is_ended new.supply)).items,
-     ap (λ bytes. (feed (told.taken ++ bytes) (is_ended new.supply)).items) (sym (append-nil last.taken)) ∙ ap (λ run. run.items) (told.feed (last.taken ++ []) (is_ended new.supply) more),
-     last.feed [] (is_ended new.supply) can)
+      let can : CanCome new.supply [] (is_ended new.supply) = nothing_more new.supply in
+      let more : CanCome held.supply (last.taken ++ []) (is_ended new.supply) = last.took.came [] (is_ended new.supply) can in (
+        (feed_with held (last.taken ++ []) (is_ended new.supply)).items,
+        ap (λ bytes. (feed (told.taken ++ bytes) (is_ended new.supply)).items) (sym (append-nil last.taken)) ∙ ap (λ run. run.items) (told.feed (last.taken ++ []) (is_ended new.supply) more),
+        last.feed [] (is_ended new.supply) can,
+      )
 
   -- what the end says of the lines, and of the bytes that were taken
   pub record Ended (s : S) (new : Lined S) (items : List Item) (why : FeedEnd) : Type 0 where
@@ -156,18 +154,18 @@ module _ {S : Type 0} (faults : S → ℕ) (name gave left : S → Option (List 
   -- the items and the end of a feed that was run from its first byte
   pub over : (s : S) (new : Lined S) (s0 s1 : List Set) (r : FeedReport) → RanLines faults name gave left (fresh s) new s0 s1 r → RanSource faults name gave left s new.source s0 s1 r
   over s new s0 s1 r ran =
-    let its : Ended s new ran.items r.end = ended r.end ran.ran.told ran.ends in
-    record {
-      taken = its.bytes;
-      ended = is_ended new.supply;
-      takes = its.took.takes;
-      count = its.took.count;
-      named = its.took.named;
-      ran = record { items = ran.items; stop = its.stop; sets = ran.ran.sets; done = ran.ran.done; refused = ran.ran.refused };
-      at_end = λ e. its.took.at_end refl (ended_supply new.supply e);
-      whole = λ e. ap is_ended (its.whole e);
-      failed = λ e. its.took.failed refl (its.failed e);
-    }
+      let its : Ended s new ran.items r.end = ended r.end ran.ran.told ran.ends in
+      record {
+        taken = its.bytes;
+        ended = is_ended new.supply;
+        takes = its.took.takes;
+        count = its.took.count;
+        named = its.took.named;
+        ran = record { items = ran.items; stop = its.stop; sets = ran.ran.sets; done = ran.ran.done; refused = ran.ran.refused };
+        at_end = λ e. its.took.at_end refl (ended_supply new.supply e);
+        whole = λ e. ap is_ended (its.whole e);
+        failed = λ e. its.took.failed refl (its.failed e);
+      }
 
   -- a feed for which there was no memory from the start
   pub never : (s : S) (sets : List Set) → RanSource faults name gave left s s sets sets (record no_report { end = end_at.Memory 1 })

@@ -1,13 +1,12 @@
 -- Messages one after another: what one makes of the sets and the report, and what all of them do.
-use Rattle.std.proofs.Common.{◌≡◌, ℕ, ◌+◌, ◌≤◌, ◌<◌, arith, List, [], ◌∷◌, ◌++◌, Bool, true, false, cond, map, Option, Some, None, refl, sym, ap, ◌∙◌, subst, append_assoc, append-nil, sum_by}
+use Rattle.std.proofs.Common.{◌≡◌, ℕ, ◌+◌, ◌≤◌, arith, List, [], ◌∷◌, ◌++◌, Bool, true, false, cond, map, Option, Some, None, refl, sym, ap, ◌∙◌, subst, append_assoc, append-nil}
 use Rattle.std.specs.List.{AllByRecursion, IsDistinct, filter_map, count_by}
 use Rattle.std.specs.Option.{is_none}
 use Rattle.std.proofs.lemmas.List.{length-map}
 use Rattle.std.proofs.lemmas.List.Elements.{filter_map-append}
 use Rattle.std.proofs.lemmas.List.Sums.{sum_by-append}
-use Rattle.std.proofs.lemmas.Bool.{true≢false, false≢true}
 use Rattle.simm_kinds.specs.Order.{same_name}
-use Rattle.feed_reader.specs.Feed.{Item, Sent, BadAt}
+use Rattle.feed_reader.specs.Feed.{Item, BadAt}
 use Rattle.set_core.specs.declared.event.Event.{Event}
 use Rattle.set_core.specs.Room.{is_full}
 use Rattle.set_core.specs.Answer.{answer}
@@ -66,8 +65,8 @@ refusals-push : (sets : List Set) (before items : List Item) (item : Item) → r
 refusals-push sets before [] item = ap (λ b. refusal (map (after_feed b) sets) item ∷ []) (sym (append-nil before))
 refusals-push sets before (x ∷ items) item =
     ap (λ rs. refusal (map (after_feed before) sets) x ∷ rs)
-        (refusals-push sets (before ++ x ∷ []) items item
-        ∙ ap (λ b. refusals_from sets (before ++ x ∷ []) items ++ refusal (map (after_feed b) sets) item ∷ []) (append_assoc before (x ∷ []) items))
+    (refusals-push sets (before ++ x ∷ []) items item
+    ∙ ap (λ b. refusals_from sets (before ++ x ∷ []) items ++ refusal (map (after_feed b) sets) item ∷ []) (append_assoc before (x ∷ []) items))
 
 pub refused-push : (sets : List Set) (items : List Item) (item : Item) → refused_of sets (items ++ item ∷ []) ≡ refused_of sets items ++ filter_map (λ r. r) (refusal (map (after_feed items) sets) item ∷ [])
 refused-push sets items item =

@@ -1,17 +1,13 @@
 -- The calls of a feed on a set, and the journal that they make.
-use Rattle.std.specs.Prelude.{ℕ, List, [], ◌∷◌, ◌++◌, Option, Some, None, option_map, if◌then◌else◌}
+use Rattle.std.specs.Prelude.{ℕ, List, [], ◌∷◌, Option, Some, None, option_map, if◌then◌else◌}
 use Rattle.std.specs.List.{filter_map}
 use Rattle.simm_kinds.specs.Order.{same_name}
-use Rattle.simm_rules.specs.Params.{Params}
 use Rattle.crif_reader.specs.Grammar.{crif_of}
 use Rattle.feed_reader.specs.declared.message.Message.{Message}
 use Rattle.feed_reader.specs.declared.message.Message.TheVariants as message
 use Rattle.feed_reader.specs.Feed.{Item, Sent, BadAt}
-use Rattle.held_cell.specs.declared.entry.Entry.{Entry}
-use Rattle.held_cell.specs.Entries.{entry}
 use Rattle.set_core.specs.declared.event.Event.{Event}
 use Rattle.set_core.specs.declared.event.Event.TheVariants as event
-use Rattle.set_core.specs.declared.reply.Reply.{Reply}
 use Rattle.set_core.specs.Answer.{answer}
 use Rattle.set_core.specs.Room.{is_full}
 use Rattle.set_core.specs.Set.{Set, with_entry}

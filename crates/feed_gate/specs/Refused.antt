@@ -1,5 +1,5 @@
 -- The messages of a feed that make no call, each with its cause.
-use Rattle.std.specs.Prelude.{ℕ, List, [], ◌∷◌, ◌++◌, length, Option, Some, None, Bool, is_none, position, map, slice_get, if◌then◌else◌}
+use Rattle.std.specs.Prelude.{ℕ, List, [], ◌∷◌, ◌++◌, length, Option, Some, None, is_none, position, map, slice_get, if◌then◌else◌}
 use Rattle.std.specs.List.{filter_map, count_by}
 use Rattle.simm_kinds.specs.Order.{same_name}
 use Rattle.feed_reader.specs.declared.message.Fed.{Fed}

@@ -50,8 +50,7 @@ fn set_of(message: &Message) -> &Name
 fn find_set(sets: &[SetState], name: &Name) -> Option<usize>
     ensures { result ≡ place_of name.now sets.now }
 {
-    sets
-        .iter()
+    sets.iter()
         .position(|set| name.cmp(set.terms().name()).is_eq())
 }
 

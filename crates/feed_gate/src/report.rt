@@ -9,11 +9,17 @@ use std::alloc::Global;
 #[derive(Clone, Copy, Debug, PartialEq, Eq)]
 pub enum RefusedMessage {
     /// It is no message.
-    BadLine { line: u32 },
+    BadLine {
+        line: u32,
+    },
     /// It names a set that isn't in the terms.
-    UnknownSet { line: u32 },
+    UnknownSet {
+        line: u32,
+    },
     /// Its block of CRIF records is no batch.
-    BadBatch { line: u32 },
+    BadBatch {
+        line: u32,
+    },
     /// The journal of its set, the `set`-th from 0, was full, with so many entries and rows.
     Full {
         line: u32,

@@ -18,11 +18,7 @@ use std::alloc::Global;
 ///
 /// A feed that ends early has its whole messages done. For want of memory it ends in the message for which there was
 /// none, which then makes no call.
-pub fn run_feed<S: Source>(
-    alloc: Global,
-    source: S,
-    sets: &mut [SetState],
-) -> (S, FeedReport)
+pub fn run_feed<S: Source>(alloc: Global, source: S, sets: &mut [SetState]) -> (S, FeedReport)
     requires { AreApart sets.old }
     ensures { RanSource S.faults S.name S.gave S.left source result.0 sets.old sets.new result.1 }
 {
@@ -39,11 +35,7 @@ pub fn run_feed<S: Source>(
     }
 }
 
-fn run_lines<S: Source>(
-    alloc: Global,
-    lines: &mut Lines<S>,
-    sets: &mut [SetState],
-) -> FeedReport
+fn run_lines<S: Source>(alloc: Global, lines: &mut Lines<S>, sets: &mut [SetState]) -> FeedReport
     requires { AreApart sets.old }
     ensures { RanLines S.faults S.name S.gave S.left lines.old lines.new sets.old sets.new result }
 {

@@ -69,7 +69,8 @@ fn run(
 }
 
 /// One trade of one euro row, in the first four lines of a feed.
-const BLOCK: &str = "CRIF\tALPHA\nTradeID,ProductClass,RiskType,Qualifier,Bucket,Label1,Label2,Amount,AmountCurrency,AmountUSD\n\
+const BLOCK: &str =
+    "CRIF\tALPHA\nTradeID,ProductClass,RiskType,Qualifier,Bucket,Label1,Label2,Amount,AmountCurrency,AmountUSD\n\
 T1,RatesFX,Risk_FX,EUR,,,,1000,USD,1000\nEND\n";
 
 const SUBMITTED: &str =
@@ -112,13 +113,7 @@ const FEEDS: [(&str, Status, &str, &str, &str); 5] = [
         "2\t0\tASK\t=\tMARGIN\t7400.00\nPRODUCT\tRatesFX\t7400.00\nCLASS\tRatesFX\tFX\t7400.00\n",
         "REFUSED\t0\t5\t1\nREFUSED\t0\t6\t2\nREFUSED\t0\t7\t3\nFEED\t0\t2\t3\tEND\n",
     ),
-    (
-        "",
-        Status::Done,
-        "1",
-        "",
-        "FEED\t0\t1\t0\tEND\n",
-    ),
+    ("", Status::Done, "1", "", "FEED\t0\t1\t0\tEND\n"),
 ];
 
 #[test]
@@ -138,7 +133,12 @@ fn feeds(rt: HostRuntime) -> Result<(), Fail> {
 
 /// Words, terms, and the line and status of a run that doesn't reach its feed.
 const FAULTS: [(&[&str], &str, Status, &str); 6] = [
-    (&["run", "params", "terms"], TERMS, Status::Words, "FAULT\tWORDS\n"),
+    (
+        &["run", "params", "terms"],
+        TERMS,
+        Status::Words,
+        "FAULT\tWORDS\n",
+    ),
     (
         &["run", "params", "terms", "-feed"],
         TERMS,
@@ -201,9 +201,7 @@ fn a_feed_that_fails(rt: HostRuntime) -> Result<(), Fail> {
 #[test]
 fn cut_journals(rt: HostRuntime) -> Result<(), Fail> {
     let alloc = rt.alloc();
-    let whole = format!(in alloc;
-        "SET\tALPHA\t1\n{SUBMITTED}SET\tBETA\t0\nFEED\t0\t1\t0\tEND\n"
-    )?;
+    let whole = format!(in alloc; "SET\tALPHA\t1\n{SUBMITTED}SET\tBETA\t0\nFEED\t0\t1\t0\tEND\n")?;
     for (put, _) in whole.bytes().enumerate() {
         let trouble = Trouble {
             sink_most: 1,
@@ -212,7 +210,11 @@ fn cut_journals(rt: HostRuntime) -> Result<(), Fail> {
         };
         let outcome = run(alloc, &RUN, TERMS, BLOCK, trouble)?;
         assert_eq!(rt; outcome.status, Status::Write, "at {put}");
-        assert_eq!(rt; outcome.text.as_slice(), &whole.as_bytes()[..put], "at {put}");
+        assert_eq!(rt;
+            outcome.text.as_slice(),
+            &whole.as_bytes()[..put],
+            "at {put}"
+        );
     }
     Ok(())
 }

@@ -1,5 +1,5 @@
 -- The stages of a run, one after the other.
-use Rattle.std.proofs.Common.{◌≡◌, ℕ, ◌+◌, ◌<◌, ◌≤◌, arith, List, [], ◌∷◌, ◌++◌, map, length, take, drop, zero, suc, append-nil, Bool, true, false, cond, nat_le, nat_lt, Result, Ok, Err, Option, Some, None, refl, sym, ap, ◌∙◌, subst, inl, inr, ⊎_elim}
+use Rattle.std.proofs.Common.{◌≡◌, ℕ, ◌+◌, ◌<◌, ◌≤◌, arith, List, [], ◌∷◌, ◌++◌, map, length, take, drop, zero, suc, append-nil, Bool, true, false, cond, nat_le, nat_lt, Ok, Err, Some, refl, sym, ap, ◌∙◌, subst, inl, ⊎_elim}
 use Rattle.std.specs.List.{AllByRecursion, IsDistinct}
 use Rattle.std.proofs.lemmas.Bool.{or_parts, leb-false, ltb-false, cases_lt}
 use Rattle.std.proofs.lemmas.List.{length-map, length-append, length-take-le, drop_all, take_all}
@@ -28,10 +28,8 @@ use Rattle.feed_gate.proofs.Runs.{after_terms}
 use Rattle.margin_top.specs.declared.fault.FileFault.{FileFault}
 use Rattle.margin_top.specs.declared.run_fault.RunFault.{RunFault}
 use Rattle.margin_top.specs.declared.run_fault.RunFault.TheVariants as fault
-use Rattle.margin_top.specs.declared.status.Status.{Status}
 use Rattle.margin_top.specs.Files.{FolderSeen, no_deeds, with_reading, IsRead, Failed}
-use Rattle.margin_top.specs.Lines.{terms_fault}
-use Rattle.margin_top.specs.Run.{start, HasInputs, IsFed, HasRun, TermsFail, TermsRefuse, FindEnds, FeedFails, RunStarves, RunCause}
+use Rattle.margin_top.specs.Run.{start, HasInputs, IsFed, HasRun, TermsFail, FindEnds, FeedFails, RunStarves, RunCause}
 use Rattle.margin_top.specs.RunStages.{IsRefusedFault}
 use Rattle.margin_top.proofs.FileLemmas.{did_ask, did_nothing, did_more}
 use Rattle.margin_top.proofs.CalcLemmas.{whole_before, failed_after}
@@ -174,9 +172,10 @@ written new old n same e =
 -- the feed was run on the sets of the terms
 pub has_run : (old mid new : FolderSeen) (pn tn fn : List ℕ) (p : Params) (agreements : List Agreement) (started sets : List Set) (r : FeedReport) → HasInputs pn tn old mid p agreements → started ≡ map (start p) agreements → IsFed fn mid new started sets r → HasRun pn tn fn old new sets r × (agreements ≡ map (λ s. s.terms) sets)
 has_run old mid new pn tn fn p agreements started sets r inputs begun fed =
-    let its : IsFed fn mid new (map (start p) agreements) sets r = subst (λ ss. IsFed fn mid new ss sets r) begun fed in
-    (record { p = p; agreements = agreements; mid = mid; inputs = inputs; fed = its; legal = subst (AllByRecursion (λ s. IsSet s.params s.journal)) (sym its.ran.sets) (legal_sets p its.ran.items agreements) },
-     terms_stay p its.ran.items agreements ∙ ap (map (λ s. s.terms)) (sym its.ran.sets))
+    let its : IsFed fn mid new (map (start p) agreements) sets r = subst (λ ss. IsFed fn mid new ss sets r) begun fed in (
+      record { p = p; agreements = agreements; mid = mid; inputs = inputs; fed = its; legal = subst (AllByRecursion (λ s. IsSet s.params s.journal)) (sym its.ran.sets) (legal_sets p its.ran.items agreements) },
+      terms_stay p its.ran.items agreements ∙ ap (map (λ s. s.terms)) (sym its.ran.sets),
+    )
 
 pub feed_failed : (old mid new : FolderSeen) (pn tn fn : List ℕ) (p : Params) (agreements : List Agreement) (why : FindRefused) → HasInputs pn tn old mid p agreements → FindEnds mid new fn why → FeedFails pn tn fn old new why
 feed_failed old mid new pn tn fn p agreements why inputs h = record { p = p; agreements = agreements; mid = mid; inputs = inputs; missing = h }

@@ -1,5 +1,5 @@
 -- What a run of a feed does: for each status what happened, and what was printed.
-use Rattle.std.specs.Prelude.{ℕ, ◌≡◌, ◌<◌, ◌≤◌, List, [], ◌∷◌, ◌++◌, length, take, map, Bool, true, Option, Some, None, IfSome, Result, Ok, Err, ◌⊎◌}
+use Rattle.std.specs.Prelude.{ℕ, ◌≡◌, ◌<◌, List, [], ◌∷◌, ◌++◌, take, map, Bool, true, Some, None, IfSome, Ok, Err, ◌⊎◌}
 use Rattle.std.specs.List.{AllByRecursion, flat_map}
 use Rattle.mh_io.specs.Faults.{Rises}
 use Rattle.mh_io.specs.Folder.{file_of}
@@ -8,7 +8,6 @@ use Rattle.mh_io.specs.declared.folder.FindRefused.TheVariants as find
 use Rattle.simm_rules.specs.Params.{Params}
 use Rattle.simm_params.specs.Grammar.{params_of}
 use Rattle.csa_terms.specs.declared.fault.TermsFault.{TermsFault}
-use Rattle.csa_terms.specs.Faults.{terms_fault_number}
 use Rattle.csa_terms.specs.Grammar.{terms_of}
 use Rattle.csa_terms.specs.Terms.{Agreement}
 use Rattle.set_core.specs.Set.{Set, IsSet}

@@ -8,8 +8,8 @@ ghost use Rattle.margin_top.specs.Words.{Calc, form_of};
 
 use crate::calculation::calc;
 use crate::printing::print_line;
-use crate::status::Status;
 use crate::running::run;
+use crate::status::Status;
 use crate::words::{Command, command_of};
 use mh_io::{Folder, Sink};
 use std::alloc::Global;

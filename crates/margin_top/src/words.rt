@@ -56,8 +56,7 @@ pub(crate) fn command_of(words: &[String]) -> Option<Command<'_>>
             if command.as_str() == "run"
                 && is_name(params.as_str())
                 && is_name(terms.as_str())
-                && is_name(feed.as_str()) =>
-        {
+                && is_name(feed.as_str()) => {
             Some(Command::Run(RunFiles {
                 params: params.as_str(),
                 terms: terms.as_str(),

@@ -1,29 +1,24 @@
 -- What a set keeps is kept by one event more.
 use mathlib.Core.Path.{fun_ext}
-use Rattle.std.proofs.Common.{◌≡◌, ℕ, ◌+◌, ◌≤◌, ◌<◌, arith, List, [], ◌∷◌, ◌++◌, length, Bool, true, false, ◌||◌, not, cond, map, option_map, position, Option, Some, None, refl, sym, ap, ◌∙◌, subst, nat_le, nat_lt, sum_by}
+use Rattle.std.proofs.Common.{◌≡◌, ℕ, ◌+◌, ◌≤◌, ◌<◌, arith, [], ◌∷◌, ◌++◌, length, Bool, true, false, not, cond, option_map, position, Option, Some, None, refl, sym, ap, ◌∙◌, subst, nat_le, nat_lt}
 use Rattle.std.proofs.lemmas.Bool.{true≢false, or_parts, leb-false, ltb-false}
 use Rattle.std.proofs.lemmas.List.{length-append}
 use Rattle.std.proofs.lemmas.List.Sums.{sum_by-append}
-use Rattle.simm_kinds.specs.declared.row.TradeRows.{TradeRows}
 use Rattle.simm_kinds.specs.Batch.{rows_of}
-use Rattle.simm_rules.specs.declared.values.Breakdown.{Breakdown}
 use Rattle.simm_rules.specs.declared.values.RangeFault.{RangeFault}
 use Rattle.simm_rules.specs.Params.{Params}
-use Rattle.simm_rules.specs.Simm.{simm}
 use Rattle.simm_rules.specs.Range.{range}
-use Rattle.held_cell.specs.declared.entry.Entry.{Entry}
 use Rattle.held_cell.specs.Entries.{entry}
-use Rattle.bucket_cache.specs.Live.{Live, put_trades, without, first_unknown as unknown_in, is_current as has_trade}
+use Rattle.bucket_cache.specs.Live.{Live}
 use Rattle.set_core.specs.declared.event.Event.{Event}
 use Rattle.set_core.specs.declared.event.Event.TheVariants as event
 use Rattle.set_core.specs.declared.reply.Reply.{Reply}
 use Rattle.set_core.specs.declared.reply.Reply.TheVariants as reply
 use Rattle.set_core.specs.declared.refusal.Refusal.{Refusal}
-use Rattle.set_core.specs.Book.{Silent, word, is_current, is_accepted, trades_of_event, accepted_trades, starts, book, with_rows_after}
+use Rattle.set_core.specs.Book.{Silent, is_accepted, trades_of_event, accepted_trades, starts, book, with_rows_after}
 use Rattle.set_core.specs.Answer.{first_unknown, if_in_range, if_known, answer, IsLegal}
 use Rattle.set_core.specs.Events.{IsEvent}
 use Rattle.set_core.specs.Room.{event_rows, journal_rows, is_full}
-use Rattle.set_core.specs.Set.{IsSet}
 use Rattle.set_core.specs.Live.{live_reply, live_book, Does}
 use Rattle.set_core.specs.Kept.{AreDifferent, IsKept}
 use Rattle.set_core.proofs.Words.{Log}
@@ -86,6 +81,7 @@ accepted_different e r caller is = at (is_accepted r) (of_event e is)
     of_event (event.Submit batch) is = different_trades batch is
     of_event (event.Withdraw names) is = tt
     of_event event.AskMargin is = tt
+
     at : (s : Bool) → AreDifferent (trades_of_event e) → AreDifferent (cond s (trades_of_event e) [])
     at true d = d
     at false d = tt

@@ -1,11 +1,10 @@
 -- The book after one entry more.
 use Rattle.std.proofs.Common.{◌≡◌, ℕ, List, [], ◌∷◌, ◌++◌, Bool, true, false, ◌&&◌, ◌||◌, not, cond, map, refl, sym, ap, ◌∙◌, subst, append_assoc, append-nil}
-use Rattle.std.specs.List.{filter, list_any, AllByRecursion}
+use Rattle.std.specs.List.{filter, AllByRecursion}
 use Rattle.std.proofs.lemmas.Bool.{true≢false, false≢true, or_parts, or_from}
 use Rattle.std.proofs.lemmas.List.{map-append}
 use Rattle.std.proofs.lemmas.List.Folds.{list_any-append}
 use Rattle.simm_plain.proofs.Filters.{filter_agrees, filter_every, each_always, each_weaker, each_kept}
-use Rattle.simm_kinds.specs.declared.row.CrifRow.{CrifRow}
 use Rattle.simm_kinds.specs.declared.row.TradeRows.{TradeRows}
 use Rattle.simm_kinds.specs.Order.{same_name}
 use Rattle.held_cell.specs.declared.entry.Entry.{Entry}
@@ -15,11 +14,11 @@ use Rattle.set_core.specs.declared.event.Event.{Event}
 use Rattle.set_core.specs.declared.event.Event.TheVariants as event
 use Rattle.set_core.specs.declared.reply.Reply.{Reply}
 use Rattle.set_core.specs.declared.reply.Reply.TheVariants as reply
-use Rattle.set_core.specs.Book.{Word, Given, Taken, Silent, word_of_batch, word_of_event, is_named, is_accepted, word, then_said, last_word, is_given, is_taken, rows_given, is_current, with_rows_after, trades_of_event, accepted_trades, is_withdrawn, starts_at, starts, book}
+use Rattle.set_core.specs.Book.{Word, Given, Taken, Silent, word_of_batch, word_of_event, is_named, is_accepted, word, then_said, last_word, is_given, is_taken, rows_given, is_current, with_rows_after, trades_of_event, accepted_trades, starts_at, starts, book}
 use Rattle.set_core.specs.Kept.{AreDifferent}
 use Rattle.set_core.proofs.Names.{one_name, same_name_refl, same_name_sym}
 use Rattle.set_core.proofs.Words.{Log, stays, last_word-push, starts-push}
-use Rattle.set_core.proofs.Puts.{renewed_by, renewed, new_in, map_agrees, map-map, map_same, has_trade-map, different-map, silent_of, put_trades_is}
+use Rattle.set_core.proofs.Puts.{renewed_by, renewed, new_in, map_agrees, map-map, map_same, has_trade-map, put_trades_is}
 
 -- ---- which trades an entry names
 
@@ -64,12 +63,14 @@ filtered_name q (t ∷ ts) name = at (q t.trade) (same_name name t.trade) refl r
   where
     known : (s : Bool) → q name ≡ s → (true ≡ s) → true ≡ ((true || has_trade ts name) && q name)
     known s e f = f ∙ sym e
+
     both : (b c : Bool) → q name ≡ b → b ≡ false → (has_trade ts name && q name) ≡ ((true || has_trade ts name) && q name)
     both b c e f = ap (λ s. has_trade ts name && s) (e ∙ f) ∙ none (has_trade ts name) ∙ sym (e ∙ f)
       where
         none : (s : Bool) → (s && false) ≡ false
         none true = refl
         none false = refl
+
     at : (b s : Bool) → q t.trade ≡ b → same_name name t.trade ≡ s → has_trade (filter (λ u. q u.trade) ts) name ≡ (has_trade ts name && q name) → has_trade (cond (q t.trade) (t ∷ filter (λ u. q u.trade) ts) (filter (λ u. q u.trade) ts)) name ≡ ((same_name name t.trade || has_trade ts name) && q name)
     at true true e f rest =
         ap (λ c. has_trade (cond c (t ∷ filter (λ u. q u.trade) ts) (filter (λ u. q u.trade) ts)) name) e
@@ -157,12 +158,12 @@ and_not false s t e = absurd (false≢true e)
 pub starts_different : (log : Log) (e : Entry Event Reply) → AreDifferent (accepted_trades e) → AreDifferent (starts [] log) → AreDifferent (starts [] (log ++ e ∷ []))
 starts_different log e batch d = subst AreDifferent (sym (starts-push [] log e))
     (different-append (filter (stays e) (starts [] log)) (starts_at log e [])
-        (different-filter (λ n. not (is_taken (word n e))) (starts [] log) d)
-        (different-filter (λ n. not (is_current log n) && not false) (accepted_trades e) batch)
-        (apart_from (filter (stays e) (starts [] log)) (starts_at log e []) (λ name h.
-            filtered_name (λ n. not (is_current log n) && not false) (accepted_trades e) name
-            ∙ and_not (is_current log name) (has_trade (accepted_trades e) name) (not (is_taken (word name e)))
-                (sym (filtered_name (λ n. not (is_taken (word n e))) (starts [] log) name ∙ ap (λ s. s && not (is_taken (word name e))) (in_starts log name)) ∙ h))))
+    (different-filter (λ n. not (is_taken (word n e))) (starts [] log) d)
+    (different-filter (λ n. not (is_current log n) && not false) (accepted_trades e) batch)
+    (apart_from (filter (stays e) (starts [] log)) (starts_at log e []) (λ name h.
+    filtered_name (λ n. not (is_current log n) && not false) (accepted_trades e) name
+    ∙ and_not (is_current log name) (has_trade (accepted_trades e) name) (not (is_taken (word name e)))
+    (sym (filtered_name (λ n. not (is_taken (word n e))) (starts [] log) name ∙ ap (λ s. s && not (is_taken (word name e))) (in_starts log name)) ∙ h))))
 
 -- ---- an entry that says nothing
 
@@ -176,10 +177,10 @@ pub book-silent : (log : Log) (e : Entry Event Reply) → ((name : List ℕ) →
 book-silent log e silent none =
     map_agrees (with_rows_after (log ++ e ∷ [])) (with_rows_after log) (starts [] (log ++ e ∷ [])) (each_always (λ t. with_rows_after (log ++ e ∷ []) t ≡ with_rows_after log t) (silent_rows log e silent) (starts [] (log ++ e ∷ [])))
     ∙ ap (map (with_rows_after log))
-        (starts-push [] log e
-        ∙ ap (λ ts. filter (stays e) (starts [] log) ++ ts) (nothing_starts log e none)
-        ∙ append-nil (filter (stays e) (starts [] log))
-        ∙ filter_every (stays e) (starts [] log) (each_always (λ t. stays e t ≡ true) (λ t. ap (λ w. not (is_taken w)) (silent t.trade)) (starts [] log)))
+    (starts-push [] log e
+    ∙ ap (λ ts. filter (stays e) (starts [] log) ++ ts) (nothing_starts log e none)
+    ∙ append-nil (filter (stays e) (starts [] log))
+    ∙ filter_every (stays e) (starts [] log) (each_always (λ t. stays e t ≡ true) (λ t. ap (λ w. not (is_taken w)) (silent t.trade)) (starts [] log)))
 
 -- ---- a withdrawal that was accepted
 
@@ -189,6 +190,7 @@ without_step names log e says (t ∷ ts) = at (is_named names t.trade) refl (wit
   where
     says_at : (s : Bool) → is_named names t.trade ≡ s → word t.trade e ≡ cond s Taken Silent
     says_at s h = says t.trade ∙ ap (λ b. cond b Taken Silent) h
+
     at : (s : Bool) → is_named names t.trade ≡ s → map (with_rows_after (log ++ e ∷ [])) (filter (stays e) ts) ≡ without names (map (with_rows_after log) ts) → map (with_rows_after (log ++ e ∷ [])) (cond (stays e t) (t ∷ filter (stays e) ts) (filter (stays e) ts)) ≡ cond (not (is_named names t.trade)) (with_rows_after log t ∷ without names (map (with_rows_after log) ts)) (without names (map (with_rows_after log) ts))
     at true h rest =
         ap (λ w. map (with_rows_after (log ++ e ∷ [])) (cond (not (is_taken w)) (t ∷ filter (stays e) ts) (filter (stays e) ts))) (says_at true h)

@@ -1,9 +1,8 @@
 -- A batch put into a book trade by trade is the book with its rows renewed, and then the trades that are new.
-use Rattle.std.proofs.Common.{◌≡◌, ℕ, List, [], ◌∷◌, ◌++◌, Bool, true, false, ◌&&◌, ◌||◌, not, cond, map, refl, sym, ap, ◌∙◌, subst, append_assoc, append-nil}
+use Rattle.std.proofs.Common.{◌≡◌, ℕ, List, [], ◌∷◌, ◌++◌, Bool, true, false, ◌||◌, not, cond, map, refl, sym, ap, ◌∙◌, append_assoc, append-nil}
 use Rattle.std.proofs.lemmas.List.{map-append}
-use Rattle.std.specs.List.{filter, list_any, AllByRecursion}
-use Rattle.std.proofs.lemmas.Bool.{true≢false, false≢true, or_parts, or_from, not_from_true, not_from_false}
-use Rattle.std.proofs.lemmas.List.Elements.{filter-append}
+use Rattle.std.specs.List.{filter, AllByRecursion}
+use Rattle.std.proofs.lemmas.Bool.{false≢true, or_parts, or_from}
 use Rattle.std.proofs.lemmas.List.Folds.{list_any-append}
 use Rattle.simm_plain.proofs.Filters.{filter_agrees, each_always}
 use Rattle.simm_kinds.specs.declared.row.TradeRows.{TradeRows}
@@ -11,7 +10,7 @@ use Rattle.simm_kinds.specs.Order.{same_name}
 use Rattle.bucket_cache.specs.Live.{put_trade, put_trades, is_current as has_trade}
 use Rattle.set_core.specs.Book.{Word, Given, Taken, Silent, word_of_batch}
 use Rattle.set_core.specs.Kept.{AreDifferent}
-use Rattle.set_core.proofs.Names.{one_name, same_name_refl, same_name_sym}
+use Rattle.set_core.proofs.Names.{one_name, same_name_sym}
 
 -- a trade after a batch
 abbrev pub renewed_by : Word → TradeRows → TradeRows
@@ -95,9 +94,10 @@ put_new t (u ∷ us) h =
 different-push : (t : TradeRows) (us : List TradeRows) → AreDifferent us → has_trade us t.trade ≡ false → AreDifferent (us ++ t ∷ [])
 different-push t [] d h = (refl, tt)
 different-push t (u ∷ us) d h =
-    let parts = or_parts (same_name t.trade u.trade) (has_trade us t.trade) h in
-    (list_any-append (λ v. same_name u.trade v.trade) us (t ∷ []) ∙ or_from (has_trade us u.trade) (same_name u.trade t.trade || false) d.0 (or_from (same_name u.trade t.trade) false (same_name_sym u.trade t.trade ∙ parts.0) refl),
-     different-push t us d.1 parts.1)
+    let parts = or_parts (same_name t.trade u.trade) (has_trade us t.trade) h in (
+      list_any-append (λ v. same_name u.trade v.trade) us (t ∷ []) ∙ or_from (has_trade us u.trade) (same_name u.trade t.trade || false) d.0 (or_from (same_name u.trade t.trade) false (same_name_sym u.trade t.trade ∙ parts.0) refl),
+      different-push t us d.1 parts.1,
+    )
 
 -- ---- the whole batch
 

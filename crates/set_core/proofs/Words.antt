@@ -1,6 +1,6 @@
 -- One entry more at the end of a journal: what is said last, and which trades start where.
-use Rattle.std.proofs.Common.{◌≡◌, ℕ, List, [], ◌∷◌, ◌++◌, Bool, true, false, ◌&&◌, ◌||◌, not, cond, map, refl, sym, ap, ◌∙◌, append_assoc, append-nil}
-use Rattle.std.specs.List.{filter, list_any}
+use Rattle.std.proofs.Common.{◌≡◌, ℕ, List, [], ◌∷◌, ◌++◌, Bool, true, false, ◌&&◌, ◌||◌, not, refl, sym, ap, ◌∙◌, append_assoc, append-nil}
+use Rattle.std.specs.List.{filter}
 use Rattle.std.proofs.lemmas.List.Elements.{filter-append, filter_agree}
 use Rattle.std.proofs.lemmas.List.Folds.{list_any-append}
 use Rattle.simm_plain.proofs.Filters.{filter_both}
@@ -45,7 +45,7 @@ starts_at-push before after x e = filter_twice
     (λ t. not (is_current before t.trade) && not (is_withdrawn after t.trade)) (stays e)
     (λ t. not (is_current before t.trade) && not (is_withdrawn (after ++ e ∷ []) t.trade))
     (λ t. ap (λ w. not (is_current before t.trade) && not w) (list_any-append (λ a. is_taken (word t.trade a)) after (e ∷ []))
-        ∙ starts_split (not (is_current before t.trade)) (is_withdrawn after t.trade) (is_taken (word t.trade e)))
+    ∙ starts_split (not (is_current before t.trade)) (is_withdrawn after t.trade) (is_taken (word t.trade e)))
     (accepted_trades x)
 
 pub starts-push : (before after : Log) (e : Entry Event Reply) → starts before (after ++ e ∷ []) ≡ filter (stays e) (starts before after) ++ starts_at (before ++ after) e []

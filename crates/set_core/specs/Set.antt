@@ -1,5 +1,5 @@
 -- A netting set as it is seen: what it works on, and its journal.
-use Rattle.std.specs.Prelude.{◌≡◌, ℕ, ◌≤◌, List, [], ◌∷◌, ◌++◌, length, Bool, true, false, Option, None, zero, suc, slice_get}
+use Rattle.std.specs.Prelude.{◌≡◌, ℕ, ◌≤◌, List, [], ◌∷◌, ◌++◌, length, true, false, Option, None, zero, suc, slice_get}
 use Rattle.simm_rules.specs.Params.{Params}
 use Rattle.csa_terms.specs.Terms.{Agreement}
 use Rattle.held_cell.specs.declared.entry.Entry.{Entry}

@@ -10,5 +10,7 @@ pub enum ApplyFault {
         event: Event,
     },
     /// Memory ran out.
-    Memory { event: Event },
+    Memory {
+        event: Event,
+    },
 }

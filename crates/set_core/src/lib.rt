@@ -17,6 +17,5 @@ pub use reply::{Entry, Reply};
 pub use reply_words::reply_text;
 pub use set_state::SetState;
 
-
 #[cfg(test)]
 mod tests;

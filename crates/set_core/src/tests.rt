@@ -12,10 +12,12 @@ use simm_rules::{RangeFault, RangeKind};
 use std::alloc::Global;
 use std::test::Fail;
 
-const PARAMS: &str = "calculation_currency = \"USD\"\n[fx]\nhigh = [\"BRL\"]\nweight = [\"7.4\", \"10\"]\n\
+const PARAMS: &str =
+    "calculation_currency = \"USD\"\n[fx]\nhigh = [\"BRL\"]\nweight = [\"7.4\", \"10\"]\n\
 rho = [\"0.5\", \"0.25\", \"0.5\"]\nfirst = []\nsecond = []\nthreshold = [100000000, 100000000, 100000000]\n";
 
-const TERMS: &str = "[[set]]\nname = \"ALPHA\"\nthreshold = \"5000.00\"\nmta_delivery = \"500.00\"\nmta_return = \"500.00\"\n\
+const TERMS: &str =
+    "[[set]]\nname = \"ALPHA\"\nthreshold = \"5000.00\"\nmta_delivery = \"500.00\"\nmta_return = \"500.00\"\n\
 rounding = \"100.00\"\nnotification = \"13:00\"\nfx_haircut = \"0.08\"\nholidays = []\n[set.haircuts]\nCASH-USD = \"0\"\n";
 
 fn params(alloc: Global) -> Result<Params, Fail> {
@@ -197,10 +199,16 @@ fn replies_are_printed(rt: HostRuntime) -> Result<(), Fail> {
     let unknown = Reply::Refused(Refusal::UnknownTrade { place: 2 });
     assert_eq!(rt; reply_text(alloc, &unknown)?.as_slice(), b"REFUSED\t1\t2");
     let range = reply_text(alloc, &Reply::Refused(Refusal::Range(fault)))?;
-    assert_eq!(rt; range.as_slice(), b"REFUSED\t3\t4\t10000000000010\t10000000000000");
+    assert_eq!(rt;
+        range.as_slice(),
+        b"REFUSED\t3\t4\t10000000000010\t10000000000000"
+    );
     let mut set = set(alloc)?;
     let _ = set.apply(alloc, 0, submit(alloc, "T1", "EUR", 100_000, 1)?);
-    let asked = set.apply(alloc, 0, Event::AskMargin).ok().ok_or("a margin")?;
+    let asked = set
+        .apply(alloc, 0, Event::AskMargin)
+        .ok()
+        .ok_or("a margin")?;
     assert_eq!(rt; reply_text(alloc, &asked)?.as_slice(), b"MARGIN\t7400.00");
     assert_eq!(rt; Refusal::Range(fault).number(), 3);
     Ok(())

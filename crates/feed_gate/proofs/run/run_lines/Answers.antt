@@ -1,17 +1,17 @@
-use Rattle.std.proofs.Common.{arith, ◌≡◌, ◌∷◌, [], ◌++◌, sym, ap, ◌∙◌, subst, map}
-use Rattle.feed_gate.specs.Calls.{after_feed}
+use Rattle.std.proofs.Common.{arith, ◌∷◌, [], ◌++◌, sym, ap, ◌∙◌, subst}
 use Rattle.feed_gate.specs.Refused.{refusal}
 use Rattle.feed_gate.specs.Sets.{AreApart}
-use Rattle.feed_gate.specs.Run.{RanTo, with_answer}
+use Rattle.feed_gate.specs.Run.{RanTo}
 use Rattle.feed_gate.proofs.Runs.{answer_few, apart_after}
 use Rattle.feed_gate.proofs.Feeds.{ran_none, ran_more}
 use Rattle.feed_gate.proofs.run.run_lines.Goals as goal
 
 pub loop-end-init : goal.loop-end-init
-loop-end-init g c =
-    (([], subst (λ r. RanTo g.S.Source.faults g.S.Source.name g.S.Source.gave g.S.Source.left c.args.lines.now c.args.lines.now c.args.sets.now c.args.sets.now r []) (sym c.new-report.ensures) (ran_none g.S.Source.faults g.S.Source.name g.S.Source.gave g.S.Source.left c.args.lines.now c.args.sets.now)),
-     c.requires,
-     omega (arith, ap (λ r. r.done) c.new-report.ensures))
+loop-end-init g c = (
+  ([], subst (λ r. RanTo g.S.Source.faults g.S.Source.name g.S.Source.gave g.S.Source.left c.args.lines.now c.args.lines.now c.args.sets.now c.args.sets.now r []) (sym c.new-report.ensures) (ran_none g.S.Source.faults g.S.Source.name g.S.Source.gave g.S.Source.left c.args.lines.now c.args.sets.now)),
+  c.requires,
+  omega (arith, ap (λ r. r.done) c.new-report.ensures),
+)
 
 pub returns-in-Some : goal.returns-in-Some
 returns-in-Some g c =
@@ -31,7 +31,8 @@ returns-in-Some g c =
 
 pub loop-end-preserved : goal.loop-end-preserved
 loop-end-preserved g c =
-    let t = c.in_default.ensures in
-    ((c.loop-end.invariant.0.0 ++ t.item ∷ [], ran_more g.S.Source.faults g.S.Source.name g.S.Source.gave g.S.Source.left c.loop-end.invariant.0.1 t),
-     subst AreApart (sym t.sets) (apart_after (t.item ∷ []) c.loop-end.sets c.loop-end.invariant.1),
-     omega (arith, ap (λ r. r.done) t.report, answer_few c.loop-end.report (refusal c.loop-end.sets t.item), t.later, c.loop-end.invariant.2))
+    let t = c.in_default.ensures in (
+      (c.loop-end.invariant.0.0 ++ t.item ∷ [], ran_more g.S.Source.faults g.S.Source.name g.S.Source.gave g.S.Source.left c.loop-end.invariant.0.1 t),
+      subst AreApart (sym t.sets) (apart_after (t.item ∷ []) c.loop-end.sets c.loop-end.invariant.1),
+      omega (arith, ap (λ r. r.done) t.report, answer_few c.loop-end.report (refusal c.loop-end.sets t.item), t.later, c.loop-end.invariant.2),
+    )

@@ -1,4 +1,4 @@
-use Rattle.std.proofs.Common.{◌≡◌, ◌-◌, ◌+◌, ◌≤◌, ◌<◌, List}
+use Rattle.std.proofs.Common.{◌-◌, ◌≤◌, List}
 use Rattle.mh_io.specs.declared.reading.TheConstants.{MOST_BYTES}
 use Rattle.feed_reader.specs.Feed.{Item}
 use Rattle.feed_gate.specs.Sets.{AreApart}

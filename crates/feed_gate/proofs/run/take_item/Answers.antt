@@ -1,7 +1,6 @@
-use Rattle.std.proofs.Common.{arith, ◌≡◌, ◌<◌, ◌≤◌, ◌∷◌, [], Some, Ok, Err, sym, ap, subst}
-use Rattle.feed_reader.specs.declared.fault.FeedFault.TheVariants as fault
+use Rattle.std.proofs.Common.{arith, Some, Ok, Err, subst}
 use Rattle.feed_reader.specs.Feed.{Sent, BadAt}
-use Rattle.feed_reader.specs.Answers.{Answers, IsPlaced, TellsItems}
+use Rattle.feed_reader.specs.Answers.{Answers, IsPlaced}
 use Rattle.feed_gate.specs.declared.report.RefusedMessage.TheVariants as refused
 use Rattle.feed_gate.specs.Run.{Reports}
 use Rattle.feed_gate.proofs.Runs.{bad_line_met}
@@ -20,4 +19,4 @@ returns-in-Err-BadLine g c =
     let placed = subst (λ e. IsPlaced (Err e) c.args.lines.now c.next_message.new.lines) c.in-Err-BadLine.field-0-is c.in-Err-BadLine.ensures.placed in
     let reported = subst (λ l. Reports c.args.report.now c.take_bad_line.new.report l (Some (refused.BadLine l)) c.take_bad_line.result) c.in-Err-BadLine.line-is c.take_bad_line.ensures in
     met g.S.Source.faults g.S.Source.name g.S.Source.gave g.S.Source.left (BadAt c.in-Err-BadLine.line) c.args.sets.now c.args.sets.now c.args.report.now c.take_bad_line.new.report c.take_bad_line.result answers placed.0 (omega (arith, placed.1))
-        (bad_line_met c.in-Err-BadLine.line c.args.sets.now c.args.report.now c.take_bad_line.new.report c.take_bad_line.result reported)
+    (bad_line_met c.in-Err-BadLine.line c.args.sets.now c.args.report.now c.take_bad_line.new.report c.take_bad_line.result reported)

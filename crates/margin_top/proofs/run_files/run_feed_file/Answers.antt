@@ -1,4 +1,4 @@
-use Rattle.std.proofs.Common.{ap, Err, refl, ◌∙◌, arith}
+use Rattle.std.proofs.Common.{ap, Err, ◌∙◌, arith}
 use Rattle.mh_io.specs.Faults.{added_faults}
 use Rattle.margin_top.proofs.FileLemmas.{told_read, whole_file, file_front, rose_from_none, rises_by}
 use Rattle.margin_top.proofs.RunLemmas.{find_fails}
@@ -23,6 +23,6 @@ returns-clause-ends g c =
       ran = ran.ran;
       whole = ran.whole;
       failed = λ e.
-        let up = rose_from_none faults _ c.in-Ok.ensures.clean (ran.failed e) in
-        (up, rises_by _ _ faults (omega (arith, c.done.ensures.count, c.in-Ok.ensures.reads_stand)) (c.done.ensures.rises ∙ ap (λ n. added_faults n faults) c.in-Ok.ensures.reads_stand) up);
+          let up = rose_from_none faults _ c.in-Ok.ensures.clean (ran.failed e) in
+          (up, rises_by _ _ faults (omega (arith, c.done.ensures.count, c.in-Ok.ensures.reads_stand)) (c.done.ensures.rises ∙ ap (λ n. added_faults n faults) c.in-Ok.ensures.reads_stand) up);
     }

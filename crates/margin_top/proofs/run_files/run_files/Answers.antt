@@ -1,7 +1,7 @@
-use Rattle.std.proofs.Common.{◌≡◌, Err, Ok, sym, ap, ◌∙◌, subst, take, drop, length, ◌++◌, map}
+use Rattle.std.proofs.Common.{◌≡◌, Err, sym, ap, ◌∙◌, subst, take, drop, length, ◌++◌, map}
 use Rattle.margin_top.specs.Run.{HasRun}
 use Rattle.margin_top.specs.Files.{FolderSeen}
-use Rattle.margin_top.specs.RunStages.{TermsEnds, FeedEnds, IsRefusedFault}
+use Rattle.margin_top.specs.RunStages.{TermsEnds}
 use Rattle.margin_top.proofs.RunLemmas.{inputs_read, terms_failed, terms_refused, run_starved, has_run, feed_failed, written}
 use Rattle.margin_top.proofs.run_files.run_files.Goals as goal
 
@@ -10,15 +10,15 @@ returns-in-Err-OfFile-clause-ends g c =
     let mid : FolderSeen = record { told = g.F.Folder.told c.read_param_file.new.folder; finds = g.F.Folder.find_faults c.read_param_file.new.folder; reads = g.F.Folder.read_faults c.read_param_file.new.folder } in
     let new : FolderSeen = record { told = g.F.Folder.told c.read_terms_file.new.folder; finds = g.F.Folder.find_faults c.read_terms_file.new.folder; reads = g.F.Folder.read_faults c.read_terms_file.new.folder } in
     terms_failed _ mid new c.args.params.now c.args.terms.now c.in-Ok.values c.in-Err-OfFile.fault c.in-Ok.ensures.ends c.in-Ok.ensures.finds c.in-Ok.ensures.reads
-        (subst (λ e. TermsEnds mid new c.args.terms.now (Err e)) c.in-Err-OfFile.field-0-is c.in-Err-OfFile.ensures.ends)
+    (subst (λ e. TermsEnds mid new c.args.terms.now (Err e)) c.in-Err-OfFile.field-0-is c.in-Err-OfFile.ensures.ends)
 
 pub returns-in-Err-Refused-clause-ends : goal.returns-in-Err-Refused-clause-ends
 returns-in-Err-Refused-clause-ends g c =
     let mid : FolderSeen = record { told = g.F.Folder.told c.read_param_file.new.folder; finds = g.F.Folder.find_faults c.read_param_file.new.folder; reads = g.F.Folder.read_faults c.read_param_file.new.folder } in
     let new : FolderSeen = record { told = g.F.Folder.told c.read_terms_file.new.folder; finds = g.F.Folder.find_faults c.read_terms_file.new.folder; reads = g.F.Folder.read_faults c.read_terms_file.new.folder } in
     terms_refused _ mid new c.args.params.now c.args.terms.now c.args.feed.now c.in-Ok.values c.in-Err-Refused.fault c.refused_terms.result c.in-Ok.ensures.ends
-        (subst (λ e. TermsEnds mid new c.args.terms.now (Err e)) c.in-Err-Refused.field-0-is c.in-Err-Refused.ensures.ends)
-        c.refused_terms.ensures
+    (subst (λ e. TermsEnds mid new c.args.terms.now (Err e)) c.in-Err-Refused.field-0-is c.in-Err-Refused.ensures.ends)
+    c.refused_terms.ensures
 
 pub returns-in_default-clause-ends : goal.returns-in_default-clause-ends
 returns-in_default-clause-ends g c =
@@ -29,15 +29,15 @@ returns-in-Ok-run_feed_file-clause-ends g c =
     let old : FolderSeen = record { told = g.F.Folder.told c.args.folder.now; finds = g.F.Folder.find_faults c.args.folder.now; reads = g.F.Folder.read_faults c.args.folder.now } in
     let new : FolderSeen = record { told = g.F.Folder.told c.run_feed_file.new.folder; finds = g.F.Folder.find_faults c.run_feed_file.new.folder; reads = g.F.Folder.read_faults c.run_feed_file.new.folder } in
     let all : take c.in-Ok-make_sets.sets.len (c.run_feed_file.new.sets ++ drop (length c.run_feed_file.new.sets) c.in-Ok-make_sets.sets.items) ≡ c.run_feed_file.new.sets =
-        written c.run_feed_file.new.sets c.in-Ok-make_sets.sets.items c.in-Ok-make_sets.sets.len (c.run_feed_file.auto.sets ∙ ap length c.deref_mut.ensures.value) (sym c.deref_mut.ensures.len ∙ ap length c.deref_mut.ensures.value) in
+    written c.run_feed_file.new.sets c.in-Ok-make_sets.sets.items c.in-Ok-make_sets.sets.len (c.run_feed_file.auto.sets ∙ ap length c.deref_mut.ensures.value) (sym c.deref_mut.ensures.len ∙ ap length c.deref_mut.ensures.value) in
     subst (λ sets. HasRun c.args.params.now c.args.terms.now c.args.feed.now old new sets c.in-Ok-run_feed_file.report × (c.in-Ok-read_terms_file.agreements ≡ map (λ s. s.terms) sets)) (sym all)
     (has_run _ _ _ c.args.params.now c.args.terms.now c.args.feed.now c.in-Ok.values c.in-Ok-read_terms_file.agreements c.deref_mut.result.now c.run_feed_file.new.sets c.in-Ok-run_feed_file.report
-        (inputs_read _ _ _ c.args.params.now c.args.terms.now c.in-Ok.values c.in-Ok-read_terms_file.agreements c.in-Ok.ensures.ends c.in-Ok-read_terms_file.ensures.ends)
-        (c.deref_mut.ensures.value ∙ c.in-Ok-make_sets.ensures.sets)
-        c.in-Ok-run_feed_file.ensures.ends)
+    (inputs_read _ _ _ c.args.params.now c.args.terms.now c.in-Ok.values c.in-Ok-read_terms_file.agreements c.in-Ok.ensures.ends c.in-Ok-read_terms_file.ensures.ends)
+    (c.deref_mut.ensures.value ∙ c.in-Ok-make_sets.ensures.sets)
+    c.in-Ok-run_feed_file.ensures.ends)
 
 pub returns-clause-ends : goal.returns-clause-ends
 returns-clause-ends g c =
     feed_failed _ _ _ c.args.params.now c.args.terms.now c.args.feed.now c.in-Ok.values c.in-Ok-read_terms_file.agreements c.in-Err-run_feed_file.refused
-        (inputs_read _ _ _ c.args.params.now c.args.terms.now c.in-Ok.values c.in-Ok-read_terms_file.agreements c.in-Ok.ensures.ends c.in-Ok-read_terms_file.ensures.ends)
-        c.in-Err-run_feed_file.ensures.ends
+    (inputs_read _ _ _ c.args.params.now c.args.terms.now c.in-Ok.values c.in-Ok-read_terms_file.agreements c.in-Ok.ensures.ends c.in-Ok-read_terms_file.ensures.ends)
+    c.in-Err-run_feed_file.ensures.ends

@@ -1,5 +1,4 @@
-use Rattle.std.proofs.Common.{◌≡◌, refl, sym, ap, ◌∙◌, subst}
-use Rattle.set_core.specs.declared.event.Event.TheVariants as events
+use Rattle.std.proofs.Common.{sym, ap, subst}
 use Rattle.set_core.specs.declared.reply.Reply.TheVariants as reply
 use Rattle.set_core.specs.Live.{Does}
 use Rattle.set_core.proofs.answering.answer.Goals as goal

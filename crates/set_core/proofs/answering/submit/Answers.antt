@@ -1,4 +1,4 @@
-use Rattle.std.proofs.Common.{◌≡◌, refl, sym, ap, ◌∙◌, subst, Err}
+use Rattle.std.proofs.Common.{sym, ap, subst, Err}
 use Rattle.set_core.specs.declared.event.Event.TheVariants as events
 use Rattle.set_core.specs.declared.reply.Reply.TheVariants as reply
 use Rattle.set_core.specs.declared.refusal.Refusal.TheVariants as refusal

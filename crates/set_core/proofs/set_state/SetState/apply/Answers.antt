@@ -1,8 +1,5 @@
-use Rattle.std.proofs.Common.{rules, ◌≡◌, refl, sym, ap, ◌∙◌, subst, ◌+◌, ◌++◌, ◌∷◌, [], false, List}
-use Rattle.held_cell.specs.declared.entry.Entry.{Entry}
+use Rattle.std.proofs.Common.{rules, ◌≡◌, sym, ap, ◌∙◌, subst, ◌+◌, ◌++◌, ◌∷◌, [], false}
 use Rattle.held_cell.specs.Entries.{entry}
-use Rattle.set_core.specs.declared.event.Event.{Event}
-use Rattle.set_core.specs.declared.reply.Reply.{Reply}
 use Rattle.set_core.specs.Kept.{IsKept}
 use Rattle.set_core.specs.Room.{is_full}
 use Rattle.set_core.specs.Set.{Set, IsAnswered}
@@ -27,10 +24,10 @@ answered : (c : goal.After-push_reserved) (old : Set) → old ≡ record { param
 answered c old e =
     subst (λ s. IsAnswered s (record { params = c.answer.new.live.params; terms = c.self.inside.terms; journal = c.push_reserved.new.self.items }) c.args.caller c.args.event c.in-Ok.reply) (sym e)
     (record {
-        room = had_room c;
-        value = (it c).value;
-        after = ap (λ p. record { params = p; terms = c.self.inside.terms; journal = c.push_reserved.new.self.items }) (it c).params
-            ∙ ap (λ log. record { params = c.self.inside.live.params; terms = c.self.inside.terms; journal = log }) (pushed c);
+      room = had_room c;
+      value = (it c).value;
+      after = ap (λ p. record { params = p; terms = c.self.inside.terms; journal = c.push_reserved.new.self.items }) (it c).params
+          ∙ ap (λ log. record { params = c.self.inside.live.params; terms = c.self.inside.terms; journal = log }) (pushed c);
     })
 
 pub returns-clause-answered : goal.returns-clause-answered
