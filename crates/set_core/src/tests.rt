@@ -125,7 +125,7 @@ fn trades_come_and_go(rt: HostRuntime) -> Result<(), Fail> {
     assert_eq!(rt; set.entries(), 7);
     assert_eq!(rt; set.rows(), 2);
     assert_eq!(rt; set.live().trade_count(), 0);
-    assert_eq!(rt; set.terms().name().bytes(), b"ALPHA");
+    assert_eq!(rt; set.terms().name().bytes(), b"ALPHA".as_slice());
     let second = set.entry(2).ok_or("an entry")?;
     assert_eq!(rt; second.caller, 4);
     assert_eq!(rt; second.reply, Reply::Refused(refusal));
@@ -195,13 +195,16 @@ fn replies_are_printed(rt: HostRuntime) -> Result<(), Fail> {
         limit: 10_000_000_000_000,
     };
     let accepted = reply_text(alloc, &Reply::Accepted)?;
-    assert_eq!(rt; accepted.as_slice(), b"OK");
+    assert_eq!(rt; accepted.as_slice(), b"OK".as_slice());
     let unknown = Reply::Refused(Refusal::UnknownTrade { place: 2 });
-    assert_eq!(rt; reply_text(alloc, &unknown)?.as_slice(), b"REFUSED\t1\t2");
+    assert_eq!(rt;
+        reply_text(alloc, &unknown)?.as_slice(),
+        b"REFUSED\t1\t2".as_slice()
+    );
     let range = reply_text(alloc, &Reply::Refused(Refusal::Range(fault)))?;
     assert_eq!(rt;
         range.as_slice(),
-        b"REFUSED\t3\t4\t10000000000010\t10000000000000"
+        b"REFUSED\t3\t4\t10000000000010\t10000000000000".as_slice()
     );
     let mut set = set(alloc)?;
     let _ = set.apply(alloc, 0, submit(alloc, "T1", "EUR", 100_000, 1)?);
@@ -209,7 +212,10 @@ fn replies_are_printed(rt: HostRuntime) -> Result<(), Fail> {
         .apply(alloc, 0, Event::AskMargin)
         .ok()
         .ok_or("a margin")?;
-    assert_eq!(rt; reply_text(alloc, &asked)?.as_slice(), b"MARGIN\t7400.00");
+    assert_eq!(rt;
+        reply_text(alloc, &asked)?.as_slice(),
+        b"MARGIN\t7400.00".as_slice()
+    );
     assert_eq!(rt; Refusal::Range(fault).number(), 3);
     Ok(())
 }
