@@ -210,9 +210,9 @@ fn cut_journals(rt: HostRuntime) -> Result<(), Fail> {
         };
         let outcome = run(alloc, &RUN, TERMS, BLOCK, trouble)?;
         assert_eq!(rt; outcome.status, Status::Write, "at {put}");
-        assert_eq!(rt;
-            outcome.text.as_slice(),
-            &whole.as_bytes()[..put],
+        assert_eq!(rt; outcome.text.len(), put);
+        assert!(rt;
+            whole.as_bytes().starts_with(outcome.text.as_slice()),
             "at {put}"
         );
     }

@@ -152,24 +152,6 @@ fn a_book_out_of_range_is_refused(rt: HostRuntime) -> Result<(), Fail> {
 }
 
 #[test]
-fn a_journal_fills_by_rows(rt: HostRuntime) -> Result<(), Fail> {
-    let alloc = rt.alloc();
-    let mut set = set(alloc)?;
-    for place in 0..5 {
-        let answer = set.apply(alloc, 0, submit(alloc, "T1", "EUR", place, 100_000)?);
-        assert!(rt; answer.is_ok());
-    }
-    match set.apply(alloc, 0, submit(alloc, "T1", "EUR", 7, 1)?) {
-        Err(ApplyFault::JournalFull { entries, rows, .. }) => {
-            assert_eq!(rt; (entries, rows), (5, 500_000));
-        }
-        _ => return Err("a full journal".into()),
-    }
-    assert!(rt; margin(alloc, &mut set)? > 0);
-    Ok(())
-}
-
-#[test]
 fn a_journal_fills_by_entries(rt: HostRuntime) -> Result<(), Fail> {
     let alloc = rt.alloc();
     let mut set = set(alloc)?;
