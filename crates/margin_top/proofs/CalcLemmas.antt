@@ -18,7 +18,7 @@ use Rattle.margin_top.specs.Calc.{SinkSeen, GotLine, HasBoth, HasMargin, CrifFai
 use Rattle.margin_top.proofs.FileLemmas.{did_more, rises_earlier}
 
 -- what is told of files later is told of them before
-files_before : (old mid : Option Telling) (deeds : Deeds) (P : List File → Type 0) → mid ≡ option_map (told_after deeds) old → IfSome mid (λ t. P t.files) → IfSome old (λ t. P t.files)
+pub files_before : (old mid : Option Telling) (deeds : Deeds) (P : List File → Type 0) → mid ≡ option_map (told_after deeds) old → IfSome mid (λ t. P t.files) → IfSome old (λ t. P t.files)
 files_before None mid deeds P e h = tt
 files_before (Some t) mid deeds P e h = subst (λ m. IfSome m (λ t. P t.files)) e h
 

@@ -1,6 +1,5 @@
 -- A calculation for which all is well succeeds, or finds no memory.
-use Rattle.std.proofs.Common.{◌≡◌, ℕ, ◌≤◌, ◌<◌, List, ◌++◌, length, Option, Some, None, IfSome, ap, sym, refl, subst, ◌∙◌, length-append, arith}
-use Rattle.mh_io.specs.Folder.{Telling, file_of}
+use Rattle.std.proofs.Common.{◌≡◌, ℕ, List, Some, None, ap, sym, refl, subst, ◌∙◌}
 use Rattle.simm_kinds.specs.declared.row.TradeRows.{TradeRows}
 use Rattle.simm_kinds.specs.Batch.{rows_of}
 use Rattle.simm_rules.specs.Params.{Params}
@@ -9,26 +8,12 @@ use Rattle.simm_params.specs.Grammar.{params_of}
 use Rattle.crif_reader.specs.Grammar.{crif_of}
 use Rattle.margin_top.specs.declared.status.Status.{Status}
 use Rattle.margin_top.specs.declared.status.Status.TheVariants as status
-use Rattle.margin_top.specs.declared.fault.FileFault.TheVariants as file
 use Rattle.margin_top.specs.declared.fault.CalcFault.{CalcFault}
 use Rattle.margin_top.specs.declared.fault.CalcFault.TheVariants as fault
-use Rattle.margin_top.specs.Files.{FolderSeen, IsWhole}
-use Rattle.margin_top.specs.Calc.{SinkSeen, Cause, status_of, CalcEnds}
+use Rattle.margin_top.specs.Files.{FolderSeen, IsWhole, no_deeds, with_reading}
+use Rattle.margin_top.specs.Calc.{SinkSeen, Cause, status_of, status_of_file, CalcEnds}
 use Rattle.margin_top.specs.Complete.{IsWell, EndsWell}
-
--- what was read whole of a file is the file
-same_bytes : (told : Option Telling) (t : Telling) (name a b : List ℕ) → told ≡ Some t → IfSome told (λ t. file_of t.files name ≡ Some a) → file_of t.files name ≡ Some b → a ≡ b
-same_bytes told t name a b e h known =
-    let there : file_of t.files name ≡ Some a = subst (λ o. IfSome o (λ t. file_of t.files name ≡ Some a)) e h in
-    cc
-
--- no file that fits is too long
-fits : (folder : FolderSeen) (t : Telling) (name taken bytes : List ℕ) (most : ℕ) → folder.told ≡ Some t → IfSome folder.told (λ t. (rest : List ℕ) × (file_of t.files name ≡ Some (taken ++ rest))) → file_of t.files name ≡ Some bytes → length bytes ≤ most → most < length taken → ⊥
-fits folder t name taken bytes most e h known short long =
-    let front : (rest : List ℕ) × (file_of t.files name ≡ Some (taken ++ rest)) = subst (λ o. IfSome o (λ t. (rest : List ℕ) × (file_of t.files name ≡ Some (taken ++ rest)))) e h in
-    let whole : file_of t.files name ≡ Some (taken ++ front.0) = front.1 in
-    let same : taken ++ front.0 ≡ bytes = cc in
-    omega (arith, ap length same, length-append taken front.0)
+use Rattle.margin_top.proofs.KnownFiles.{same_bytes, only_memory_of}
 
 -- parameters that were read are those of the file
 same_params : (pn cn : List ℕ) (old new : FolderSeen) (out_old out_new : SinkSeen) (w : IsWell pn cn old new out_old out_new) (bytes : List ℕ) (p : Params) → IsWhole old pn bytes → params_of bytes ≡ Some p → p ≡ w.p
@@ -46,27 +31,23 @@ same_trades pn cn old new out_old out_new w bytes trades whole read =
     cc
 
 -- no fault comes but want of memory
-only_memory : (pn cn : List ℕ) (old new : FolderSeen) (out_old out_new : SinkSeen) → IsWell pn cn old new out_old out_new → (f : CalcFault) → Cause pn cn old new f → status_of f ≡ status.Memory
-only_memory pn cn old new out_old out_new w (fault.OfParams file.Missing) h = absurd (w.finds_stood h.rose)
-only_memory pn cn old new out_old out_new w (fault.OfParams file.Unread) h = absurd (w.reads_stood h.rose)
-only_memory pn cn old new out_old out_new w (fault.OfParams file.Long) h =
-    absurd (fits old w.t pn h.taken w.param_bytes _ w.told (h.long).front w.has_params w.params_fit (omega (arith, (h.long).many)))
-only_memory pn cn old new out_old out_new w (fault.OfParams file.Refused) h =
-    let same : h.bytes ≡ w.param_bytes = same_bytes old.told w.t pn h.bytes w.param_bytes w.told (h.whole).whole w.has_params in
-    let refused : params_of w.param_bytes ≡ None = subst (λ b. params_of b ≡ None) same h.so in
+only_memory : (pn cn : List ℕ) (old new : FolderSeen) (out_old out_new : SinkSeen)
+    → IsWell pn cn old new out_old out_new → (f : CalcFault) → Cause pn cn old new f → status_of f ≡ status.Memory
+only_memory pn cn old new out_old out_new w (fault.OfParams f) h =
+    let IsRefused : List ℕ → Type 0 = λ bytes. params_of bytes ≡ None in
     let known : params_of w.param_bytes ≡ Some w.p = w.params_read in
-    cc
-only_memory pn cn old new out_old out_new w (fault.OfParams file.Memory) h = refl
-only_memory pn cn old new out_old out_new w (fault.OfCrif file.Missing) h = absurd (w.finds_stood (h.failed).rose)
-only_memory pn cn old new out_old out_new w (fault.OfCrif file.Unread) h = absurd (w.reads_stood (h.failed).rose)
-only_memory pn cn old new out_old out_new w (fault.OfCrif file.Long) h =
-    absurd (fits old w.t cn (h.failed).taken w.crif_bytes _ w.told ((h.failed).long).front w.has_crif w.crif_fits (omega (arith, ((h.failed).long).many)))
-only_memory pn cn old new out_old out_new w (fault.OfCrif file.Refused) h =
-    let same : (h.failed).bytes ≡ w.crif_bytes = same_bytes old.told w.t cn (h.failed).bytes w.crif_bytes w.told ((h.failed).whole).whole w.has_crif in
-    let refused : crif_of w.crif_bytes ≡ None = subst (λ b. crif_of b ≡ None) same (h.failed).so in
+    let taken : IsRefused w.param_bytes → ⊥ = λ e. cc in
+    ap (status_of_file status.Params)
+    (only_memory_of old new no_deeds pn w.param_bytes IsRefused w.t f w.told w.has_params w.params_fit taken
+    w.finds_stood w.reads_stood h)
+only_memory pn cn old new out_old out_new w (fault.OfCrif f) h =
+    let IsRefused : List ℕ → Type 0 = λ bytes. crif_of bytes ≡ None in
     let known : crif_of w.crif_bytes ≡ Some w.trades = w.crif_read in
-    cc
-only_memory pn cn old new out_old out_new w (fault.OfCrif file.Memory) h = refl
+    let taken : IsRefused w.crif_bytes → ⊥ = λ e. cc in
+    let before = with_reading no_deeds pn h.param_bytes h.param_faults in
+    ap (status_of_file status.Terms)
+    (only_memory_of old new before cn w.crif_bytes IsRefused w.t f w.told w.has_crif w.crif_fits taken
+    w.finds_stood w.reads_stood h.failed)
 only_memory pn cn old new out_old out_new w fault.OutOfRange h =
     let b = h.both in
     let p_is : h.p ≡ w.p = same_params pn cn old new out_old out_new w b.param_bytes h.p (b.params).whole (b.params).values in

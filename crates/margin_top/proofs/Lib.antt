@@ -4,3 +4,7 @@ pub mod CalcLemmas
 pub mod CompleteLemmas
 pub mod RowLemmas
 pub mod RunLemmas
+pub mod KnownFiles
+pub mod LongLines
+pub mod FeedStops
+pub mod RunComplete

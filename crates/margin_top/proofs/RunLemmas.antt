@@ -40,8 +40,8 @@ find_fails S old new name find.Failed told rose = record { did = told ∙ did_as
 find_fails S old new name find.Memory told rose = record { deeds = no_deeds; did = told ∙ did_nothing old.told; asked = inl refl }
 
 -- both files were read
-pub inputs_read : (old mid new : FolderSeen) (pn tn : List ℕ) (p : Params) (agreements : List Agreement) → IsRead old mid no_deeds pn (λ bytes. params_of bytes ≡ Some p) → IsRead mid new no_deeds tn (λ bytes. terms_of bytes ≡ Ok agreements) → HasInputs pn tn old new p agreements
-inputs_read old mid new pn tn p agreements first second = record {
+pub inputs_read : (old mid new : FolderSeen) (pn tn : List ℕ) (p : Params) (agreements : List Agreement) → IsRead old mid no_deeds pn (λ bytes. params_of bytes ≡ Some p) → IsRead mid new no_deeds tn (λ bytes. terms_of bytes ≡ Ok agreements) → old.finds ≤ new.finds → old.reads ≤ new.reads → HasInputs pn tn old new p agreements
+inputs_read old mid new pn tn p agreements first second finds reads = record {
   param_bytes = first.bytes;
   param_faults = first.faults;
   terms_bytes = second.bytes;
@@ -50,6 +50,8 @@ inputs_read old mid new pn tn p agreements first second = record {
   params = record { whole = first.whole; values = first.so };
   whole = whole_before old mid (with_reading no_deeds pn first.bytes first.faults) tn second.bytes first.did second.whole;
   terms = second.so;
+  finds = finds;
+  reads = reads;
 }
 
 -- the parameters were read, and then the terms file gave nothing

@@ -1,5 +1,5 @@
--- When a calculation has to succeed.
-use Rattle.std.specs.Prelude.{ℕ, ◌≡◌, ◌≤◌, List, length, Some, None}
+-- When a command has to succeed.
+use Rattle.std.specs.Prelude.{ℕ, ◌≡◌, ◌≤◌, List, length, Option, Some, None, Ok, true}
 use Rattle.mh_io.specs.Faults.{Rises}
 use Rattle.mh_io.specs.Folder.{Telling, file_of}
 use Rattle.mh_io.specs.declared.reading.TheConstants.{MOST_BYTES}
@@ -9,8 +9,12 @@ use Rattle.simm_rules.specs.Params.{Params}
 use Rattle.simm_rules.specs.Range.{range}
 use Rattle.simm_params.specs.Grammar.{params_of}
 use Rattle.crif_reader.specs.Grammar.{crif_of}
+use Rattle.csa_terms.specs.Grammar.{terms_of}
+use Rattle.csa_terms.specs.Terms.{Agreement}
+use Rattle.feed_reader.specs.Feed.{Whole, feed}
 use Rattle.margin_top.specs.declared.status.Status.{Status}
 use Rattle.margin_top.specs.declared.status.Status.TheVariants as status
+use Rattle.margin_top.specs.Words.{Form, Calc, Run, form_of}
 use Rattle.margin_top.specs.Files.{FolderSeen}
 use Rattle.margin_top.specs.Calc.{SinkSeen}
 
@@ -34,7 +38,40 @@ pub record IsWell (params_name crif_name : List ℕ) (old new : FolderSeen) (out
   pub reads_stood : Rises old.reads new.reads → ⊥
   pub puts_stood : Rises out_old.faults out_new.faults → ⊥
 
--- the margin is printed whole, or memory ran out
+-- The folder has the three files, none is too long, parameters and terms are inside their grammars, the feed stops
+-- whole, and no count of faults rose. A feed may have lines that are no message, and messages that are refused.
+pub record IsWellRun (params_name terms_name feed_name : List ℕ) (old new : FolderSeen)
+    (out_old out_new : SinkSeen) : Type 0 where
+  pub t : Telling
+  pub param_bytes : List ℕ
+  pub terms_bytes : List ℕ
+  pub feed_bytes : List ℕ
+  pub p : Params
+  pub agreements : List Agreement
+  pub told : old.told ≡ Some t
+  pub has_params : file_of t.files params_name ≡ Some param_bytes
+  pub has_terms : file_of t.files terms_name ≡ Some terms_bytes
+  pub has_feed : file_of t.files feed_name ≡ Some feed_bytes
+  pub params_fit : length param_bytes ≤ MOST_BYTES
+  pub terms_fit : length terms_bytes ≤ MOST_BYTES
+  pub feed_fits : length feed_bytes ≤ MOST_BYTES
+  pub params_read : params_of param_bytes ≡ Some p
+  pub terms_read : terms_of terms_bytes ≡ Ok agreements
+  pub feed_whole : (feed feed_bytes true).stop ≡ Whole
+  pub finds_stood : Rises old.finds new.finds → ⊥
+  pub reads_stood : Rises old.reads new.reads → ⊥
+  pub puts_stood : Rises out_old.faults out_new.faults → ⊥
+
+-- the words are a command, and all is well for it
+abbrev pub IsWellForm : Option Form → FolderSeen → FolderSeen → SinkSeen → SinkSeen → Type 0
+IsWellForm None old new out_old out_new = ⊥
+IsWellForm (Some (Calc params crif)) old new out_old out_new = IsWell params crif old new out_old out_new
+IsWellForm (Some (Run params terms feed)) old new out_old out_new = IsWellRun params terms feed old new out_old out_new
+
+abbrev pub IsWellHouse : List (List ℕ) → FolderSeen → FolderSeen → SinkSeen → SinkSeen → Type 0
+IsWellHouse words old new out_old out_new = IsWellForm (form_of words) old new out_old out_new
+
+-- all of it is printed, or memory ran out
 abbrev pub EndsWell : Status → Type 0
 EndsWell status.Done = Unit {0}
 EndsWell status.Memory = Unit {0}

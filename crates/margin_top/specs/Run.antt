@@ -1,5 +1,5 @@
 -- What a run of a feed does: for each status what happened, and what was printed.
-use Rattle.std.specs.Prelude.{ℕ, ◌≡◌, ◌<◌, List, [], ◌∷◌, ◌++◌, take, map, Bool, true, Some, None, IfSome, Ok, Err, ◌⊎◌}
+use Rattle.std.specs.Prelude.{ℕ, ◌≡◌, ◌<◌, ◌≤◌, List, [], ◌∷◌, ◌++◌, take, map, Bool, true, Some, None, IfSome, Ok, Err, ◌⊎◌}
 use Rattle.std.specs.List.{AllByRecursion, flat_map}
 use Rattle.mh_io.specs.Faults.{Rises}
 use Rattle.mh_io.specs.Folder.{file_of}
@@ -31,7 +31,7 @@ pub record GotPart (old new : SinkSeen) (text : List ℕ) : Type 0 where
   pub put : ℕ
   pub front : Got old new (take put text)
 
--- the parameter file and then the terms file were read whole, with these values
+-- the parameter file and then the terms file were read whole, with these values, and no count of faults fell
 pub record HasInputs (params_name terms_name : List ℕ) (old new : FolderSeen) (p : Params) (agreements : List Agreement) : Type 0 where
   pub param_bytes : List ℕ
   pub param_faults : ℕ
@@ -41,6 +41,8 @@ pub record HasInputs (params_name terms_name : List ℕ) (old new : FolderSeen) 
   pub params : HasParams old params_name param_bytes p
   pub whole : IsWhole old terms_name terms_bytes
   pub terms : terms_of terms_bytes ≡ Ok agreements
+  pub finds : old.finds ≤ new.finds
+  pub reads : old.reads ≤ new.reads
 
 -- a set before its first call
 abbrev pub start : Params → Agreement → Set

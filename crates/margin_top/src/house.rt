@@ -1,10 +1,9 @@
-ghost use Rattle.std.specs.Prelude.{◌≡◌, ◌≤◌, ℕ, List, Some, map};
+ghost use Rattle.std.specs.Prelude.{◌≡◌, ◌≤◌, map};
 ghost use Rattle.std.specs.String.{string_bytes};
 ghost use Rattle.margin_top.specs.Files.{FolderSeen};
 ghost use Rattle.margin_top.specs.Calc.{SinkSeen};
-ghost use Rattle.margin_top.specs.Complete.{IsWell, EndsWell};
+ghost use Rattle.margin_top.specs.Complete.{IsWellHouse, EndsWell};
 ghost use Rattle.margin_top.specs.House.{HouseEnds};
-ghost use Rattle.margin_top.specs.Words.{Calc, form_of};
 
 use crate::calculation::calc;
 use crate::printing::print_line;
@@ -32,8 +31,8 @@ pub fn margin_house<F: Folder, K: Sink>(
         (record { told = F.told folder.new; finds = F.find_faults folder.new; reads = F.read_faults folder.new })
         (record { holds = K.holds out.old; faults = K.faults out.old })
         (record { holds = K.holds out.new; faults = K.faults out.new }) result }
-    // Where the words are a calculation for which all is well its margin is printed, or memory ran out.
-    ensures complete { (params crif : List ℕ) → form_of (map string_bytes words.now) ≡ Some (Calc params crif) → IsWell params crif
+    // Where the words are a command for which all is well it is done and printed whole, or memory ran out.
+    ensures complete { IsWellHouse (map string_bytes words.now)
         (record { told = F.told folder.old; finds = F.find_faults folder.old; reads = F.read_faults folder.old })
         (record { told = F.told folder.new; finds = F.find_faults folder.new; reads = F.read_faults folder.new })
         (record { holds = K.holds out.old; faults = K.faults out.old })

@@ -2,6 +2,7 @@ ghost use Rattle.std.specs.Prelude.{◌≡◌, ◌≤◌};
 ghost use Rattle.margin_top.specs.Files.{FolderSeen};
 ghost use Rattle.margin_top.specs.Calc.{SinkSeen};
 ghost use Rattle.margin_top.specs.Run.{RunEnds};
+ghost use Rattle.margin_top.specs.Complete.{IsWellRun, EndsWell};
 
 use crate::run_files::run_files;
 use crate::run_printing::{print_run, print_run_fault};
@@ -31,6 +32,12 @@ pub(crate) fn run<F: Folder, K: Sink>(
         (record { told = F.told folder.new; finds = F.find_faults folder.new; reads = F.read_faults folder.new })
         (record { holds = K.holds out.old; faults = K.faults out.old })
         (record { holds = K.holds out.new; faults = K.faults out.new }) result }
+    // Where all is well the run is done and printed whole, or memory ran out.
+    ensures complete { IsWellRun params.now terms.now feed.now
+        (record { told = F.told folder.old; finds = F.find_faults folder.old; reads = F.read_faults folder.old })
+        (record { told = F.told folder.new; finds = F.find_faults folder.new; reads = F.read_faults folder.new })
+        (record { holds = K.holds out.old; faults = K.faults out.old })
+        (record { holds = K.holds out.new; faults = K.faults out.new }) → EndsWell result }
 {
     match run_files(alloc, params, terms, feed, folder) {
         Ok(run) => print_run(alloc, out, &run),

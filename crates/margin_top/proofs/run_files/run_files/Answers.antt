@@ -1,4 +1,4 @@
-use Rattle.std.proofs.Common.{◌≡◌, Err, sym, ap, ◌∙◌, subst, take, drop, length, ◌++◌, map}
+use Rattle.std.proofs.Common.{◌≡◌, Err, arith, sym, ap, ◌∙◌, subst, take, drop, length, ◌++◌, map}
 use Rattle.margin_top.specs.Run.{HasRun}
 use Rattle.margin_top.specs.Files.{FolderSeen}
 use Rattle.margin_top.specs.RunStages.{TermsEnds}
@@ -32,12 +32,14 @@ returns-in-Ok-run_feed_file-clause-ends g c =
     written c.run_feed_file.new.sets c.in-Ok-make_sets.sets.items c.in-Ok-make_sets.sets.len (c.run_feed_file.auto.sets ∙ ap length c.deref_mut.ensures.value) (sym c.deref_mut.ensures.len ∙ ap length c.deref_mut.ensures.value) in
     subst (λ sets. HasRun c.args.params.now c.args.terms.now c.args.feed.now old new sets c.in-Ok-run_feed_file.report × (c.in-Ok-read_terms_file.agreements ≡ map (λ s. s.terms) sets)) (sym all)
     (has_run _ _ _ c.args.params.now c.args.terms.now c.args.feed.now c.in-Ok.values c.in-Ok-read_terms_file.agreements c.deref_mut.result.now c.run_feed_file.new.sets c.in-Ok-run_feed_file.report
-    (inputs_read _ _ _ c.args.params.now c.args.terms.now c.in-Ok.values c.in-Ok-read_terms_file.agreements c.in-Ok.ensures.ends c.in-Ok-read_terms_file.ensures.ends)
+    (inputs_read _ _ _ c.args.params.now c.args.terms.now c.in-Ok.values c.in-Ok-read_terms_file.agreements c.in-Ok.ensures.ends c.in-Ok-read_terms_file.ensures.ends
+    (omega (arith, c.in-Ok.ensures.finds, c.in-Ok-read_terms_file.ensures.finds)) (omega (arith, c.in-Ok.ensures.reads, c.in-Ok-read_terms_file.ensures.reads)))
     (c.deref_mut.ensures.value ∙ c.in-Ok-make_sets.ensures.sets)
     c.in-Ok-run_feed_file.ensures.ends)
 
 pub returns-clause-ends : goal.returns-clause-ends
 returns-clause-ends g c =
     feed_failed _ _ _ c.args.params.now c.args.terms.now c.args.feed.now c.in-Ok.values c.in-Ok-read_terms_file.agreements c.in-Err-run_feed_file.refused
-    (inputs_read _ _ _ c.args.params.now c.args.terms.now c.in-Ok.values c.in-Ok-read_terms_file.agreements c.in-Ok.ensures.ends c.in-Ok-read_terms_file.ensures.ends)
+    (inputs_read _ _ _ c.args.params.now c.args.terms.now c.in-Ok.values c.in-Ok-read_terms_file.agreements c.in-Ok.ensures.ends c.in-Ok-read_terms_file.ensures.ends
+    (omega (arith, c.in-Ok.ensures.finds, c.in-Ok-read_terms_file.ensures.finds)) (omega (arith, c.in-Ok.ensures.reads, c.in-Ok-read_terms_file.ensures.reads)))
     c.in-Err-run_feed_file.ensures.ends

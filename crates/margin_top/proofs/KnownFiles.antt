@@ -1,0 +1,42 @@
+-- What a folder that tells a file excludes: what was read is the file, and where it fits no fault of it comes.
+use Rattle.std.proofs.Common.{◌≡◌, ℕ, ◌≤◌, List, ◌++◌, length, Option, Some, IfSome, ap, refl, subst, length-append, arith}
+use Rattle.mh_io.specs.Faults.{Rises}
+use Rattle.mh_io.specs.Folder.{Telling, file_of}
+use Rattle.mh_io.specs.declared.reading.TheConstants.{MOST_BYTES}
+use Rattle.margin_top.specs.declared.fault.FileFault.{FileFault}
+use Rattle.margin_top.specs.declared.fault.FileFault.TheVariants as file
+use Rattle.margin_top.specs.Files.{FolderSeen, Deeds, Failed}
+
+-- what was read whole of a file is the file
+pub same_bytes : (told : Option Telling) (t : Telling) (name a b : List ℕ) → told ≡ Some t
+    → IfSome told (λ t. file_of t.files name ≡ Some a) → file_of t.files name ≡ Some b → a ≡ b
+same_bytes told t name a b e h known =
+    let there : file_of t.files name ≡ Some a = subst (λ o. IfSome o (λ t. file_of t.files name ≡ Some a)) e h in
+    cc
+
+-- what was taken of a file is a front of it
+pub front_bytes : (told : Option Telling) (t : Telling) (name taken bytes : List ℕ) → told ≡ Some t
+    → IfSome told (λ t. (rest : List ℕ) × (file_of t.files name ≡ Some (taken ++ rest)))
+    → file_of t.files name ≡ Some bytes → (rest : List ℕ) × (taken ++ rest ≡ bytes)
+front_bytes told t name taken bytes e h known =
+    let IsFront : Telling → Type 0 = λ t. (rest : List ℕ) × (file_of t.files name ≡ Some (taken ++ rest)) in
+    let front : IsFront t = subst (λ o. IfSome o IsFront) e h in
+    let whole : file_of t.files name ≡ Some (taken ++ front.0) = front.1 in
+    let same : taken ++ front.0 ≡ bytes = cc in
+    (front.0, same)
+
+-- of a file that fits and isn't refused no fault comes but want of memory, where no count rose
+pub only_memory_of : (old new : FolderSeen) (before : Deeds) (name bytes : List ℕ) (IsRefused : List ℕ → Type 0)
+    (t : Telling) (f : FileFault) → old.told ≡ Some t → file_of t.files name ≡ Some bytes
+    → length bytes ≤ MOST_BYTES → (IsRefused bytes → ⊥)
+    → (Rises old.finds new.finds → ⊥) → (Rises old.reads new.reads → ⊥)
+    → Failed old new before name IsRefused f → f ≡ file.Memory
+only_memory_of old new before name bytes IsRefused t file.Missing told has few so finds reads h = absurd (finds h.rose)
+only_memory_of old new before name bytes IsRefused t file.Unread told has few so finds reads h = absurd (reads h.rose)
+only_memory_of old new before name bytes IsRefused t file.Long told has few so finds reads h =
+    let front = front_bytes old.told t name h.taken bytes told (h.long).front has in
+    absurd (omega (arith, ap length front.1, length-append h.taken front.0, (h.long).many))
+only_memory_of old new before name bytes IsRefused t file.Refused told has few so finds reads h =
+    let same = same_bytes old.told t name h.bytes bytes told (h.whole).whole has in
+    absurd (so (subst IsRefused same h.so))
+only_memory_of old new before name bytes IsRefused t file.Memory told has few so finds reads h = refl

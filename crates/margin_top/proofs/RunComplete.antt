@@ -1,0 +1,105 @@
+-- A run for which all is well succeeds, or finds no memory.
+use Rattle.std.proofs.Common.{◌≡◌, ℕ, ◌≤◌, Bool, true, List, ◌++◌, length, Some, None, Ok, Err, ap, sym, refl, subst, inl, inr, ◌∙◌, length-append, arith}
+use Rattle.mh_io.specs.Folder.{File, file_of}
+use Rattle.mh_io.specs.declared.folder.FindRefused.TheVariants as find
+use Rattle.mh_io.specs.declared.reading.TheConstants.{MOST_BYTES}
+use Rattle.simm_params.specs.Grammar.{params_of}
+use Rattle.csa_terms.specs.Grammar.{terms_of}
+use Rattle.feed_reader.specs.Feed as message
+use Rattle.feed_reader.specs.Feed.{Item, FeedRun, feed}
+use Rattle.set_core.specs.Set.{Set}
+use Rattle.feed_gate.specs.declared.report.FeedEnd.{FeedEnd}
+use Rattle.feed_gate.specs.declared.report.FeedEnd.TheVariants as end_at
+use Rattle.feed_gate.specs.declared.report.FeedReport.{FeedReport}
+use Rattle.feed_gate.specs.Run.{IsEnd}
+use Rattle.margin_top.specs.declared.status.Status.{Status}
+use Rattle.margin_top.specs.declared.status.Status.TheVariants as status
+use Rattle.margin_top.specs.declared.run_fault.RunFault.{RunFault}
+use Rattle.margin_top.specs.declared.run_fault.RunFault.TheVariants as fault
+use Rattle.margin_top.specs.Files.{FolderSeen, no_deeds, with_reading}
+use Rattle.margin_top.specs.Calc.{SinkSeen, status_of_file}
+use Rattle.margin_top.specs.Run.{HasRun, RunCause, RunPrints, RunEnds, status_of_end, status_of_run}
+use Rattle.margin_top.specs.Complete.{IsWellRun, EndsWell}
+use Rattle.margin_top.proofs.FileLemmas.{rises_earlier}
+use Rattle.margin_top.proofs.CalcLemmas.{files_before}
+use Rattle.margin_top.proofs.KnownFiles.{same_bytes, front_bytes, only_memory_of}
+use Rattle.margin_top.proofs.FeedStops.{not_cut, not_long, not_over}
+
+-- the end of a feed that is whole and fits, of which a front was taken
+whole_end : (end : FeedEnd) (items : List Item) (taken rest bytes : List ℕ) (ended : Bool)
+    → IsEnd end items (feed taken ended) → taken ++ rest ≡ bytes → (ended ≡ true → taken ≡ bytes)
+    → length bytes ≤ MOST_BYTES → (feed bytes true).stop ≡ message.Whole → status_of_end end ≡ status.Feed → ⊥
+whole_end end_at.End items taken rest bytes ended is front all few whole e = cc e
+whole_end (end_at.Cut line) items taken rest bytes ended is front all few whole e =
+    not_cut taken bytes ended line all whole (ap (λ (r : FeedRun). r.stop) is)
+whole_end (end_at.LineLong line) items taken rest bytes ended is front all few whole e =
+    let joined : (feed (taken ++ rest) true).stop ≡ message.Whole = ap (λ xs. (feed xs true).stop) front ∙ whole in
+    not_long taken rest ended line (omega (arith, ap length front)) joined (ap (λ (r : FeedRun). r.stop) is)
+whole_end (end_at.TooLong n) items taken rest bytes ended is front all few whole e =
+    let fits : length taken ≤ MOST_BYTES = omega (arith, ap length front, length-append taken rest) in
+    not_over taken ended fits (ap (λ (r : FeedRun). r.stop) is.0)
+whole_end end_at.ReadFault items taken rest bytes ended is front all few whole e = cc e
+whole_end (end_at.Memory line) items taken rest bytes ended is front all few whole e = cc e
+
+module _ {pn tn fn : List ℕ} {old new : FolderSeen} {out_old out_new : SinkSeen}
+    (w : IsWellRun pn tn fn old new out_old out_new) where
+  -- no fault comes but want of memory
+  only_memory : (f : RunFault) → RunCause pn tn fn old new f → status_of_run f ≡ status.Memory
+  only_memory (fault.OfParams f) h =
+      let IsRefused : List ℕ → Type 0 = λ bytes. params_of bytes ≡ None in
+      let known : params_of w.param_bytes ≡ Some w.p = w.params_read in
+      let taken : IsRefused w.param_bytes → ⊥ = λ e. cc in
+      ap (status_of_file status.Params)
+      (only_memory_of old new no_deeds pn w.param_bytes IsRefused w.t f w.told w.has_params w.params_fit taken
+      w.finds_stood w.reads_stood h)
+  only_memory (fault.OfTerms f) h =
+      let before = with_reading no_deeds pn h.param_bytes h.param_faults in
+      ap (status_of_file status.Terms)
+      (only_memory_of old new before tn w.terms_bytes (λ _. ⊥) w.t f w.told w.has_terms w.terms_fit (λ none. none)
+      w.finds_stood w.reads_stood h.failed)
+  only_memory (fault.TermsRefused line) h =
+      let read = h.read in
+      let same = same_bytes old.told w.t tn read.bytes w.terms_bytes w.told (read.whole).whole w.has_terms in
+      let refused : terms_of w.terms_bytes ≡ Err h.e = subst (λ b. terms_of b ≡ Err h.e) same read.so in
+      let known : terms_of w.terms_bytes ≡ Ok w.agreements = w.terms_read in
+      cc
+  only_memory (fault.OfFeed find.Failed) h =
+      absurd (w.finds_stood (rises_earlier old.finds (h.mid).finds new.finds (h.inputs).finds (h.missing).rose))
+  only_memory (fault.OfFeed find.Memory) h = refl
+  only_memory fault.Memory h = refl
+
+  -- the feed isn't left before its end
+  to_the_end : (sets : List Set) (r : FeedReport) → HasRun pn tn fn old new sets r
+      → status_of_end r.end ≡ status.Feed → ⊥
+  to_the_end sets r h e =
+      let fed = h.fed in
+      let mid = h.mid in
+      let did = h.inputs.did in
+      let IsFront : List File → Type 0 = λ files. (rest : List ℕ) × (file_of files fn ≡ Some (fed.taken ++ rest)) in
+      let IsAll : List File → Type 0 = λ files. file_of files fn ≡ Some fed.taken in
+      let front = front_bytes old.told w.t fn fed.taken w.feed_bytes w.told
+      (files_before old.told mid.told _ IsFront did fed.front) w.has_feed in
+      let all = λ (over : fed.ended ≡ true). same_bytes old.told w.t fn fed.taken w.feed_bytes w.told
+      (files_before old.told mid.told _ IsAll did (fed.all over)) w.has_feed in
+      let ran = fed.ran in
+      whole_end r.end ran.items fed.taken front.0 w.feed_bytes fed.ended ran.stop front.1 all w.feed_fits w.feed_whole e
+
+  -- what a run that reached its feed prints
+  prints_well : (sets : List Set) (r : FeedReport) (s : Status) → HasRun pn tn fn old new sets r
+      → RunPrints sets r out_old out_new s → EndsWell s
+  prints_well sets r status.Done run h = tt
+  prints_well sets r status.Memory run h = tt
+  prints_well sets r status.Write run h = absurd (w.puts_stood (h.1).rose)
+  prints_well sets r status.Feed run h = absurd (to_the_end sets r run h.0)
+  prints_well sets r status.Read run h =
+      let failed = (run.fed).failed h.0 in
+      absurd (w.reads_stood (rises_earlier old.reads (run.mid).reads new.reads (run.inputs).reads failed.1))
+  prints_well sets r status.Words run h = absurd h
+  prints_well sets r status.Params run h = absurd h
+  prints_well sets r status.Terms run h = absurd h
+  prints_well sets r status.Find run h = absurd h
+
+  -- no other status than Done and Memory comes
+  pub run_ends_well : (s : Status) → RunEnds pn tn fn old new out_old out_new s → EndsWell s
+  run_ends_well s (inl h) = prints_well h.sets h.r s h.run h.printed
+  run_ends_well s (inr h) = subst EndsWell (sym (only_memory h.f h.cause) ∙ h.status) tt
