@@ -51,5 +51,8 @@ new_to_none [] = tt
 new_to_none (t ∷ ts) = (refl, new_to_none ts)
 
 -- the first batch is the whole book
-pub put_trades-none : (ts : List TradeRows) → IsBatch ts → put_trades ts [] ≡ ts
+put_trades-none : (ts : List TradeRows) → IsBatch ts → put_trades ts [] ≡ ts
 put_trades-none ts batch = all_behind ts [] (batch_facts ts batch).once (new_to_none ts)
+
+pub first_batch : (ts book : List TradeRows) → IsBatch ts → book ≡ [] → put_trades ts book ≡ ts
+first_batch ts book batch none = ap (put_trades ts) none ∙ put_trades-none ts batch

@@ -55,6 +55,7 @@ impl LiveMargin {
     ///
     /// `Range` exactly where the book afterwards would be out of range, with the first quantity that is above its
     /// limit, and `Memory` for want of memory. Nothing changes then.
+    #[tactic(auto, using(crate::proofs::Firsts::first_batch))]
     pub fn submit(&mut self, alloc: Global, trades: &[TradeRows]) -> Result<(), SubmitFault>
         requires batch { IsBatch trades.now }
         requires fx { IsTrue (all_fx (rows_of trades.now)) }
@@ -63,6 +64,8 @@ impl LiveMargin {
         ensures range { (fault : Fault) → result ≡ Err (SubmitFault.Range fault) →
             range self.old.params (rows_of (put_trades trades.now self.old.book)) ≡ Some fault }
         ensures unchanged { OnErr result (self.new ≡ self.old) }
+        // The first batch is the whole book.
+        ensures first { self.old.book ≡ [] → put_trades trades.now self.old.book ≡ trades.now }
     {
         if let Some(fault) = self.fault_after(alloc, trades)? {
             return Err(SubmitFault::Range(fault));

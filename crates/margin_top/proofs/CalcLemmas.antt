@@ -58,8 +58,8 @@ crif_failed old mid new params_name crif_name p f first finds reads h = record {
 }
 
 -- both files were read
-pub both_read : (old mid new : FolderSeen) (params_name crif_name : List ℕ) (p : Params) (batch trades : List TradeRows) → trades ≡ batch → IsRead old mid no_deeds params_name (λ bytes. params_of bytes ≡ Some p) → IsRead mid new no_deeds crif_name (λ bytes. crif_of bytes ≡ Some batch) → HasBoth params_name crif_name old new p trades
-both_read old mid new params_name crif_name p batch trades e first second = record {
+pub both_read : (old mid new : FolderSeen) (params_name crif_name : List ℕ) (p : Params) (trades : List TradeRows) → IsRead old mid no_deeds params_name (λ bytes. params_of bytes ≡ Some p) → IsRead mid new no_deeds crif_name (λ bytes. crif_of bytes ≡ Some trades) → HasBoth params_name crif_name old new p trades
+both_read old mid new params_name crif_name p trades first second = record {
   param_bytes = first.bytes;
   param_faults = first.faults;
   crif_bytes = second.bytes;
@@ -67,7 +67,7 @@ both_read old mid new params_name crif_name p batch trades e first second = reco
   did = did_more old mid new params_name first.bytes first.faults (with_reading no_deeds crif_name second.bytes second.faults) first.did second.did;
   params = record { whole = first.whole; values = first.so };
   whole = whole_before old mid (with_reading no_deeds params_name first.bytes first.faults) crif_name second.bytes first.did second.whole;
-  values = second.so ∙ ap Some (sym e);
+  values = second.so;
 }
 
 pub nothing_held : (known : Option (List ℕ)) → known ≡ append_known known []

@@ -1,18 +1,22 @@
-ghost use Rattle.std.specs.Prelude.{◌≡◌, ◌≤◌, IfOk, true};
+ghost use Rattle.std.specs.Prelude.{◌≡◌, ◌≤◌, None, Some, Err, IfOk, OnOk, IsTrue, true};
 ghost use Rattle.simm_params.specs.Grammar.{params_of};
 ghost use Rattle.crif_reader.specs.Grammar.{crif_of};
 ghost use Rattle.simm_kinds.specs.Batch.{rows_of};
+ghost use Rattle.simm_rules.specs.declared.values.RangeFault.{RangeFault as Fault};
 ghost use Rattle.simm_rules.specs.Net.{all_fx};
+ghost use Rattle.simm_rules.specs.Range.{range};
+ghost use Rattle.simm_rules.specs.Simm.{simm};
+ghost use Rattle.bucket_cache.specs.declared.fault.SubmitFault.TheVariants as submit;
 ghost use Rattle.margin_top.specs.Files.{FolderSeen, ValueEnds};
 ghost use Rattle.margin_top.specs.Calc.{MarginEnds};
 
 use crate::fault::{CalcFault, FileFault};
 use crate::file::read_file;
+use bucket_cache::{LiveMargin, SubmitFault};
 use crif_reader::{CrifFault, read_batch};
 use mh_io::Folder;
 use simm_kinds::Batch;
 use simm_params::{ParamFault, Params, read_params};
-use simm_plain::{MarginFault, margin};
 use simm_rules::Breakdown;
 use std::alloc::Global;
 
@@ -57,6 +61,18 @@ fn read_crif_file<F: Folder>(alloc: Global, folder: &mut F, name: &str) -> Resul
     }
 }
 
+/// The margin of a batch alone: that of a live margin which took it.
+fn margin_of_batch(alloc: Global, values: Params, batch: &Batch) -> Result<Breakdown, SubmitFault>
+    requires { IsTrue (all_fx (rows_of batch.now)) }
+    ensures in_range { OnOk result (range values (rows_of batch.now) ≡ None) }
+    ensures value { IfOk result (λ margin. margin ≡ simm values (rows_of batch.now)) }
+    ensures range { (fault : Fault) → result ≡ Err (submit.Range fault) → range values (rows_of batch.now) ≡ Some fault }
+{
+    let mut live = LiveMargin::new(alloc, values)?;
+    live.submit(alloc, batch.trades())?;
+    Ok(live.margin(alloc)?)
+}
+
 /// Reads both files, and works out the margin of the batch.
 pub(crate) fn margin_of_files<F: Folder>(
     alloc: Global,
@@ -80,9 +96,9 @@ pub(crate) fn margin_of_files<F: Folder>(
         Ok(batch) => batch,
         Err(fault) => return Err(CalcFault::OfCrif(fault)),
     };
-    match margin(alloc, &values, batch.trades()) {
+    match margin_of_batch(alloc, values, &batch) {
         Ok(margin) => Ok(margin),
-        Err(MarginFault::Range(_)) => Err(CalcFault::OutOfRange),
-        Err(MarginFault::Memory) => Err(CalcFault::Memory),
+        Err(SubmitFault::Range(_)) => Err(CalcFault::OutOfRange),
+        Err(SubmitFault::Memory) => Err(CalcFault::Memory),
     }
 }
