@@ -1,8 +1,9 @@
 -- Lines that are given one after another.
-use Rattle.std.proofs.Common.{◌≡◌, ℕ, Bool, true, false, List, [], ◌∷◌, ◌++◌, Option, Result, Ok, Err, refl, sym, ap, ◌∙◌, subst, append_assoc}
-use Rattle.std.proofs.lemmas.List.{append-nil}
+use Rattle.std.proofs.Common.{◌≡◌, ◌≢◌, ℕ, ◌-◌, Bool, true, false, List, [], ◌∷◌, ◌++◌, Option, Result, Ok, Err, length, take, drop, refl, sym, ap, ◌∙◌, subst, arith, append_assoc, length-drop}
+use Rattle.std.proofs.lemmas.List.{append-nil, take_all}
 use Rattle.std.proofs.lemmas.List.Elements.{All-nil, All-append, All-cons}
 use Rattle.std.proofs.lemmas.Grind.{flat_map-append}
+use Rattle.std.proofs.Math.Seq.{take-append_seam}
 use Rattle.mh_io.specs.Lines.{Stop, Whole, Open, Long, Over}
 use Rattle.mh_io.specs.Lined.{Lined, Gave, lines_given, answer_at}
 use Rattle.mh_io.specs.declared.lines_answer.LineStep.{LineStep}
@@ -27,9 +28,16 @@ pub one_more_inside : (inside : List (List ℕ)) (line : List ℕ) → AreInside
 one_more_inside inside line within is =
     All-append (λ l. is_end l ≡ false) inside (line ∷ []) within (All-cons (λ l. is_end l ≡ false) line [] is no_lines_inside)
 
--- a line that the test for the block's end refused
-pub inner_line : (bytes line : List ℕ) (ends : Bool) → bytes ≡ line → ends ≡ is_end bytes → ends ≡ false → is_end line ≡ false
-inner_line bytes line ends same is refused = sym (ap is_end same) ∙ (sym is ∙ refused)
+-- what the test for the block's end tells of the line that was added
+pub tail_told : (held all before after : List ℕ) (ends told : Bool) → before ≡ held → after ≡ all → ends ≡ is_end (take (length after - length before) (drop (length before) after)) → ends ≡ told → is_end (drop (length held) all) ≡ told
+tail_told held all before after ends told same_held same_all is_tested is_told =
+    let tail : take (length after - length before) (drop (length before) after) ≡ drop (length held) all =
+    rw (same_held, same_all) (take_all (length all - length held) (drop (length held) all) (omega (arith, length-drop (length held) all))) in
+    ap is_end (sym tail) ∙ (sym is_tested ∙ is_told)
+
+-- the added line is taken off
+pub line_off : (held all line : List ℕ) → all ≡ held ++ line → take (length held) all ≡ held
+line_off held all line added = ap (take (length held)) added ∙ take-append_seam held line
 
 -- a block with one more line
 pub block_and : (before : List ℕ) (inside : List (List ℕ)) (line : List ℕ) → (before ++ block_of inside) ++ (line ++ 10 ∷ []) ≡ before ++ block_of (inside ++ line ∷ [])
@@ -46,14 +54,21 @@ module _ {S : Type 0} (faults : S → ℕ) (name gave left : S → Option (List 
   pub then_skips : {a b c : Lined S} (answer : Result LineStep LineFault) (line : List ℕ) → (passed : List (List ℕ)) × ArePassed passed × Gave faults name gave left a b passed → Gave faults name gave left b c (lines_given answer line) → Skips faults name gave left a c answer line
   then_skips answer line so_far next = record { passed = so_far.0; over = so_far.1; lines = then_gave faults name gave left so_far.2 next }
 
-  pub then_encloses : {a b c : Lined S} (answer : Result LineStep LineFault) (line before after : List ℕ) → (inside : List (List ℕ)) × AreInside inside × Gave faults name gave left a b inside × (after ≡ before ++ block_of inside) → Gave faults name gave left b c (lines_given answer line) → Encloses faults name gave left a c answer line before after
-  then_encloses answer line before after so_far next = record { inside = so_far.0; within = so_far.1; lines = then_gave faults name gave left so_far.2 next; block = λ _. so_far.3 }
+  -- the line that ends a block was given behind those within it
+  pub block_ended : {a b c : Lined S} (last before after : List ℕ) → (inside : List (List ℕ)) × AreInside inside × Gave faults name gave left a b inside × (after ≡ before ++ block_of inside) → Gave faults name gave left b c (last ∷ []) → is_end last ≡ true → Encloses faults name gave left a c (Ok Line) before after
+  block_ended last before after so_far next is = record { inside = so_far.0; within = so_far.1; last = last; ends = λ _. is; lines = then_gave faults name gave left so_far.2 next; block = λ _. so_far.3 }
+
+  -- no further line was given
+  pub then_encloses : {a b c : Lined S} (answer : Result LineStep LineFault) (line before after : List ℕ) → answer ≢ Ok Line → (inside : List (List ℕ)) × AreInside inside × Gave faults name gave left a b inside → Gave faults name gave left b c (lines_given answer line) → Encloses faults name gave left a c answer before after
+  then_encloses answer line before after other so_far next = record { inside = so_far.0; within = so_far.1; last = line; ends = λ e. absurd (other e); lines = then_gave faults name gave left so_far.2 next; block = λ e. absurd (other e) }
 
   -- memory was wanted for a line of a block
-  pub line_lost : {a b c : Lined S} (fault : LineFault) (line before after : List ℕ) → (inside : List (List ℕ)) × AreInside inside × Gave faults name gave left a b inside → Gave faults name gave left b c (line ∷ []) → is_end line ≡ false → Encloses faults name gave left a c (Err fault) line before after
+  pub line_lost : {a b c : Lined S} (fault : LineFault) (line before after : List ℕ) → (inside : List (List ℕ)) × AreInside inside × Gave faults name gave left a b inside → Gave faults name gave left b c (line ∷ []) → is_end line ≡ false → Encloses faults name gave left a c (Err fault) before after
   line_lost fault line before after so_far next is = record {
     inside = so_far.0 ++ line ∷ [];
     within = one_more_inside so_far.0 line so_far.1 is;
+    last = [];
+    ends = λ e. absurd (cc e);
     lines = subst (Gave faults name gave left _ _) (sym (append-nil (so_far.0 ++ line ∷ []))) (then_gave faults name gave left so_far.2 next);
     block = λ e. absurd (cc e);
   }

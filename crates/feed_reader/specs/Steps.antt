@@ -43,11 +43,13 @@ module _ {S : Type 0} (faults : S → ℕ) (name gave left : S → Option (List 
     pub over : ArePassed passed
     pub lines : Gave faults name gave left old new (passed ++ lines_given answer line)
 
-  -- lines within a block were given, and then this answer
-  pub record Encloses (old new : Lined S) (answer : Result LineStep LineFault) (line : List ℕ) (before after : List ℕ) : Type 0 where
+  -- lines within a block were given, and then this answer: a line is the last one, which ends the block
+  pub record Encloses (old new : Lined S) (answer : Result LineStep LineFault) (before after : List ℕ) : Type 0 where
     pub inside : List (List ℕ)
     pub within : AreInside inside
-    pub lines : Gave faults name gave left old new (inside ++ lines_given answer line)
+    pub last : List ℕ
+    pub ends : answer ≡ Ok Line → is_end last ≡ true
+    pub lines : Gave faults name gave left old new (inside ++ lines_given answer last)
     pub block : answer ≡ Ok Line → after ≡ before ++ block_of inside
 
 -- the item of these lines, of which the first has the number n, whatever follows

@@ -28,21 +28,18 @@ fn feed_fault(fault: LineFault, next: u32, first: u32) -> FeedFault
     }
 }
 
-/// Reads the block of this set, which the line before began.
+/// Reads the block of this set, which the line that was given last began.
 fn read_crif<S: Source>(
     alloc: Global,
     lines: &mut Lines<S>,
-    line: &mut Bytes,
     set: Name,
 ) -> Result<Option<Fed>, FeedFault>
-    requires opens { meaning_of line.old ≡ Meaning.Opens set }
-    requires full { is_passed_over line.old ≡ false }
-    ensures tells { Tells S.faults S.name S.gave S.left lines.old lines.new line.old result }
+    ensures tells { (line : List ℕ) → is_passed_over line ≡ false → meaning_of line ≡ Meaning.Opens set → Tells S.faults S.name S.gave S.left lines.old lines.new line result }
     ensures bounded { lines.new.passed + length lines.new.pending ≤ MOST_BYTES + 1 }
 {
     let first = lines.given();
     let mut block = Bytes::new(alloc);
-    match read_block(lines, line, &mut block) {
+    match read_block(lines, &mut block) {
         Ok(LineStep::Line) => Ok(Some(Fed {
             line: first,
             message: Message::Crif { set, block },
@@ -56,16 +53,16 @@ fn read_crif<S: Source>(
 fn read_message<S: Source>(
     alloc: Global,
     lines: &mut Lines<S>,
-    line: &mut Bytes,
+    line: &[u8],
 ) -> Result<Option<Fed>, FeedFault>
-    requires full { is_passed_over line.old ≡ false }
+    requires full { is_passed_over line.now ≡ false }
     requires bounded { lines.old.passed + length lines.old.pending ≤ MOST_BYTES + 1 }
-    ensures tells { Tells S.faults S.name S.gave S.left lines.old lines.new line.old result }
+    ensures tells { Tells S.faults S.name S.gave S.left lines.old lines.new line.now result }
     ensures bounded { lines.new.passed + length lines.new.pending ≤ MOST_BYTES + 1 }
 {
     let first = lines.given();
-    match read_line(alloc, line.as_slice()) {
-        Ok(Meaning::Opens { set }) => read_crif(alloc, lines, line, set),
+    match read_line(alloc, line) {
+        Ok(Meaning::Opens { set }) => read_crif(alloc, lines, set),
         Ok(Meaning::Tells { message }) => Ok(Some(Fed {
             line: first,
             message,
@@ -101,7 +98,7 @@ pub fn next_message<S: Source>(
 {
     let mut line = Bytes::new(alloc);
     match skip_to_line(lines, &mut line) {
-        Ok(LineStep::Line) => read_message(alloc, lines, &mut line),
+        Ok(LineStep::Line) => read_message(alloc, lines, line.as_slice()),
         Ok(LineStep::End) => Ok(None),
         Err(fault) => {
             let next = lines.given() + 1;

@@ -1,4 +1,4 @@
-ghost use Rattle.std.specs.Prelude.{◌≡◌, ℕ, ◌+◌, ◌-◌, ◌<◌, ◌≤◌, [], ◌∷◌, take, length, position, Ok, IfOk, IfErr, OnOk, OnErr};
+ghost use Rattle.std.specs.Prelude.{◌≡◌, ℕ, ◌+◌, ◌-◌, ◌<◌, ◌≤◌, [], ◌∷◌, ◌++◌, take, drop, length, position, Ok, IfOk, IfErr, OnOk, OnErr};
 ghost use Rattle.mh_io.specs.Lines.{Stop, is_lf, without_cr};
 ghost use Rattle.mh_io.specs.Lined.{Lined, Gave, IsStopped, ComesWhere, IsLineOnly, lines_given, answer_at};
 ghost use Rattle.mh_io.specs.LinesSteps.{HasNoLf, BeginsLine, IsPart, Shows, Reached, TookMore, turns_left, past};
@@ -150,33 +150,31 @@ impl<S: Source> Lines<S> {
         self.given += 1;
     }
 
-    /// Gives the line at the front that an LF ends.
-    fn give_line(&mut self, line: &mut Bytes, count: usize) -> Result<(), AllocError>
-        requires empty { line.old ≡ [] }
+    /// Adds the line at the front that an LF ends.
+    fn give_line(&mut self, bytes: &mut Bytes, count: usize) -> Result<(), AllocError>
         requires begins { BeginsLine self.old.passed self.old.pending count }
-        ensures ok { OnOk result ((self.new ≡ past self.old (count + 1)) × (line.new ≡ without_cr (take count self.old.pending))) }
+        ensures ok { OnOk result ((self.new ≡ past self.old (count + 1)) × (bytes.new ≡ bytes.old ++ without_cr (take count self.old.pending))) }
         ensures few { OnOk result (self.new.given ≤ MOST_BYTES) }
         ensures bounded { OnOk result (self.new.passed + length self.new.pending ≤ MOST_BYTES + 1) }
-        ensures err { OnErr result ((self.new ≡ self.old) × (line.new ≡ [])) }
+        ensures err { OnErr result ((self.new ≡ self.old) × (bytes.new ≡ bytes.old)) }
     {
-        line.extend(without_cr(&self.window.bytes()[..count]))?;
+        bytes.extend(without_cr(&self.window.bytes()[..count]))?;
         self.pass(count + 1);
         Ok(())
     }
 
-    /// Gives the last bytes as a line, of which there are some.
-    fn give_last(&mut self, line: &mut Bytes) -> Result<(), AllocError>
-        requires empty { line.old ≡ [] }
+    /// Adds the last bytes as a line, of which there are some.
+    fn give_last(&mut self, bytes: &mut Bytes) -> Result<(), AllocError>
         requires part { IsPart self.old.passed self.old.pending }
         requires some { 0 < length self.old.pending }
-        ensures ok { OnOk result ((self.new ≡ past self.old (length self.old.pending)) × (line.new ≡ self.old.pending)) }
+        ensures ok { OnOk result ((self.new ≡ past self.old (length self.old.pending)) × (bytes.new ≡ bytes.old ++ self.old.pending)) }
         ensures few { OnOk result (self.new.given ≤ MOST_BYTES) }
         ensures bounded { OnOk result (self.new.passed + length self.new.pending ≤ MOST_BYTES + 1) }
-        ensures err { OnErr result ((self.new ≡ self.old) × (line.new ≡ [])) }
+        ensures err { OnErr result ((self.new ≡ self.old) × (bytes.new ≡ bytes.old)) }
     {
         let rest = self.window.bytes();
         let count = rest.len();
-        line.extend(rest)?;
+        bytes.extend(rest)?;
         self.pass(count);
         Ok(())
     }
@@ -203,10 +201,33 @@ impl<S: Source> Lines<S> {
         ensures again { (stop : Stop) → IsStopped self.old stop → (self.new ≡ self.old) × (result ≡ answer_at stop) }
     {
         line.clear();
+        self.append_line(line)
+    }
+
+    /// Adds the next line, without its LF and a CR before it, at the end of `bytes`; at every other answer `bytes` stays
+    /// as it was.
+    ///
+    /// `End` comes where it does at `next_line`.
+    ///
+    /// # Errors
+    ///
+    /// Those of `next_line`, each where it has it. After `Memory` the next call answers the same line.
+    pub fn append_line(&mut self, bytes: &mut Bytes) -> Result<LineStep, LineFault>
+        // The line is what was added.
+        ensures gave { Gave S.faults S.name S.gave S.left self.old self.new (lines_given result (drop (length bytes.old) bytes.new)) }
+        ensures added { bytes.new ≡ bytes.old ++ drop (length bytes.old) bytes.new }
+        ensures comes { ComesWhere result self.new }
+        ensures line_only { IsLineOnly result (drop (length bytes.old) bytes.new) }
+        ensures few { result ≡ Ok LineStep.Line → self.new.given ≤ MOST_BYTES }
+        // No more bytes were taken in all.
+        ensures bounded { self.new.passed + length self.new.pending ≤ MOST_BYTES + 1 }
+        // Where no line is left, and the bytes stop for good, the answer is the one of the way in which they stop.
+        ensures again { (stop : Stop) → IsStopped self.old stop → (self.new ≡ self.old) × (result ≡ answer_at stop) }
+    {
         match self.reach()? {
-            Front::Line { count } => self.give_line(line, count)?,
+            Front::Line { count } => self.give_line(bytes, count)?,
             Front::Last if self.window.bytes().is_empty() => return Ok(LineStep::End),
-            Front::Last => self.give_last(line)?,
+            Front::Last => self.give_last(bytes)?,
         }
         Ok(LineStep::Line)
     }

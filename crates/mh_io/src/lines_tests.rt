@@ -206,3 +206,18 @@ fn hands_the_source_back(rt: HostRuntime) -> Result<(), Fail> {
     assert_eq!(rt; lines.give_back().left, usize::MAX - LINE_BYTES);
     Ok(())
 }
+
+#[test]
+fn appends_a_line(rt: HostRuntime) -> Result<(), Fail> {
+    let alloc = rt.alloc();
+    let source = MemSource::new(alloc, bytes_of(alloc, b"cd\r\n")?, 3, Vec::new(alloc));
+    let Ok(mut lines) = lines_of(alloc, source) else {
+        return Err(AllocError.into());
+    };
+    let mut bytes = bytes_of(alloc, b"ab")?;
+    assert_eq!(rt; lines.append_line(&mut bytes), Ok(LineStep::Line));
+    assert_eq!(rt; bytes.as_slice(), b"abcd".as_slice());
+    assert_eq!(rt; lines.append_line(&mut bytes), Ok(LineStep::End));
+    assert_eq!(rt; bytes.as_slice(), b"abcd".as_slice());
+    Ok(())
+}

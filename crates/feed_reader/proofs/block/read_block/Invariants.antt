@@ -6,8 +6,8 @@ use Rattle.feed_reader.specs.Steps.{AreInside}
 use Rattle.feed_reader.proofs.block.read_block.Given as goal
 
 -- the lines so far lie within the block
-abbrev pub invariant-loop-line : goal.invariant-loop-line
-invariant-loop-line g l = (inside : List (List ℕ)) × AreInside inside × Gave g.S.Source.faults g.S.Source.name g.S.Source.gave g.S.Source.left l.initial.lines l.lines inside × (l.block ≡ l.initial.block ++ block_of inside)
+abbrev pub invariant-loop-block : goal.invariant-loop-block
+invariant-loop-block g l = (inside : List (List ℕ)) × AreInside inside × Gave g.S.Source.faults g.S.Source.name g.S.Source.gave g.S.Source.left l.initial.lines l.lines inside × (l.block ≡ l.initial.block ++ block_of inside)
 
-abbrev pub decreases-loop-line : goal.decreases-loop-line
-decreases-loop-line g l = MOST_BYTES - l.lines.given
+abbrev pub decreases-loop-block : goal.decreases-loop-block
+decreases-loop-block g l = MOST_BYTES - l.lines.given

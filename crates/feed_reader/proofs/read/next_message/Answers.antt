@@ -9,7 +9,7 @@ use Rattle.feed_reader.proofs.read.next_message.Goals as goal
 pub returns-in-Ok-Line : goal.returns-in-Ok-Line
 returns-in-Ok-Line g c =
     let s = rw c.in-Ok-Line.field-0-is at c.in-Ok-Line.ensures.skips in
-    let t = c.read_message.ensures.tells in
+    let t = rw c.as_slice.ensures at c.read_message.ensures.tells in
     let line = c.skip_to_line.new.line in
     let given : Gave g.S.Source.faults g.S.Source.name g.S.Source.gave g.S.Source.left c.args.lines.now c.read_message.new.lines (s.passed ++ line ∷ t.further) =
     subst (Gave g.S.Source.faults g.S.Source.name g.S.Source.gave g.S.Source.left c.args.lines.now c.read_message.new.lines) (append_assoc s.passed (line ∷ []) t.further) (then_gave g.S.Source.faults g.S.Source.name g.S.Source.gave g.S.Source.left s.lines t.lines) in

@@ -1,4 +1,4 @@
-use Rattle.std.proofs.Common.{◌≡◌, [], sym, ap, ◌∙◌}
+use Rattle.std.proofs.Common.{◌≡◌, [], sym, ◌∙◌}
 use Rattle.mh_io.proofs.LinesTaken.{gave_none}
 use Rattle.feed_reader.specs.declared.message.Meaning.TheVariants as meaning
 use Rattle.feed_reader.specs.Line.{meaning_of}
@@ -7,7 +7,7 @@ use Rattle.feed_reader.proofs.read.read_message.Goals as goal
 
 pub returns-in-Ok-Tells-clause-tells : goal.returns-in-Ok-Tells-clause-tells
 returns-in-Ok-Tells-clause-tells g c =
-    let is : meaning_of c.args.line.now ≡ meaning.Tells c.in-Ok-Tells.message = ap meaning_of (sym c.as_slice.ensures) ∙ (sym c.in-Ok-Tells.ensures ∙ c.in-Ok-Tells.field-0-is) in
+    let is : meaning_of c.args.line.now ≡ meaning.Tells c.in-Ok-Tells.message = sym c.in-Ok-Tells.ensures ∙ c.in-Ok-Tells.field-0-is in
     record {
       further = [];
       lines = gave_none g.S.Source.faults g.S.Source.name g.S.Source.gave g.S.Source.left c.args.lines.now;
@@ -16,7 +16,7 @@ returns-in-Ok-Tells-clause-tells g c =
 
 pub returns-in-Ok-Bad-clause-tells : goal.returns-in-Ok-Bad-clause-tells
 returns-in-Ok-Bad-clause-tells g c =
-    let is : meaning_of c.args.line.now ≡ meaning.Bad = ap meaning_of (sym c.as_slice.ensures) ∙ (sym c.in-Ok-Bad.ensures ∙ c.in-Ok-Bad.field-0-is) in
+    let is : meaning_of c.args.line.now ≡ meaning.Bad = sym c.in-Ok-Bad.ensures ∙ c.in-Ok-Bad.field-0-is in
     record {
       further = [];
       lines = gave_none g.S.Source.faults g.S.Source.name g.S.Source.gave g.S.Source.left c.args.lines.now;
