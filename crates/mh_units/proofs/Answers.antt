@@ -77,7 +77,7 @@ value_from places most size text r small some short good k fits e =
 
 -- ---- exact values
 
-nil_of : (xs : List ℕ) → length xs ≡ 0 → xs ≡ []
+pub nil_of : (xs : List ℕ) → length xs ≡ 0 → xs ≡ []
 nil_of [] e = refl
 nil_of (x ∷ xs) e = absurd (omega (arith, e))
 

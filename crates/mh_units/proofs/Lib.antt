@@ -5,5 +5,6 @@ pub mod Numbers
 pub mod Digits
 pub mod Apart
 pub mod Answers
+pub mod Written
 pub mod Scans
 pub mod Fronts

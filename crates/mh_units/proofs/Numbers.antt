@@ -66,13 +66,40 @@ capped_times n m cap h = ⊎_elim
 
 -- ---- to the nearest
 
-pub nearest_is : (top bottom : ℕ) → 0 < bottom → IsNearest top bottom (nearest top bottom)
-nearest_is top bottom h =
+-- at most half a unit above the fraction, and less than half a unit below it
+record IsHalf (top bottom n : ℕ) : Type 0 where
+  pub above : 2 * (n * bottom) ≤ 2 * top + bottom
+  pub below : 2 * top < 2 * (n * bottom) + bottom
+
+half_is : (top bottom : ℕ) → 0 < bottom → IsHalf top bottom (nearest top bottom)
+half_is top bottom h =
     let q : ℕ = nearest top bottom in
     let whole : q * (2 * bottom) + (2 * top + bottom) % (2 * bottom) ≡ 2 * top + bottom = div-add-mod' (2 * top + bottom) (2 * bottom) in
     let rest : (2 * top + bottom) % (2 * bottom) < 2 * bottom = mod_below (2 * top + bottom) (2 * bottom) (omega arith) in
     let twice : q * (2 * bottom) ≡ 2 * (q * bottom) = omega arith in
     record { above = omega (arith, whole, twice); below = omega (arith, whole, rest, twice) }
+
+-- a number after another is a unit or more after it
+unit_after : (m n bottom : ℕ) → m < n → m * bottom + bottom ≤ n * bottom
+unit_after m n bottom h = let e : (m + 1) * bottom ≤ n * bottom = mul-le-mul_right bottom (omega arith) in omega (arith, e)
+
+nearest_from : (top bottom n : ℕ) → 0 < bottom → IsHalf top bottom n → IsNearest top bottom n
+nearest_from top bottom n some half = record {
+  least = λ m. ⊎_elim
+      (λ below. let unit = unit_after m n bottom below in omega (arith, unit, half.above))
+      (λ from. ⊎_elim
+      (λ above. let unit = unit_after n m bottom above in omega (arith, unit, half.below))
+      (λ to. let same : m ≡ n = omega arith in rw same (omega arith))
+      (cases_lt n m))
+      (cases_lt m n);
+  greatest = λ m far. ⊎_elim
+      (λ above. let unit = unit_after n m bottom above in absurd (omega (arith, unit, far, half.above, half.below)))
+      (λ to. to)
+      (cases_lt n m);
+}
+
+pub nearest_is : (top bottom : ℕ) → 0 < bottom → IsNearest top bottom (nearest top bottom)
+nearest_is top bottom h = nearest_from top bottom (nearest top bottom) h (half_is top bottom h)
 
 pub nearest_scale : (a b k : ℕ) → 0 < k → nearest (a * k) (b * k) ≡ nearest a b
 nearest_scale a b k h =
@@ -86,7 +113,7 @@ nearest_whole a = div-eq_of_lt-le {k = a} (2 * 1) (omega arith) (omega arith)
 pub nearest_small : (a b : ℕ) → 2 * a < b → nearest a b ≡ 0
 nearest_small a b h = div-eq_of_lt (omega arith)
 
-ten_positive : (k : ℕ) → 0 < 10 ^ k
+pub ten_positive : (k : ℕ) → 0 < 10 ^ k
 ten_positive k = one-le-pow k 10 (omega arith)
 
 pub shift_up : (m up down : ℕ) → down ≤ up → nearest (m * 10 ^ up) (10 ^ down) ≡ m * 10 ^ (up - down)

@@ -1,5 +1,5 @@
 -- The value of a numeral, and what reading one answers.
-use Rattle.std.specs.Prelude.{◌≡◌, ◌⊎◌, ℕ, ◌+◌, ◌-◌, ◌*◌, ◌/◌, ◌^◌, ◌<◌, ◌≤◌, Bool, false, not, ◌&&◌, ◌||◌, ◌==◌, nat_lt, nat_le, if◌then◌else◌, List, [], ◌∷◌, ◌++◌, length, drop, take_while, ℤ, pos, neg_ℤ, Option, Some, None, Result, Ok, Err}
+use Rattle.std.specs.Prelude.{◌≡◌, ◌⊎◌, ℕ, ◌+◌, ◌-◌, ◌*◌, ◌/◌, ◌^◌, ◌<◌, ◌≤◌, Bool, false, not, ◌&&◌, ◌||◌, ◌==◌, nat_lt, nat_le, if◌then◌else◌, List, [], ◌∷◌, ◌++◌, length, drop, take_while, ℤ, pos, neg_ℤ, unsigned_abs, Option, Some, None, Result, Ok, Err}
 use Rattle.std.specs.List.{prefix_len}
 use Rattle.std.specs.Result.{result_map_both}
 use Rattle.std.specs.Char.{is_ascii_digit}
@@ -82,11 +82,6 @@ number text = number_after 0 text
 abbrev pub nearest : ℕ → ℕ → ℕ
 nearest top bottom = (2 * top + bottom) / (2 * bottom)
 
--- n is at most half a unit above the fraction, and less than half a unit below it
-pub record IsNearest (top bottom n : ℕ) : Type 0 where
-  pub above : 2 * (n * bottom) ≤ 2 * top + bottom
-  pub below : 2 * top < 2 * (n * bottom) + bottom
-
 -- The digits' number, less one power of ten for each digit behind the point, times ten to the power of the exponent and of
 -- places, rounded to the nearest.
 abbrev pub scaled : ℕ → List ℕ → List ℕ → Bool → List ℕ → ℕ
@@ -106,6 +101,36 @@ with_sign negative n = if negative then neg_ℤ (pos n) else pos n
 -- that size with the numeral's sign
 abbrev pub signed : List ℕ → ℕ → ℤ
 signed text n = with_sign (is_minus text) n
+
+-- ---- the value by the written number
+
+-- The number that a numeral writes is, without its sign, this top over this bottom: the digits' number, times ten to the power
+-- of the exponent, less one power of ten for each digit behind the point.
+abbrev pub written_top : List ℕ → ℕ
+written_top text = number (whole text ++ fraction text) * (if is_minus (exponent text) then 1 else 10 ^ number (exponent_digits text))
+
+abbrev pub written_bottom : List ℕ → ℕ
+written_bottom text = 10 ^ length (fraction text) * (if is_minus (exponent text) then 10 ^ number (exponent_digits text) else 1)
+
+-- how far apart two numbers are
+abbrev pub distance : ℕ → ℕ → ℕ
+distance a b = (a - b) + (b - a)
+
+-- No whole number is nearer to the fraction than n is, and each other that is as near is less.
+pub record IsNearest (top bottom n : ℕ) : Type 0 where
+  pub least : (m : ℕ) → distance (n * bottom) top ≤ distance (m * bottom) top
+  pub greatest : (m : ℕ) → distance (m * bottom) top ≡ distance (n * bottom) top → m ≤ n
+
+-- n is the whole number nearest to the written number times 10 to the power of places; of two that are as near, the one farther
+-- from zero
+pub record IsRounded (places : ℕ) (text : List ℕ) (n : ℤ) : Type 0 where
+  pub sign : n ≡ signed text (unsigned_abs n)
+  pub size : IsNearest (written_top text * 10 ^ places) (written_bottom text) (unsigned_abs n)
+
+-- n is the written number times 10 to the power of places, and nothing was rounded
+pub record IsExact (places : ℕ) (text : List ℕ) (n : ℤ) : Type 0 where
+  pub sign : n ≡ signed text (unsigned_abs n)
+  pub size : unsigned_abs n * written_bottom text ≡ written_top text * 10 ^ places
 
 -- ---- what reading answers
 

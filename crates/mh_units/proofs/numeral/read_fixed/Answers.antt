@@ -3,6 +3,7 @@ use Rattle.std.proofs.lemmas.Bool.{eqb-false}
 use Rattle.std.specs.Result.{result_ok}
 use Rattle.mh_units.specs.Numeral.{fixed_of}
 use Rattle.mh_units.proofs.Answers.{fixed_answer, fixed_none_rest, fixed_none_long, fixed_from}
+use Rattle.mh_units.proofs.Written.{option_exact}
 use Rattle.mh_units.proofs.numeral.read_fixed.Goals as goal
 use Rattle.mh_units.proofs.numeral.read_fixed.Goals.{then-not-is_empty-via-then-not-is_empty, then-not-is_empty-via-else-not-is_empty+then-parts-places}
 
@@ -36,3 +37,9 @@ returns-clause-value c = value_is c
 
 pub returns-clause-answer : goal.returns-clause-answer
 returns-clause-answer c = fixed_answer c.args.places c.args.text.now c.ok.result (value_is c)
+
+pub returns-then-not-is_empty-clause-exact : goal.returns-then-not-is_empty-clause-exact
+returns-then-not-is_empty-clause-exact c = tt
+
+pub returns-clause-exact : goal.returns-clause-exact
+returns-clause-exact c = option_exact c.args.places c.args.text.now c.ok.result (fixed_answer c.args.places c.args.text.now c.ok.result (value_is c))
