@@ -1,6 +1,6 @@
 -- What giving a line, or a fault, means for the lines of all that is taken.
 use Rattle.std.proofs.Common.{◌≡◌, ℕ, ◌+◌, ◌<◌, ◌≤◌, Bool, true, false, List, [], ◌∷◌, ◌++◌, Option, Err, length, take, drop, refl, sym, ap, ◌∙◌, arith, append_assoc}
-use Rattle.std.proofs.lemmas.List.{append-nil, length-take-le, drop_all}
+use Rattle.std.proofs.lemmas.List.{append-nil, length-take-le, length-drop, drop_all}
 use Rattle.std.proofs.lemmas.List.Elements.{All-nil}
 use Rattle.mh_io.specs.Lines.{LineRun, Stop, Whole, Open, Long, Over, stopped, with_lines, is_lf, lines_behind, without_cr}
 use Rattle.mh_io.specs.Lined.{Lined, Took, Gave, IsStopped, ComesWhere, answer_at, is_ended, lines_with, lines_now}
@@ -75,8 +75,10 @@ fault_again held (TooLong taken) stop shows is_stopped = rw shows.1 (ap answer_a
 fault_again held Memory stop shows is_stopped = absurd shows
 
 module _ {S : Type 0} (faults : S → ℕ) (name gave left : S → Option (List ℕ)) where
-  took_past : {a b : Lined S} {taken : List ℕ} (count : ℕ) → Took faults name gave left a b taken → Took faults name gave left a (past b count) taken
-  took_past count took = record { takes = took.takes; count = took.count; named = took.named; failed = took.failed; at_end = took.at_end; stays = took.stays; rests = took.rests; came = took.came }
+  took_past : {a b : Lined S} {taken : List ℕ} (count : ℕ) → count ≤ length b.pending → Took faults name gave left a b taken → Took faults name gave left a (past b count) taken
+  took_past {a} {b} count there took =
+      let same : b.passed + count + length (drop count b.pending) ≡ b.passed + length b.pending = omega (arith, length-drop count b.pending) in
+      record { takes = took.takes; count = took.count; named = took.named; total = same ∙ took.total; few = λ few. omega (arith, same, took.few few); failed = took.failed; at_end = took.at_end; stays = took.stays; rests = took.rests; came = took.came }
 
   -- the bytes that were taken, as they wait
   taken_with : {a b : Lined S} (more : TookMore faults name gave left a b) (later : List ℕ) (ended : Bool) → lines_with a (more.taken ++ later) ended ≡ lines_with b later ended
@@ -85,7 +87,7 @@ module _ {S : Type 0} (faults : S → ℕ) (name gave left : S → Option (List 
   pub gave_line : {a b : Lined S} (count : ℕ) → TookMore faults name gave left a b → BeginsLine b.passed b.pending count → Gave faults name gave left a (past b (count + 1)) (without_cr (take count b.pending) ∷ [])
   gave_line {a} {b} count more begins = record {
     taken = more.taken;
-    took = took_past (count + 1) more.took;
+    took = took_past (count + 1) (let there = begins.there in omega arith) more.took;
     lines = λ later ended _. taken_with more later ended ∙ line_with b.passed count b.pending later ended begins;
     count = ap (λ n. n + 1) more.given;
   }
@@ -93,7 +95,7 @@ module _ {S : Type 0} (faults : S → ℕ) (name gave left : S → Option (List 
   pub gave_last : {a b : Lined S} → TookMore faults name gave left a b → IsPart b.passed b.pending → b.supply ≡ supply.Ended → 0 < length b.pending → Gave faults name gave left a (past b (length b.pending)) (b.pending ∷ [])
   gave_last {a} {b} more part over some = record {
     taken = more.taken;
-    took = took_past (length b.pending) more.took;
+    took = took_past (length b.pending) (omega arith) more.took;
     lines = λ later ended can.
         let none : (later ≡ []) × (ended ≡ true) = rw over at can in
         let all : drop (length b.pending) b.pending ++ later ≡ [] = rw (none.0, drop_all (length b.pending) b.pending (omega arith)) refl in

@@ -29,6 +29,8 @@ module _ {S : Type 0} (faults : S → ℕ) (name gave left : S → Option (List 
       takes = rw (same_gave, same_left) (nothing_taken (gave old.source) (left old.source));
       count = rises.kept;
       named = named;
+      total = rw (passed, pending) (omega arith);
+      few = λ few. rw (passed, pending) few;
       failed = λ _ _. rises;
       at_end = λ _ is_ended. absurd (cc (is_failed, is_ended));
       stays = λ is_other. absurd (is_other is_open);
@@ -46,6 +48,8 @@ module _ {S : Type 0} (faults : S → ℕ) (name gave left : S → Option (List 
     takes = nothing_taken (gave held.source) (left held.source);
     count = omega arith;
     named = refl;
+    total = omega arith;
+    few = λ few. few;
     failed = λ is_open is_failed. absurd (cc (is_open, is_failed));
     at_end = λ is_open is_ended. absurd (cc (is_open, is_ended));
     stays = λ _. refl;
@@ -59,6 +63,8 @@ module _ {S : Type 0} (faults : S → ℕ) (name gave left : S → Option (List 
     takes = then_taken first.takes second.takes;
     count = let k = first.count in let l = second.count in omega arith;
     named = second.named ∙ first.named;
+    total = omega (arith, first.total, second.total, length-append xs ys);
+    few = λ few. second.few (first.few few);
     failed = λ is_open is_failed. elim (open_or_not b.supply) [
       | inl still ↦ rises_later first.count (second.failed still is_failed)
       | inr over ↦ rw (second.rests over) (first.failed is_open (sym (second.stays over) ∙ is_failed))

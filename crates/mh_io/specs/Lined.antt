@@ -41,12 +41,15 @@ abbrev pub lines_now : {S : Type 0} → Lined S → LineRun
 lines_now held = lines_behind held.passed held.pending (is_ended held.supply)
 
 module _ {S : Type 0} (faults : S → ℕ) (name gave left : S → Option (List ℕ)) where
-  -- these bytes were taken from the source, which keeps its name and loses no fault. It failed only where a fault was
-  -- met, ended only where nothing is left, and isn't asked again
+  -- These bytes were taken from the source, which keeps its name and loses no fault. Each of them was given or waits, and
+  -- there are no more than 33,554,433 in all. The source failed only where a fault was met, ended only where nothing is
+  -- left, and isn't asked again.
   pub record Took (old new : Lined S) (taken : List ℕ) : Type 0 where
     pub takes : Takes (gave old.source) (gave new.source) (left old.source) (left new.source) taken
     pub count : faults old.source ≤ faults new.source
     pub named : name new.source ≡ name old.source
+    pub total : new.passed + length new.pending ≡ old.passed + length old.pending + length taken
+    pub few : old.passed + length old.pending ≤ MOST_BYTES + 1 → new.passed + length new.pending ≤ MOST_BYTES + 1
     pub failed : old.supply ≡ supply.Open → new.supply ≡ supply.Failed → Rises (faults old.source) (faults new.source)
     pub at_end : old.supply ≡ supply.Open → new.supply ≡ supply.Ended → IsAtEnd (left new.source)
     pub stays : old.supply ≢ supply.Open → new.supply ≡ old.supply
