@@ -5,9 +5,9 @@ use Rattle.std.proofs.lemmas.Int.{ints, unsigned_abs-mul}
 use Rattle.simm_kinds.specs.declared.kinds.RiskType.{RiskType}
 use Rattle.simm_kinds.specs.declared.kinds.RiskType.TheVariants as kind
 use Rattle.simm_kinds.specs.Key.{Key}
-use Rattle.simm_kinds.specs.Order.{same_name}
+use Rattle.simm_kinds.specs.Order.{same_name, same_key}
 use Rattle.simm_rules.specs.Params.{Params}
-use Rattle.simm_rules.specs.Lookups.{is_listed, is_high, fx_weight, weight_of, fx_threshold, delta_threshold_of, fx_rho, delta_rho_of}
+use Rattle.simm_rules.specs.Lookups.{is_listed, is_high, fx_weight, weight_of, fx_threshold, delta_threshold_of, fx_rho, delta_rho_of, delta_rho}
 use Rattle.simm_params.specs.Ranges.{weights, correlations, thresholds, IsWithin, IsThick}
 use Rattle.simm_params.specs.Facts.{IsFxThreshold, IsFxParams, IsWeighed}
 
@@ -59,8 +59,11 @@ fx_rho-is p a b h =
     chosen (IsWithin correlations) (is_high p a && is_high p b) p.fx.high_rho _ h.high_rho
     (chosen (IsWithin correlations) (is_high p a || is_high p b) p.fx.mixed_rho p.fx.regular_rho h.mixed_rho h.regular_rho)
 
-pub correlated : (r : RiskType) (p : Params) (k l : Key) → IsFxParams p.fx → unsigned_abs (delta_rho_of r p k l) ≤ 1000000
-correlated kind.Fx p k l h =
+differing : (r : RiskType) (p : Params) (k l : Key) → IsFxParams p.fx → unsigned_abs (delta_rho_of r p k l) ≤ 1000000
+differing kind.Fx p k l h =
     let rho = fx_rho p k.qualifier l.qualifier in
     omega (arith, unsigned_abs-mul (pos 100) rho, size_of rho (fx_rho-is p k.qualifier l.qualifier h))
-correlated _ p k l h = omega arith
+differing _ p k l h = omega arith
+
+pub correlated : (p : Params) (k l : Key) → IsFxParams p.fx → unsigned_abs (delta_rho p k l) ≤ 1000000
+correlated p k l h = chosen (λ r. unsigned_abs r ≤ 1000000) (same_key k l) (pos 1000000) (delta_rho_of k.kind p k l) (omega arith) (differing k.kind p k l h)

@@ -1,7 +1,7 @@
 ghost use Rattle.std.specs.Prelude.{◌≡◌, List, ℕ, IfOk, ◌≤◌, unsigned_abs};
 ghost use Rattle.simm_kinds.specs.Key.{Key};
 ghost use Rattle.simm_kinds.specs.Order.{same_name};
-ghost use Rattle.simm_rules.specs.Lookups.{weight, delta_threshold, delta_rho, fx_rho, fx_weight};
+ghost use Rattle.simm_rules.specs.Lookups.{weight, delta_threshold, delta_rho, delta_rho_of, fx_rho, fx_weight};
 ghost use Rattle.simm_params.specs.Categories.{volatility, concentration, category_rho, category_threshold};
 ghost use Rattle.simm_params.specs.Facts.{IsParams, IsFxParams, IsWeighed};
 ghost use Rattle.simm_params.specs.FxView.{fx_view};
@@ -10,7 +10,7 @@ use crate::category::{ConcentrationCategory, VolatilityCategory};
 use crate::currency::Currency;
 use crate::fx::FxParams;
 use mh_units::{Corr6, Rate4};
-use simm_kinds::{FactorKey, Name, RiskType};
+use simm_kinds::{FactorKey, Name, RiskType, orders_are_defined};
 use std::alloc::{AllocError, Global};
 use std::marker::Model;
 
@@ -144,9 +144,21 @@ impl Params {
         }
     }
 
-    /// The correlation of two different keys of one bucket, in millionths.
+    /// The correlation of two keys of one bucket, in millionths: 1 of a key with itself.
     pub fn delta_rho(&self, a: &FactorKey, b: &FactorKey) -> Corr6
         ensures value { result.0 ≡ delta_rho self.now a.now b.now }
+        ensures size { unsigned_abs result.0 ≤ 1000000 }
+    {
+        orders_are_defined();
+        if a.cmp(b).is_eq() {
+            Corr6(1_000_000)
+        } else {
+            self.rho_of_different(a, b)
+        }
+    }
+
+    fn rho_of_different(&self, a: &FactorKey, b: &FactorKey) -> Corr6
+        ensures value { result.0 ≡ delta_rho_of a.now.kind self.now a.now b.now }
         ensures size { unsigned_abs result.0 ≤ 1000000 }
     {
         match a.kind() {

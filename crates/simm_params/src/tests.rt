@@ -117,9 +117,13 @@ fn correlates(rt: HostRuntime) -> Result<(), Fail> {
     let params = read(alloc, file(alloc, 8, "")?.as_bytes())?;
     let high = key(alloc, "BRL")?;
     let regular = key(alloc, "GBP")?;
-    assert_eq!(rt; params.delta_rho(&regular, &regular), Corr6(500_000));
+    let other = key(alloc, "EUR")?;
+    let other_high = key(alloc, "TRY")?;
+    assert_eq!(rt; params.delta_rho(&regular, &regular), Corr6(1_000_000));
+    assert_eq!(rt; params.delta_rho(&high, &high), Corr6(1_000_000));
+    assert_eq!(rt; params.delta_rho(&regular, &other), Corr6(500_000));
     assert_eq!(rt; params.delta_rho(&regular, &high), Corr6(250_000));
-    assert_eq!(rt; params.delta_rho(&high, &high), Corr6(-1_000_000));
+    assert_eq!(rt; params.delta_rho(&high, &other_high), Corr6(-1_000_000));
     assert_eq!(rt;
         params.volatility_category(&regular),
         VolatilityCategory::Regular

@@ -13,7 +13,7 @@ use Rattle.simm_kinds.specs.declared.kinds.ProductClass.TheVariants as product
 use Rattle.simm_kinds.specs.Key.{Key}
 use Rattle.simm_kinds.specs.Order.{same_key, key_cmp}
 use Rattle.simm_rules.specs.Params.{Params}
-use Rattle.simm_rules.specs.Lookups.{weight, delta_threshold, delta_rho, is_high}
+use Rattle.simm_rules.specs.Lookups.{weight, delta_threshold, delta_rho_of, is_high}
 use Rattle.simm_rules.specs.Concentration.{one, ratio, cr}
 use Rattle.simm_rules.specs.Delta.{combined}
 use Rattle.simm_params.specs.declared.category.VolatilityCategory.{VolatilityCategory}
@@ -58,11 +58,16 @@ by_category p true false = refl
 by_category p false true = refl
 by_category p false false = refl
 
+-- the correlation of a key with itself is 1 twice over
+rho_once : (t : Bool) (x f : ℤ) → (if t then one else combined x f) ≡ (if t then one else combined (if t then pos 1000000 else x) f)
+rho_once true x f = refl
+rho_once false x f = refl
+
 -- the table's correlation is the parameters'
-table_rho : (p : Params) (rhos : Rhos) → ((a b : VolatilityCategory) → rho_of rhos a b ≡ pos 100 *ℤ category_rho p a b) → (k l : Key) → IsFxKey k → rho_of rhos (volatility p k.qualifier) (volatility p l.qualifier) ≡ delta_rho p k l
+table_rho : (p : Params) (rhos : Rhos) → ((a b : VolatilityCategory) → rho_of rhos a b ≡ pos 100 *ℤ category_rho p a b) → (k l : Key) → IsFxKey k → rho_of rhos (volatility p k.qualifier) (volatility p l.qualifier) ≡ delta_rho_of k.kind p k l
 table_rho p rhos table k l f =
     table (volatility p k.qualifier) (volatility p l.qualifier) ∙ ap (λ z. pos 100 *ℤ z) (by_category p (is_high p k.qualifier) (is_high p l.qualifier))
-    ∙ sym (ap (λ x. delta_rho p x l) f)
+    ∙ sym (ap (λ x. delta_rho_of x.kind p x l) f)
 
 pub table_of : (p : Params) (rhos : Rhos) → rhos.regular.0 ≡ pos 100 *ℤ p.fx.regular_rho → rhos.mixed.0 ≡ pos 100 *ℤ p.fx.mixed_rho → rhos.high.0 ≡ pos 100 *ℤ p.fx.high_rho → (a b : VolatilityCategory) → rho_of rhos a b ≡ pos 100 *ℤ category_rho p a b
 table_of p rhos r m h High High = h
@@ -71,7 +76,7 @@ table_of p rhos r m h Regular High = m
 table_of p rhos r m h Regular Regular = r
 
 module _ (p : Params) (rhos : Rhos) (table : (a b : VolatilityCategory) → rho_of rhos a b ≡ pos 100 *ℤ category_rho p a b) where
-  corr_is : (e f : Key × ℤ) → IsFxKey e.0 → place_corr rhos (place_of p e) (place_of p f) ≡ combined (delta_rho p e.0 f.0) (ratio (factor_cr p e) (factor_cr p f))
+  corr_is : (e f : Key × ℤ) → IsFxKey e.0 → place_corr rhos (place_of p e) (place_of p f) ≡ combined (delta_rho_of e.0.kind p e.0 f.0) (ratio (factor_cr p e) (factor_cr p f))
   corr_is e f g = ap (λ z. combined z (ratio (factor_cr p e) (factor_cr p f))) (table_rho p rhos table e.0 f.0 g)
 
   places_corr : (es : List (Key × ℤ)) (places : List Place) (d : Key × ℤ) → places ≡ map (place_of p) es → AllByRecursion (IsFactor p) es → Ascends key_cmp (map (λ e. e.0) es) → (i j : ℕ) → i < length es → j < length es → corr_at rhos places i j ≡ factor_corr p (get_or es i d) (get_or es j d)
@@ -87,7 +92,8 @@ module _ (p : Params) (rhos : Rhos) (table : (a b : VolatilityCategory) → rho_
       ap (λ a. if i == j then one else place_corr rhos a (place_at places j)) first
       ∙ ap (λ b. if i == j then one else place_corr rhos (place_of p (get_or es i d)) b) second
       ∙ ap (λ z. if i == j then one else z) (corr_is (get_or es i d) (get_or es j d) (each_at (IsFactor p) es i d each l).fx)
-      ∙ ap (λ t. if t then one else combined (delta_rho p (get_or es i d).0 (get_or es j d).0) (ratio (factor_cr p (get_or es i d)) (factor_cr p (get_or es j d)))) (sym same)
+      ∙ ap (λ t. if t then one else combined (delta_rho_of (get_or es i d).0.kind p (get_or es i d).0 (get_or es j d).0) (ratio (factor_cr p (get_or es i d)) (factor_cr p (get_or es j d)))) (sym same)
+      ∙ rho_once (same_key (get_or es i d).0 (get_or es j d).0) (delta_rho_of (get_or es i d).0.kind p (get_or es i d).0 (get_or es j d).0) (ratio (factor_cr p (get_or es i d)) (factor_cr p (get_or es j d)))
 
   -- the sum over places is that over factors
   pub sum_is : (es : List (Key × ℤ)) (places : List Place) (ws : List ℤ) → places ≡ map (place_of p) es → ws ≡ map (factor_weighted p) es → AllByRecursion (IsFactor p) es → Ascends key_cmp (map (λ e. e.0) es) → pair_total (corr_at rhos places) ws ≡ factor_sum p es

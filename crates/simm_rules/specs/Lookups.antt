@@ -8,7 +8,7 @@ use Rattle.simm_kinds.specs.declared.kinds.RiskType.{RiskType}
 use Rattle.simm_kinds.specs.declared.kinds.RiskType.TheVariants as kind
 use Rattle.simm_kinds.specs.declared.kinds.BucketId.{BucketId}
 use Rattle.simm_kinds.specs.Key.{Key}
-use Rattle.simm_kinds.specs.Order.{same_name, same_class, same_bucket}
+use Rattle.simm_kinds.specs.Order.{same_name, same_class, same_bucket, same_key}
 use Rattle.simm_rules.specs.Params.{Params}
 
 abbrev pub is_listed : List (List ℕ) → List ℕ → Bool
@@ -61,9 +61,9 @@ abbrev pub delta_rho_of : RiskType → Params → Key → Key → ℤ
 delta_rho_of kind.Fx p k l = pos 100 *ℤ fx_rho p k.qualifier l.qualifier
 delta_rho_of _ p k l = pos 0
 
--- the correlation of two different keys of one bucket, in millionths
+-- the correlation of two keys of one bucket, in millionths: 1 of a key with itself
 abbrev pub delta_rho : Params → Key → Key → ℤ
-delta_rho p k l = delta_rho_of k.kind p k l
+delta_rho p k l = if same_key k l then pos 1000000 else delta_rho_of k.kind p k l
 
 -- the correlation of two buckets of a class, in millionths
 abbrev pub gamma : Params → RiskClass → BucketId → BucketId → ℤ

@@ -12,4 +12,4 @@ returns-clause-weighed c k =
 pub returns-clause-correlated : goal.returns-clause-correlated
 returns-clause-correlated c k l =
     let kept : IsFxParams c.args.self.now.fx = subst (λ (p : Params). IsFxParams p.fx) c.self.view_is c.self.invariant in
-    correlated k.kind c.args.self.now k l kept
+    correlated c.args.self.now k l kept
