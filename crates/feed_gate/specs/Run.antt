@@ -1,15 +1,16 @@
 -- What running a feed does to its lines, to the sets and to its report.
-use Rattle.std.specs.Prelude.{◌≡◌, ℕ, ◌+◌, ◌≤◌, List, [], ◌∷◌, ◌++◌, Bool, Option, Some, None, true, map}
-use Rattle.std.specs.List.{AllByRecursion}
+use Rattle.std.specs.Prelude.{◌≡◌, ℕ, ◌+◌, ◌≤◌, List, [], ◌∷◌, ◌++◌, length, Bool, Option, Some, None, true, map}
 use Rattle.std.specs.Io.KnownBytes.{IsAtEnd}
 use Rattle.mh_io.specs.Faults.{Rises}
 use Rattle.mh_io.specs.Source as source
+use Rattle.mh_io.specs.Lines as cut
+use Rattle.mh_io.specs.Lines.{lines}
 use Rattle.mh_io.specs.Lined.{Lined}
 use Rattle.mh_io.specs.declared.lines_answer.Supply.TheVariants as supply
 use Rattle.mh_io.specs.declared.reading.TheConstants.{MOST_BYTES}
 use Rattle.feed_reader.specs.Feed as message
-use Rattle.feed_reader.specs.Feed.{Item, FeedRun, FeedStop, feed}
-use Rattle.feed_reader.specs.Answers.{TellsItems, TellsStop, TellsNone, line_of}
+use Rattle.feed_reader.specs.Feed.{Item, items_of, line_of, feed}
+use Rattle.feed_reader.specs.Answers.{TellsItems, ComesTo, ReadsFeed, GoesOn}
 use Rattle.set_core.specs.Set.{Set}
 use Rattle.feed_gate.specs.declared.report.RefusedMessage.{RefusedMessage}
 use Rattle.feed_gate.specs.declared.report.FeedEnd.{FeedEnd}
@@ -40,32 +41,31 @@ Meets item old_sets new_sets old new (Some why) = (new_sets ≡ old_sets) × (ne
 -- ---- from one moment to a later one
 
 module _ {S : Type 0} (faults : S → ℕ) (name gave left : S → Option (List ℕ)) where
-  -- why no item came any more
-  abbrev pub EndsAt : FeedEnd → Lined S → Lined S → Type 0
-  EndsAt end_at.End old new = TellsStop faults name gave left old new message.Whole × (new.supply ≡ supply.Ended)
-  EndsAt (end_at.Cut line) old new = TellsStop faults name gave left old new (message.Cut line) × (new.supply ≡ supply.Ended)
-  EndsAt (end_at.LineLong line) old new = TellsStop faults name gave left old new (message.LineLong line)
-  EndsAt (end_at.TooLong taken) old new = TellsStop faults name gave left old new message.TooLong × (taken ≡ MOST_BYTES + 1)
-  EndsAt end_at.ReadFault old new = TellsStop faults name gave left old new message.Open × (new.supply ≡ supply.Failed)
-  EndsAt (end_at.Memory line) old new = TellsNone faults name gave left old new line
+  -- why no item came any more behind these
+  abbrev pub EndsAt : FeedEnd → Lined S → Lined S → List Item → Type 0
+  EndsAt end_at.End first new items = ReadsFeed faults name gave left first new items message.Whole × (new.supply ≡ supply.Ended)
+  EndsAt (end_at.Cut line) first new items = ReadsFeed faults name gave left first new items (message.Cut line) × (new.supply ≡ supply.Ended)
+  EndsAt (end_at.LineLong line) first new items = ReadsFeed faults name gave left first new items (message.LineLong line)
+  EndsAt (end_at.TooLong taken) first new items = ReadsFeed faults name gave left first new items message.TooLong × (taken ≡ MOST_BYTES + 1)
+  EndsAt end_at.ReadFault first new items = ReadsFeed faults name gave left first new items message.Open × (new.supply ≡ supply.Failed)
+  EndsAt (end_at.Memory line) first new items = ComesTo faults name gave left first new items line
 
-  -- one item was told and met the sets
-  pub record TakesItem (old new : Lined S) (old_sets new_sets : List Set) (old_report new_report : FeedReport) : Type 0 where
+  -- one item more was told and met the sets
+  pub record TakesItem (first new : Lined S) (told : List Item) (old_sets new_sets : List Set) (old_report new_report : FeedReport) : Type 0 where
     pub item : Item
-    pub told : TellsItems faults name gave left old new (item ∷ [])
+    pub tells : TellsItems faults name gave left first new (told ++ item ∷ [])
     pub sets : new_sets ≡ map (after_feed (item ∷ [])) old_sets
     pub report : new_report ≡ with_answer old_report (refusal old_sets item)
-    pub later : old.given + 1 ≤ new.given
 
   -- no item came, and nothing else changed
-  pub record TakesNone (old new : Lined S) (old_sets new_sets : List Set) (old_report new_report : FeedReport) (why : FeedEnd) : Type 0 where
-    pub ends : EndsAt why old new
+  pub record TakesNone (first new : Lined S) (told : List Item) (old_sets new_sets : List Set) (old_report new_report : FeedReport) (why : FeedEnd) : Type 0 where
+    pub ends : EndsAt why first new told
     pub sets : new_sets ≡ old_sets
     pub report : new_report ≡ old_report
 
-  abbrev pub Takes : Lined S → Lined S → List Set → List Set → FeedReport → FeedReport → Option FeedEnd → Type 0
-  Takes old new old_sets new_sets old_report new_report None = TakesItem old new old_sets new_sets old_report new_report
-  Takes old new old_sets new_sets old_report new_report (Some why) = TakesNone old new old_sets new_sets old_report new_report why
+  abbrev pub Takes : Lined S → Lined S → List Item → List Set → List Set → FeedReport → FeedReport → Option FeedEnd → Type 0
+  Takes first new told old_sets new_sets old_report new_report None = TakesItem first new told old_sets new_sets old_report new_report
+  Takes first new told old_sets new_sets old_report new_report (Some why) = TakesNone first new told old_sets new_sets old_report new_report why
 
   -- these items were told so far, and each met the sets
   pub record RanTo (old new : Lined S) (old_sets new_sets : List Set) (r : FeedReport) (items : List Item) : Type 0 where
@@ -74,40 +74,53 @@ module _ {S : Type 0} (faults : S → ℕ) (name gave left : S → Option (List 
     pub done : r.done ≡ done_of old_sets items
     pub refused : r.refused ≡ refused_of old_sets items
 
-  -- all items were told, and then none came
+  -- all items were told, each met the sets, and then none came
   pub record RanLines (old new : Lined S) (old_sets new_sets : List Set) (r : FeedReport) : Type 0 where
     pub items : List Item
-    pub held : Lined S
-    pub ran : RanTo old held old_sets new_sets r items
-    pub ends : EndsAt r.end held new
+    pub ends : EndsAt r.end old new items
+    pub sets : new_sets ≡ map (after_feed items) old_sets
+    pub done : r.done ≡ done_of old_sets items
+    pub refused : r.refused ≡ refused_of old_sets items
 
 -- ---- from the first byte to the last
 
--- The items that were done are those of the feed grammar, and the end is the way in which the bytes stop. For want of
--- memory in the message of a line the items are those before that line.
-abbrev pub IsEnd : FeedEnd → List Item → FeedRun → Type 0
-IsEnd end_at.End items run = run ≡ record { items = items; stop = message.Whole }
-IsEnd (end_at.Cut line) items run = run ≡ record { items = items; stop = message.Cut line }
-IsEnd (end_at.LineLong line) items run = run ≡ record { items = items; stop = message.LineLong line }
-IsEnd (end_at.TooLong taken) items run = (run ≡ record { items = items; stop = message.TooLong }) × (taken ≡ MOST_BYTES + 1)
-IsEnd end_at.ReadFault items run = run ≡ record { items = items; stop = message.Open }
-IsEnd (end_at.Memory line) items run = (rest : List Item) × (run.items ≡ items ++ rest) × AllByRecursion (λ item. line ≤ line_of item) rest
+-- Want of memory at this line. The lines before it, as a feed of their own, are just the items that were met, each whole;
+-- it is one of the lines that were taken, if any bytes were; and every further item begins in it or behind it.
+pub record BreaksAt (line : ℕ) (items : List Item) (taken : List ℕ) (ended : Bool) : Type 0 where
+  pub before : List (List ℕ)
+  pub behind : List (List ℕ)
+  pub lines : (lines taken ended).lines ≡ before ++ behind
+  pub number : line ≡ length before + 1
+  pub whole : items_of 1 0 before cut.Whole ≡ record { items = items; stop = message.Whole }
+  pub there : behind ≡ [] → taken ≡ []
+  pub rest : GoesOn items line (feed taken ended).items
+
+-- The items that were met are those of the feed grammar, and the end is the way in which the bytes stop. For want of
+-- memory they are those before a line.
+abbrev pub IsEnd : FeedEnd → List Item → List ℕ → Bool → Type 0
+IsEnd end_at.End items taken ended = feed taken ended ≡ record { items = items; stop = message.Whole }
+IsEnd (end_at.Cut line) items taken ended = feed taken ended ≡ record { items = items; stop = message.Cut line }
+IsEnd (end_at.LineLong line) items taken ended = feed taken ended ≡ record { items = items; stop = message.LineLong line }
+IsEnd (end_at.TooLong most) items taken ended = (feed taken ended ≡ record { items = items; stop = message.TooLong }) × (most ≡ MOST_BYTES + 1)
+IsEnd end_at.ReadFault items taken ended = feed taken ended ≡ record { items = items; stop = message.Open }
+IsEnd (end_at.Memory line) items taken ended = BreaksAt line items taken ended
 
 -- what became of the bytes of a feed, where `ended` says that they are all
 pub record RanOver (taken : List ℕ) (ended : Bool) (old_sets new_sets : List Set) (r : FeedReport) : Type 0 where
   pub items : List Item
-  pub stop : IsEnd r.end items (feed taken ended)
+  pub stop : IsEnd r.end items taken ended
   pub sets : new_sets ≡ map (after_feed items) old_sets
   pub done : r.done ≡ done_of old_sets items
   pub refused : r.refused ≡ refused_of old_sets items
 
--- a source that was run: the bytes that were taken from it are done, all of them where it ended; it failed only where a
--- fault was met
+-- a source that was run: the bytes that were taken from it are done, all of them where it ended, and they are no more than
+-- 33,554,433; it failed only where a fault was met
 module _ {S : Type 0} (faults : S → ℕ) (name gave left : S → Option (List ℕ)) where
   pub record RanSource (old new : S) (old_sets new_sets : List Set) (r : FeedReport) : Type 0 where
     pub taken : List ℕ
     pub ended : Bool
     pub takes : source.Takes (gave old) (gave new) (left old) (left new) taken
+    pub few : length taken ≤ MOST_BYTES + 1
     pub count : faults old ≤ faults new
     pub named : name new ≡ name old
     pub ran : RanOver taken ended old_sets new_sets r

@@ -1,6 +1,8 @@
 //! A feed from its first byte to its end.
-ghost use Rattle.std.specs.Prelude.{◌≡◌, ◌^◌, ◌-◌, ◌<◌, ◌≤◌, Some};
-ghost use Rattle.feed_reader.specs.Feed.{Sent};
+ghost use Rattle.std.specs.Prelude.{◌≡◌, ◌^◌, ◌-◌, ◌<◌, ◌≤◌, List, None, Some};
+ghost use Rattle.mh_io.specs.Lined.{Lined};
+ghost use Rattle.feed_reader.specs.Feed.{Item, Sent};
+ghost use Rattle.feed_reader.specs.Answers.{TellsItems};
 ghost use Rattle.feed_gate.specs.declared.report.RefusedMessage.TheVariants as refused;
 ghost use Rattle.mh_io.specs.declared.reading.TheConstants.{MOST_BYTES};
 ghost use Rattle.feed_gate.specs.Sets.{AreApart};
@@ -58,7 +60,8 @@ fn take_item<S: Source>(
 ) -> Option<FeedEnd>
     requires apart { AreApart sets.old }
     requires few { report.old.done ≤ lines.old.given }
-    ensures { Takes S.faults S.name S.gave S.left lines.old lines.new sets.old sets.new report.old report.new result }
+    ensures takes { (first : Lined S) (told : List Item) → TellsItems S.faults S.name S.gave S.left first lines.old told → Takes S.faults S.name S.gave S.left first lines.new told sets.old sets.new report.old report.new result }
+    ensures forward { result ≡ None → lines.old.given < lines.new.given }
 {
     // No feed has more lines than bytes, so the messages can be counted.
     let _given = lines.given();

@@ -1,12 +1,10 @@
 -- What the lines that a call was given make of its answer.
-use Rattle.std.proofs.Common.{◌≡◌, ℕ, ◌+◌, Bool, List, [], ◌∷◌, ◌++◌, Option, Some, None, Result, Ok, Err, length, refl, sym, ap, ◌∙◌, arith, append_assoc, length-append}
+use Rattle.std.proofs.Common.{◌≡◌, ℕ, ◌+◌, ◌<◌, Bool, List, [], ◌∷◌, ◌++◌, Option, Some, None, Result, Ok, Err, length, refl, sym, ap, ◌∙◌, subst, arith, append_assoc, length-append}
 use Rattle.std.proofs.lemmas.List.{append-nil}
 use Rattle.mh_io.specs.Lines as cut
 use Rattle.mh_io.specs.Lines.{LineRun, stopped, with_lines, lines_behind}
 use Rattle.mh_io.specs.Lined as reader
-use Rattle.mh_io.specs.Lined.{Lined, CanCome, Took, Gave, IsStopped, is_ended, lines_with, lines_now}
-use Rattle.mh_io.specs.declared.lines_answer.Supply.{Supply}
-use Rattle.mh_io.specs.declared.lines_answer.Supply.TheVariants as supply
+use Rattle.mh_io.specs.Lined.{Lined, CanCome, Took, Gave, IsStopped, ComesWhere, is_ended, lines_with, lines_now}
 use Rattle.mh_io.specs.declared.lines_answer.LineStep.TheVariants.{End}
 use Rattle.mh_io.specs.declared.lines_answer.LineFault.{LineFault}
 use Rattle.mh_io.specs.declared.lines_answer.LineFault.TheVariants as line_fault
@@ -14,16 +12,11 @@ use Rattle.mh_io.specs.declared.reading.TheConstants.{MOST_BYTES}
 use Rattle.feed_reader.specs.declared.message.Fed.{Fed}
 use Rattle.feed_reader.specs.declared.fault.FeedFault.{FeedFault}
 use Rattle.feed_reader.specs.declared.fault.FeedFault.TheVariants as fault
-use Rattle.feed_reader.specs.Feed.{Item, Sent, BadAt, FeedStop, Whole, Cut, LineLong, TooLong, Open, no_items, with_items, items_of, items_from}
-use Rattle.feed_reader.specs.Answers.{feed_with, TellsItems, TellsStop, TellsNone, Answers, StopsLines, IsPlaced, answer_at}
-use Rattle.feed_reader.specs.Steps.{ArePassed, StopsAt, IsItem, Means, feed_fault}
-use Rattle.feed_reader.proofs.FeedItems.{passed_over, nothing_further, items_behind, items_at}
-
--- nothing more may come
-can_stop : (s : Supply) → CanCome s [] (is_ended s)
-can_stop supply.Open = tt
-can_stop supply.Ended = (refl, refl)
-can_stop supply.Failed = (refl, refl)
+use Rattle.feed_reader.specs.Feed.{Item, Sent, BadAt, FeedStop, FeedRun, Whole, Cut, LineLong, TooLong, Open, AreItems, line_of, no_items, with_items, items_of, items_from}
+use Rattle.feed_reader.specs.Answers.{feed_with, TellsItems, ComesTo, TellsItem, BreaksOff, TellsStop, ReadsFeed, Follows, Answers, StopsLines, IsPlaced, answer_at}
+use Rattle.feed_reader.specs.Steps.{ArePassed, Means, feed_fault}
+use Rattle.feed_reader.proofs.FeedTakings.{can_stop, then_took, then_gave}
+use Rattle.feed_reader.proofs.FeedItems.{passed_over, passed_items, items_then, nothing_further, items_behind, items_at}
 
 -- where the lines stopped, the end of input is answered by no message
 pub end_again : (given : ℕ) (stop : cut.Stop) → Ok End ≡ reader.answer_at stop → Ok None ≡ answer_at given stop
@@ -47,14 +40,34 @@ module _ {S : Type 0} (faults : S → ℕ) (name gave left : S → Option (List 
       ∙ (ap (λ ls. items_of (a.given + 1) 0 ls (lines_with b later ended).stop) (append_assoc passed lines (lines_with b later ended).lines)
       ∙ passed_over (a.given + 1) passed (lines ++ (lines_with b later ended).lines) (lines_with b later ended).stop over)
 
-  tells : {a b : Lined S} (passed lines : List (List ℕ)) (item : Item) → Gave faults name gave left a b (passed ++ lines) → ArePassed passed → IsItem (a.given + 1 + length passed) lines item → TellsItems faults name gave left a b (item ∷ [])
-  tells {a} {b} passed lines item given over is = record {
-    taken = given.taken;
-    took = given.took;
+  -- lines that are just these items, and the line behind them
+  abbrev comes_to : {a b : Lined S} (told : List Item) (before its : List (List ℕ)) (line : ℕ) → Gave faults name gave left a b (before ++ its) → AreItems (a.given + 1) before told → line ≡ a.given + length before + 1 → 0 < length (its ++ (lines_now b).lines) → ComesTo faults name gave left a b told line
+  comes_to {a} {b} told before its line given items number there = record {
+    before = before;
+    its = its;
+    lines = given;
+    items = items;
+    number = number;
+    there = there;
     feed = λ later ended can.
-        after_passed passed lines given over later ended can
-        ∙ (is.told (lines_with b later ended).lines (lines_with b later ended).stop
-        ∙ ap (with_items (item ∷ [])) (items_at _ (b.given + 1) 0 (lines_with b later ended).lines (lines_with b later ended).stop (omega (arith, given.count, length-append passed lines))));
+        let run = lines_with b later ended in (
+          (items_of (a.given + 1 + length before) 0 (its ++ run.lines) run.stop).items,
+          ap (λ r. r.items)
+          (ap (items_from (a.given + 1)) (given.lines later ended can)
+          ∙ (ap (λ ls. items_of (a.given + 1) 0 ls run.stop) (append_assoc before its run.lines)
+          ∙ items.told (its ++ run.lines) run.stop)),
+          items_behind line (a.given + 1 + length before) 0 (its ++ run.lines) run.stop (omega arith),
+        );
+  }
+
+  some_lines : (b : Lined S) (line : List ℕ) (further : List (List ℕ)) → 0 < length ((line ∷ further) ++ (lines_now b).lines)
+  some_lines b line further = omega (arith, length-append (line ∷ further) (lines_now b).lines)
+
+  -- an item behind lines that are passed over
+  tells : {a b : Lined S} (passed : List (List ℕ)) (line : List ℕ) (further : List (List ℕ)) (item : Item) → Gave faults name gave left a b (passed ++ line ∷ further) → ArePassed passed → line_of item ≡ a.given + 1 + length passed → AreItems (a.given + 1 + length passed) (line ∷ further) (item ∷ []) → TellsItem faults name gave left a b item
+  tells {a} {b} passed line further item given over number is = record {
+    comes = comes_to [] passed (line ∷ further) (line_of item) given (passed_items (a.given + 1) passed over) (omega arith) (some_lines b line further);
+    whole = subst (λ n. AreItems n (line ∷ further) (item ∷ [])) (sym number) is;
   }
 
   stops : {a b : Lined S} (passed lines : List (List ℕ)) (way : cut.Stop) (stop : FeedStop) → Gave faults name gave left a b (passed ++ lines) → ArePassed passed → items_of (a.given + 1 + length passed) 0 lines way ≡ no_items stop → IsStopped b way → TellsStop faults name gave left a b stop
@@ -70,14 +83,56 @@ module _ {S : Type 0} (faults : S → ℕ) (name gave left : S → Option (List 
         ∙ (ap (λ ls. items_of (a.given + 1 + length passed) 0 ls way) (append-nil lines) ∙ is)));
   }
 
-  none_before : {a b : Lined S} (passed lines : List (List ℕ)) (line : ℕ) → Gave faults name gave left a b (passed ++ lines) → ArePassed passed → line ≡ a.given + 1 + length passed → TellsNone faults name gave left a b line
-  none_before {a} {b} passed lines line given over is = record {
-    taken = given.taken;
-    took = given.took;
-    feed = λ later ended can.
-        rw (after_passed passed lines given over later ended can)
-        (items_behind line (a.given + 1 + length passed) 0 (lines ++ (lines_with b later ended).lines) (lines_with b later ended).stop (omega arith));
+  -- ---- a call after others
+
+  -- the items of the bytes that were taken
+  told_feed : {a b : Lined S} {told : List Item} (t : TellsItems faults name gave left a b told) (later : List ℕ) (ended : Bool) → CanCome b.supply later ended → feed_with a (t.lines.taken ++ later) ended ≡ with_items told (feed_with b later ended)
+  told_feed {a} {b} {told} t later ended can =
+      let run = lines_with b later ended in
+      ap (items_from (a.given + 1)) (t.lines.lines later ended can)
+      ∙ (t.items.told run.lines run.stop
+      ∙ ap (with_items told) (items_at (a.given + 1 + length t.given) (b.given + 1) 0 run.lines run.stop (omega (arith, t.lines.count))))
+
+  then_tells : {a b c : Lined S} {told : List Item} {item : Item} → TellsItems faults name gave left a b told → TellsItem faults name gave left b c item → TellsItems faults name gave left a c (told ++ item ∷ [])
+  then_tells {a} {b} {c} {told} {item} so_far next =
+      let n = b.given + 1 in
+      let number : line_of item ≡ b.given + length next.comes.before + 1 = next.comes.number in
+      record {
+        given = so_far.given ++ (next.comes.before ++ next.comes.its);
+        lines = then_gave faults name gave left so_far.lines next.comes.lines;
+        items = items_then (a.given + 1) n so_far.items (items_then n (line_of item) next.comes.items next.whole (omega arith)) (omega (arith, so_far.lines.count));
+      }
+
+  then_comes : {a b c : Lined S} {told : List Item} {line : ℕ} → TellsItems faults name gave left a b told → ComesTo faults name gave left b c [] line → ComesTo faults name gave left a c told line
+  then_comes {a} {b} {c} {told} {line} so_far next =
+      let all : Gave faults name gave left a c ((so_far.given ++ next.before) ++ next.its) =
+      subst (Gave faults name gave left a c) (sym (append_assoc so_far.given next.before next.its)) (then_gave faults name gave left so_far.lines next.lines) in
+      let items : AreItems (a.given + 1) (so_far.given ++ next.before) told =
+      subst (AreItems (a.given + 1) (so_far.given ++ next.before)) (append-nil told) (items_then (a.given + 1) (b.given + 1) so_far.items next.items (omega (arith, so_far.lines.count))) in
+      comes_to told (so_far.given ++ next.before) next.its line all items (omega (arith, next.number, so_far.lines.count, length-append so_far.given next.before)) next.there
+
+  then_stops : {a b c : Lined S} {told : List Item} {stop : FeedStop} → TellsItems faults name gave left a b told → TellsStop faults name gave left b c stop → ReadsFeed faults name gave left a c told stop
+  then_stops {a} {b} {c} {told} {stop} so_far last = record {
+    taken = so_far.lines.taken ++ last.taken;
+    took = then_took faults name gave left so_far.lines.took last.took;
+    feed =
+        let ended = is_ended c.supply in
+        let can : CanCome b.supply last.taken ended = subst (λ (t : List ℕ). CanCome b.supply t ended) (append-nil last.taken) (last.took.came [] ended (can_stop c.supply)) in
+        told_feed so_far last.taken ended can
+        ∙ (ap (with_items told) last.feed ∙ ap (λ (xs : List Item). let all : FeedRun = record { items = xs; stop = stop } in all) (append-nil told));
   }
+
+  pub follows : (a b c : Lined S) (told : List Item) (answer : Result (Option Fed) FeedFault) → TellsItems faults name gave left a b told → Answers faults name gave left b c answer → Follows faults name gave left a c told answer
+  follows a b c told (Ok (Some fed)) so_far last = (then_tells so_far last, then_comes so_far last.comes)
+  follows a b c told (Ok None) so_far last = then_stops so_far last
+  follows a b c told (Err (fault.BadLine line)) so_far last = (then_tells so_far last, then_comes so_far last.comes)
+  follows a b c told (Err (fault.Cut line)) so_far last = then_stops so_far last
+  follows a b c told (Err (fault.LineLong line)) so_far last = then_stops so_far last
+  follows a b c told (Err (fault.TooLong taken)) so_far last = then_stops so_far last.0
+  follows a b c told (Err fault.ReadFault) so_far last = then_stops so_far last
+  follows a b c told (Err (fault.Memory line)) so_far last = then_comes so_far last.comes
+
+  -- ---- what a call owes
 
   -- what an answer owes
   pub record Owed (a b : Lined S) (answer : Result (Option Fed) FeedFault) : Type 0 where
@@ -88,13 +143,13 @@ module _ {S : Type 0} (faults : S → ℕ) (name gave left : S → Option (List 
   -- the lines that were passed over, and then those that mean something
   pub told : {a b : Lined S} (answer : Result (Option Fed) FeedFault) (passed : List (List ℕ)) (line : List ℕ) (further : List (List ℕ)) → Gave faults name gave left a b (passed ++ line ∷ further) → ArePassed passed → Means (a.given + 1 + length passed) (line ∷ further) b answer → Owed a b answer
   told {a} {b} (Ok (Some fed)) passed line further given over means = record {
-    answers = tells passed (line ∷ further) (Sent fed) given over means.0;
+    answers = tells passed line further (Sent fed) given over means.1 means.0;
     stops = tt;
     placed = let e = means.1 in (omega arith, omega (arith, given.count, length-append passed (line ∷ further)), means.2);
   }
   told (Ok None) passed line further given over means = absurd means
   told {a} {b} (Err (fault.BadLine n)) passed line further given over means = record {
-    answers = tells passed (line ∷ further) (BadAt n) given over means.0;
+    answers = tells passed line further (BadAt n) given over means.1 means.0;
     stops = tt;
     placed = let e = means.1 in let one = means.2 in (omega arith, omega (arith, given.count, length-append passed (line ∷ further)), means.3);
   }
@@ -119,9 +174,9 @@ module _ {S : Type 0} (faults : S → ℕ) (name gave left : S → Option (List 
     placed = tt;
   }
   told {a} {b} (Err (fault.Memory n)) passed line further given over means = record {
-    answers = none_before passed (line ∷ further) n given over means;
+    answers = record { comes = comes_to [] passed (line ∷ further) n given (passed_items (a.given + 1) passed over) (omega (arith, means.0)) (some_lines b line further); begun = means.1 };
     stops = tt;
-    placed = (omega arith, omega (arith, given.count, length-append passed (line ∷ further)));
+    placed = let e = means.0 in (omega arith, omega (arith, given.count, length-append passed (line ∷ further)));
   }
 
   -- the input ended behind lines that were passed over
@@ -133,7 +188,7 @@ module _ {S : Type 0} (faults : S → ℕ) (name gave left : S → Option (List 
   }
 
   -- a fault came behind them
-  pub fault_outside : {a b : Lined S} (f : LineFault) (passed : List (List ℕ)) → Gave faults name gave left a b (passed ++ []) → ArePassed passed → StopsAt (Err f) b → Owed a b (Err (feed_fault f (b.given + 1) (b.given + 1)))
+  pub fault_outside : {a b : Lined S} (f : LineFault) (passed : List (List ℕ)) → Gave faults name gave left a b (passed ++ []) → ArePassed passed → ComesWhere (Err f) b → Owed a b (Err (feed_fault f (b.given + 1) (b.given + 1)))
   fault_outside {a} {b} line_fault.ReadFault passed given over is_stopped = record {
     answers = stops passed [] cut.Open Open given over (nothing_further _ cut.Open) is_stopped;
     stops = is_stopped;
@@ -152,7 +207,7 @@ module _ {S : Type 0} (faults : S → ℕ) (name gave left : S → Option (List 
     placed = tt;
   }
   fault_outside {a} {b} line_fault.Memory passed given over is_stopped = record {
-    answers = none_before passed [] (b.given + 1) given over (omega (arith, given.count, length-append {A = List ℕ} passed []));
+    answers = record { comes = comes_to [] passed [] (b.given + 1) given (passed_items (a.given + 1) passed over) (omega (arith, given.count, length-append {A = List ℕ} passed [])) is_stopped; begun = tt };
     stops = tt;
     placed = (omega (arith, given.count), omega arith);
   }

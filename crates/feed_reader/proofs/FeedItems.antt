@@ -9,9 +9,8 @@ use Rattle.feed_reader.specs.declared.message.Message.TheVariants.{Crif}
 use Rattle.feed_reader.specs.declared.message.Meaning.{Meaning}
 use Rattle.feed_reader.specs.declared.message.Meaning.TheVariants.{Opens, Tells, Bad}
 use Rattle.feed_reader.specs.Line.{is_passed_over, meaning_of, is_end}
-use Rattle.feed_reader.specs.Feed.{Sent, BadAt, FeedRun, no_items, with_items, stop_outside, stop_inside, block_of, block_at, by_meaning, items_of}
-use Rattle.feed_reader.specs.Answers.{line_of}
-use Rattle.feed_reader.specs.Steps.{ArePassed, AreInside, IsItem}
+use Rattle.feed_reader.specs.Feed.{Item, Sent, BadAt, FeedRun, AreItems, line_of, no_items, with_items, stop_outside, stop_inside, block_of, block_at, by_meaning, items_of}
+use Rattle.feed_reader.specs.Steps.{ArePassed, AreInside}
 
 -- the number of a line that is further on
 pub items_at : (n m used : ℕ) (lines : List (List ℕ)) (stop : cut.Stop) → n ≡ m → items_of n used lines stop ≡ items_of m used lines stop
@@ -27,6 +26,30 @@ passed_front n (line ∷ passed) lines stop over =
 pub passed_over : (n : ℕ) (passed lines : List (List ℕ)) (stop : cut.Stop) → ArePassed passed → items_of n 0 (passed ++ lines) stop ≡ items_of (n + length passed) 0 lines stop
 passed_over n passed lines stop over = passed_front n passed lines stop (recursion_from_All (λ line. is_passed_over line ≡ true) passed over)
 
+-- items before items
+pub with_items_twice : (xs ys : List Item) (run : FeedRun) → with_items xs (with_items ys run) ≡ with_items (xs ++ ys) run
+with_items_twice xs ys run = ap (λ (zs : List Item). let all : FeedRun = record { items = zs; stop = run.stop } in all) (sym (append_assoc xs ys run.items))
+
+-- no lines are no items
+pub no_lines : (n : ℕ) → AreItems n [] []
+no_lines n = record { told = λ further stop. items_at n (n + length {A = List ℕ} []) 0 further stop (omega arith) }
+
+-- nor are lines that are passed over
+pub passed_items : (n : ℕ) (passed : List (List ℕ)) → ArePassed passed → AreItems n passed []
+passed_items n passed over = record { told = λ further stop. passed_over n passed further stop over }
+
+-- items, and then those of further lines
+pub items_then : (n m : ℕ) {xs ys : List (List ℕ)} {items more : List Item} → AreItems n xs items → AreItems m ys more → m ≡ n + length xs → AreItems n (xs ++ ys) (items ++ more)
+items_then n m {xs} {ys} {items} {more} first second number = record {
+  told = λ further stop.
+      ap (λ ls. items_of n 0 ls stop) (append_assoc xs ys further)
+      ∙ (first.told (ys ++ further) stop
+      ∙ (ap (with_items items) (items_at (n + length xs) m 0 (ys ++ further) stop (sym number)
+      ∙ (second.told further stop
+      ∙ ap (with_items more) (items_at (m + length ys) (n + length (xs ++ ys)) 0 further stop (omega (arith, length-append xs ys)))))
+      ∙ with_items_twice items more (items_of (n + length (xs ++ ys)) 0 further stop)));
+}
+
 -- behind the last line
 pub nothing_further : (n : ℕ) (stop : cut.Stop) → items_of n 0 [] stop ≡ no_items (stop_outside n stop)
 unfolding items_of
@@ -41,11 +64,11 @@ unfolding items_of
 bad_told n line full is further stop = rw (full, is) refl
 
 -- a line that is a message
-pub message_line : (n : ℕ) (line : List ℕ) (message : Message) → is_passed_over line ≡ false → meaning_of line ≡ Tells message → IsItem n (line ∷ []) (Sent (record { line = n; message = message }))
+pub message_line : (n : ℕ) (line : List ℕ) (message : Message) → is_passed_over line ≡ false → meaning_of line ≡ Tells message → AreItems n (line ∷ []) (Sent (record { line = n; message = message }) ∷ [])
 message_line n line message full is = record { told = λ further stop. told_line n line message full is further stop }
 
 -- a line that is none
-pub bad_line : (n : ℕ) (line : List ℕ) → is_passed_over line ≡ false → meaning_of line ≡ Bad → IsItem n (line ∷ []) (BadAt n)
+pub bad_line : (n : ℕ) (line : List ℕ) → is_passed_over line ≡ false → meaning_of line ≡ Bad → AreItems n (line ∷ []) (BadAt n ∷ [])
 bad_line n line full is = record { told = λ further stop. bad_told n line full is further stop }
 
 -- the place of the first line that ends the block
@@ -84,7 +107,7 @@ whole_told n line set inside last full is within ends further stop =
     ∙ rw (end_there inside last further within ends, place, take-append_seam inside (last ∷ further), behind) refl
 
 -- a whole block
-pub block_lines : (n : ℕ) (line set : List ℕ) (inside : List (List ℕ)) (last : List ℕ) → is_passed_over line ≡ false → meaning_of line ≡ Opens set → AreInside inside → is_end last ≡ true → IsItem n (line ∷ (inside ++ last ∷ [])) (Sent (record { line = n; message = Crif set (block_of inside) }))
+pub block_lines : (n : ℕ) (line set : List ℕ) (inside : List (List ℕ)) (last : List ℕ) → is_passed_over line ≡ false → meaning_of line ≡ Opens set → AreInside inside → is_end last ≡ true → AreItems n (line ∷ (inside ++ last ∷ [])) (Sent (record { line = n; message = Crif set (block_of inside) }) ∷ [])
 block_lines n line set inside last full is within ends = record {
   told = λ further stop.
       let all : line ∷ ((inside ++ last ∷ []) ++ further) ≡ line ∷ (inside ++ last ∷ further) = ap (λ ls. line ∷ ls) (append_assoc inside (last ∷ []) further) in

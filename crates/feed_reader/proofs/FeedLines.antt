@@ -9,7 +9,7 @@ use Rattle.mh_io.specs.Lined.{Lined, Gave, lines_given, answer_at}
 use Rattle.mh_io.specs.declared.lines_answer.LineStep.{LineStep}
 use Rattle.mh_io.specs.declared.lines_answer.LineStep.TheVariants.{Line}
 use Rattle.mh_io.specs.declared.lines_answer.LineFault.{LineFault}
-use Rattle.mh_io.proofs.LinesTaken.{then_gave}
+use Rattle.feed_reader.proofs.FeedTakings.{then_gave}
 use Rattle.feed_reader.specs.Line.{is_passed_over, is_end}
 use Rattle.feed_reader.specs.Feed.{block_of}
 use Rattle.feed_reader.specs.Steps.{ArePassed, AreInside, Skips, Encloses}

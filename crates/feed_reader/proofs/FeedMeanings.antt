@@ -1,5 +1,6 @@
 -- What a line means together with those behind it.
-use Rattle.std.proofs.Common.{◌≡◌, ℕ, ◌+◌, ◌≤◌, true, false, List, [], ◌∷◌, ◌++◌, Some, Ok, Err, length, refl, sym, ap, ◌∙◌, arith}
+use Rattle.std.proofs.Common.{◌≡◌, ℕ, ◌+◌, ◌≤◌, true, false, List, [], ◌∷◌, ◌++◌, Some, Ok, Err, length, refl, sym, ap, ◌∙◌, subst, arith}
+use Rattle.std.proofs.lemmas.List.Elements.{All-nil}
 use Rattle.mh_io.specs.Lines as cut
 use Rattle.mh_io.specs.Lined.{Lined, IsStopped}
 use Rattle.mh_io.specs.declared.lines_answer.LineFault.{LineFault}
@@ -7,12 +8,19 @@ use Rattle.mh_io.specs.declared.lines_answer.LineFault.TheVariants as line_fault
 use Rattle.mh_io.specs.declared.reading.TheConstants.{MOST_BYTES}
 use Rattle.feed_reader.specs.declared.message.Message.{Message}
 use Rattle.feed_reader.specs.declared.message.Message.TheVariants.{Crif}
+use Rattle.feed_reader.specs.declared.message.Meaning.{Meaning}
 use Rattle.feed_reader.specs.declared.message.Meaning.TheVariants.{Opens, Tells, Bad}
 use Rattle.feed_reader.specs.declared.fault.FeedFault.TheVariants as fault
-use Rattle.feed_reader.specs.Line.{is_passed_over, meaning_of, is_end}
+use Rattle.feed_reader.specs.Line.{is_passed_over, meaning_of, is_end, LieWithin}
 use Rattle.feed_reader.specs.Feed.{LineLong, no_items, block_of}
 use Rattle.feed_reader.specs.Steps.{AreInside, StopsAt, Means, feed_fault}
 use Rattle.feed_reader.proofs.FeedItems.{message_line, bad_line, block_lines, open_block}
+
+-- no lines lie within a block, whatever the line is
+none_within : (meaning : Meaning) → LieWithin meaning []
+none_within (Opens set) = All-nil (λ line. is_end line ≡ false)
+none_within (Tells message) = refl
+none_within Bad = refl
 
 module _ {S : Type 0} where
   pub message_means : (held : Lined S) (n first : ℕ) (line : List ℕ) (message : Message) → is_passed_over line ≡ false → meaning_of line ≡ Tells message → first ≡ n → held.given ≤ MOST_BYTES → Means n (line ∷ []) held (Ok (Some (record { line = first; message = message })))
@@ -36,4 +44,8 @@ module _ {S : Type 0} where
       (open_block n line set inside cut.Long full is within ∙ ap (λ k. no_items (LineLong k)) (sym number), is_stopped, omega arith)
   fault_means held (line_fault.TooLong taken) n first next line set inside full is within is_stopped same number =
       (open_block n line set inside cut.Over full is within, is_stopped.0, is_stopped.1)
-  fault_means held line_fault.Memory n first next line set inside full is within is_stopped same number = same
+  fault_means held line_fault.Memory n first next line set inside full is within is_stopped same number = (same, (full, subst (λ meaning. LieWithin meaning inside) (sym is) within))
+
+  -- there was no memory to tell what a line is
+  pub lost_means : (held : Lined S) (n first : ℕ) (line : List ℕ) → is_passed_over line ≡ false → first ≡ n → Means n (line ∷ []) held (Err (fault.Memory first))
+  lost_means held n first line full same = (same, (full, none_within (meaning_of line)))

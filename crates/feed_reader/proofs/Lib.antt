@@ -1,5 +1,6 @@
 pub mod FieldParts
 pub mod FieldNames
+pub mod FeedTakings
 pub mod FeedLines
 pub mod FeedItems
 pub mod FeedAnswers

@@ -1,5 +1,5 @@
 -- Feed grammar: the messages and the lines that are none, in order, and the way the bytes of a feed stop.
-use Rattle.std.specs.Prelude.{ℕ, zero, suc, ◌+◌, List, [], ◌∷◌, ◌++◌, length, Bool, flat_map, if◌then◌else◌}
+use Rattle.std.specs.Prelude.{◌≡◌, ℕ, zero, suc, ◌+◌, List, [], ◌∷◌, ◌++◌, length, Bool, flat_map, if◌then◌else◌}
 use Rattle.std.specs.List.{list_any, before_first, position_or_len}
 use Rattle.mh_io.specs.Lines as cut
 use Rattle.mh_io.specs.Lines.{LineRun, lines}
@@ -82,6 +82,15 @@ items_of n (suc used) (line ∷ further) stop = items_of (n + 1) used further st
 items_of n zero (line ∷ further) stop =
     if is_passed_over line then items_of (n + 1) 0 further stop
     else by_meaning n (meaning_of line) further stop (items_of (n + 1) 0 further stop) (items_of (n + 1) (position_or_len is_end further + 1) further stop)
+
+-- these lines, of which the first has the number n, are these items, each whole, whatever lines follow
+pub record AreItems (n : ℕ) (lines : List (List ℕ)) (items : List Item) : Type 0 where
+  pub told : (further : List (List ℕ)) (stop : cut.Stop) → items_of n 0 (lines ++ further) stop ≡ with_items items (items_of (n + length lines) 0 further stop)
+
+-- the number of the line in which an item begins
+abbrev pub line_of : Item → ℕ
+line_of (Sent fed) = fed.line
+line_of (BadAt line) = line
 
 -- the items of lines from number n on
 abbrev pub items_from : ℕ → LineRun → FeedRun

@@ -1,6 +1,6 @@
 -- Feed grammar: what a line outside a block is.
-use Rattle.std.specs.Prelude.{ℕ, List, [], ◌∷◌, Bool, true, false, ◌==◌, codes, is_none, Option, Some, None, if◌then◌else◌}
-use Rattle.std.specs.List.{slice_split, list_all}
+use Rattle.std.specs.Prelude.{◌≡◌, ℕ, List, [], ◌∷◌, Bool, true, false, ◌==◌, codes, is_none, Option, Some, None, if◌then◌else◌}
+use Rattle.std.specs.List.{All, slice_split, list_all}
 use Rattle.std.specs.Str.{bytes_eq}
 use Rattle.simm_kinds.specs.NameText.{name_fault}
 use Rattle.feed_reader.specs.declared.message.Message.TheVariants.{Withdraw, Ask}
@@ -73,3 +73,14 @@ meaning_of line = by_fields (fields_of line)
 -- the line that ends a block
 abbrev pub is_end : List ℕ → Bool
 is_end line = bytes_eq line (codes "END")
+
+-- lines within the block that a line of this meaning begins
+abbrev pub LieWithin : Meaning → List (List ℕ) → Type 0
+LieWithin (Opens set) lines = All (λ line. is_end line ≡ false) lines
+LieWithin (Tells message) lines = lines ≡ []
+LieWithin Bad lines = lines ≡ []
+
+-- a front of one message, where there is one: its first line, and lines within the block that it begins
+abbrev pub IsBegun : List (List ℕ) → Type 0
+IsBegun [] = Unit {0}
+IsBegun (line ∷ further) = (is_passed_over line ≡ false) × LieWithin (meaning_of line) further

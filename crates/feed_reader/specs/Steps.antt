@@ -11,8 +11,8 @@ use Rattle.mh_io.specs.declared.reading.TheConstants.{MOST_BYTES}
 use Rattle.feed_reader.specs.declared.message.Fed.{Fed}
 use Rattle.feed_reader.specs.declared.fault.FeedFault.{FeedFault}
 use Rattle.feed_reader.specs.declared.fault.FeedFault.TheVariants as fault
-use Rattle.feed_reader.specs.Line.{is_passed_over, is_end}
-use Rattle.feed_reader.specs.Feed.{Item, Sent, BadAt, Cut, LineLong, TooLong, Open, no_items, with_items, items_of, block_of}
+use Rattle.feed_reader.specs.Line.{is_passed_over, is_end, IsBegun}
+use Rattle.feed_reader.specs.Feed.{Item, Sent, BadAt, Cut, LineLong, TooLong, Open, AreItems, no_items, items_of, block_of}
 
 abbrev pub ArePassed : List (List ℕ) → Type 0
 ArePassed lines = All (λ line. is_passed_over line ≡ true) lines
@@ -52,20 +52,16 @@ module _ {S : Type 0} (faults : S → ℕ) (name gave left : S → Option (List 
     pub lines : Gave faults name gave left old new (inside ++ lines_given answer last)
     pub block : answer ≡ Ok Line → after ≡ before ++ block_of inside
 
--- the item of these lines, of which the first has the number n, whatever follows
-pub record IsItem (n : ℕ) (lines : List (List ℕ)) (item : Item) : Type 0 where
-  pub told : (further : List (List ℕ)) (stop : cut.Stop) → items_of n 0 (lines ++ further) stop ≡ with_items (item ∷ []) (items_of (n + length lines) 0 further stop)
-
 -- what these lines mean, of which the first is no line that is passed over and has the number n
 abbrev pub Means : {S : Type 0} → ℕ → List (List ℕ) → Lined S → Result (Option Fed) FeedFault → Type 0
-Means n lines new (Ok (Some fed)) = IsItem n lines (Sent fed) × (fed.line ≡ n) × (new.given ≤ MOST_BYTES)
+Means n lines new (Ok (Some fed)) = AreItems n lines (Sent fed ∷ []) × (fed.line ≡ n) × (new.given ≤ MOST_BYTES)
 Means n lines new (Ok None) = ⊥
-Means n lines new (Err (fault.BadLine line)) = IsItem n lines (BadAt line) × (line ≡ n) × (length lines ≡ 1) × (new.given ≤ MOST_BYTES)
+Means n lines new (Err (fault.BadLine line)) = AreItems n lines (BadAt line ∷ []) × (line ≡ n) × (length lines ≡ 1) × (new.given ≤ MOST_BYTES)
 Means n lines new (Err (fault.Cut line)) = (items_of n 0 lines cut.Whole ≡ no_items (Cut line)) × IsStopped new cut.Whole × (line ≡ n)
 Means n lines new (Err (fault.LineLong line)) = (items_of n 0 lines cut.Long ≡ no_items (LineLong line)) × IsStopped new cut.Long × (line ≡ n + length lines)
 Means n lines new (Err (fault.TooLong taken)) = (items_of n 0 lines cut.Over ≡ no_items TooLong) × IsStopped new cut.Over × (taken ≡ MOST_BYTES + 1)
 Means n lines new (Err fault.ReadFault) = (items_of n 0 lines cut.Open ≡ no_items Open) × IsStopped new cut.Open
-Means n lines new (Err (fault.Memory line)) = line ≡ n
+Means n lines new (Err (fault.Memory line)) = (line ≡ n) × IsBegun lines
 
 module _ {S : Type 0} (faults : S → ℕ) (name gave left : S → Option (List ℕ)) where
   -- further lines were given, and mean this together with the line that was given before

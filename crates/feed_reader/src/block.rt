@@ -3,7 +3,7 @@ ghost use Rattle.std.specs.Prelude.{◌≡◌, ◌≤◌, ◌+◌, length, Ok, f
 ghost use Rattle.feed_reader.specs.Line.{is_passed_over};
 ghost use Rattle.feed_reader.specs.Steps.{Skips, Encloses, StopsAt};
 ghost use Rattle.mh_io.specs.Lines.{Stop};
-ghost use Rattle.mh_io.specs.Lined.{IsStopped};
+ghost use Rattle.mh_io.specs.Lined.{IsStopped, ComesWhere};
 ghost use Rattle.mh_io.specs.Lined as reader;
 
 use crate::words::{is_end, is_passed_over};
@@ -16,7 +16,7 @@ pub(crate) fn skip_to_line<S: Source>(
     line: &mut Bytes,
 ) -> Result<LineStep, LineFault>
     ensures skips { Skips S.faults S.name S.gave S.left lines.old lines.new result line.new }
-    ensures stops { StopsAt result lines.new }
+    ensures comes { ComesWhere result lines.new }
     ensures bounded { lines.new.passed + length lines.new.pending ≤ MOST_BYTES + 1 }
     ensures full { result ≡ Ok LineStep.Line → is_passed_over line.new ≡ false }
     ensures again { (stop : Stop) → IsStopped lines.old stop → (lines.new ≡ lines.old) × (result ≡ reader.answer_at stop) }

@@ -1,9 +1,10 @@
 ghost use Rattle.std.specs.Prelude.{◌≡◌, ℕ, ◌+◌, ◌≤◌, length, List, [], ◌∷◌, ◌++◌, false};
 ghost use Rattle.mh_io.specs.Lines.{Stop};
 ghost use Rattle.mh_io.specs.declared.reading.TheConstants.{MOST_BYTES};
-ghost use Rattle.mh_io.specs.Lined.{Gave, IsStopped};
+ghost use Rattle.mh_io.specs.Lined.{Lined, Gave, IsStopped};
+ghost use Rattle.feed_reader.specs.Feed.{Item};
 ghost use Rattle.feed_reader.specs.Line.{is_passed_over, meaning_of};
-ghost use Rattle.feed_reader.specs.Answers.{Answers, StopsLines, IsPlaced, answer_at};
+ghost use Rattle.feed_reader.specs.Answers.{TellsItems, Follows, Answers, StopsLines, IsPlaced, answer_at};
 ghost use Rattle.feed_reader.specs.Steps.{Tells, feed_fault};
 
 use crate::block::{read_block, skip_to_line};
@@ -82,13 +83,15 @@ fn read_message<S: Source>(
 /// `BadLine` ends only that message: the next call reads on with the next line. `Cut` exactly where the input ended inside
 /// a block; the next call answers `None`. `LineLong` and `TooLong` exactly as `mh_io::Lines` has them, after every message
 /// before. `ReadFault` only where the source's count of faults rose since these lines were made. After these three each
-/// further call answers the same. `Memory` for want of memory, in the message that begins in its line; the lines that this
-/// call was given aren't given again.
+/// further call answers the same. `Memory` for want of memory, in the message that begins in its line, or at its line, which
+/// would have been given next where no message had begun; the lines that this call was given aren't given again.
 pub fn next_message<S: Source>(
     alloc: Global,
     lines: &mut Lines<S>,
 ) -> Result<Option<Fed>, FeedFault>
     ensures answers { Answers S.faults S.name S.gave S.left lines.old lines.new result }
+    // What this call and those before it told, from any of them on.
+    ensures follows { (first : Lined S) (told : List Item) → TellsItems S.faults S.name S.gave S.left first lines.old told → Follows S.faults S.name S.gave S.left first lines.new told result }
     ensures stops { StopsLines result lines.new }
     ensures placed { IsPlaced result lines.old lines.new }
     // No more bytes were taken in all.

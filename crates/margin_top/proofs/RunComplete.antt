@@ -27,7 +27,7 @@ use Rattle.margin_top.proofs.FeedStops.{not_cut, not_long, not_over}
 
 -- the end of a feed that is whole and fits, of which a front was taken
 whole_end : (end : FeedEnd) (items : List Item) (taken rest bytes : List ℕ) (ended : Bool)
-    → IsEnd end items (feed taken ended) → taken ++ rest ≡ bytes → (ended ≡ true → taken ≡ bytes)
+    → IsEnd end items taken ended → taken ++ rest ≡ bytes → (ended ≡ true → taken ≡ bytes)
     → length bytes ≤ MOST_BYTES → (feed bytes true).stop ≡ message.Whole → status_of_end end ≡ status.Feed → ⊥
 whole_end end_at.End items taken rest bytes ended is front all few whole e = cc e
 whole_end (end_at.Cut line) items taken rest bytes ended is front all few whole e =

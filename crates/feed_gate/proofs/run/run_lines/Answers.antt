@@ -1,4 +1,4 @@
-use Rattle.std.proofs.Common.{arith, ◌∷◌, [], ◌++◌, sym, ap, ◌∙◌, subst}
+use Rattle.std.proofs.Common.{arith, ◌∷◌, [], ◌++◌, refl, sym, ap, ◌∙◌, subst}
 use Rattle.feed_gate.specs.Refused.{refusal}
 use Rattle.feed_gate.specs.Sets.{AreApart}
 use Rattle.feed_gate.specs.Run.{RanTo}
@@ -16,23 +16,21 @@ loop-end-init g c = (
 pub returns-in-Some : goal.returns-in-Some
 returns-in-Some g c =
     let ran = c.loop-end.invariant.0.1 in
-    let last = c.in-Some.ensures in
+    let last = c.in-Some.ensures.takes c.args.lines.now c.loop-end.invariant.0.0 ran.told in
     record {
       items = c.loop-end.invariant.0.0;
-      held = c.loop-end.lines;
-      ran = record {
-        told = ran.told;
-        sets = last.sets ∙ ran.sets;
-        done = ap (λ r. r.done) last.report ∙ ran.done;
-        refused = ap (λ r. r.refused) last.report ∙ ran.refused;
-      };
       ends = last.ends;
+      sets = last.sets ∙ ran.sets;
+      done = ap (λ r. r.done) last.report ∙ ran.done;
+      refused = ap (λ r. r.refused) last.report ∙ ran.refused;
     }
 
 pub loop-end-preserved : goal.loop-end-preserved
 loop-end-preserved g c =
-    let t = c.in_default.ensures in (
-      (c.loop-end.invariant.0.0 ++ t.item ∷ [], ran_more g.S.Source.faults g.S.Source.name g.S.Source.gave g.S.Source.left c.loop-end.invariant.0.1 t),
+    let ran = c.loop-end.invariant.0.1 in
+    let t = c.in_default.ensures.takes c.args.lines.now c.loop-end.invariant.0.0 ran.told in
+    let forward = c.in_default.ensures.forward refl in (
+      (c.loop-end.invariant.0.0 ++ t.item ∷ [], ran_more g.S.Source.faults g.S.Source.name g.S.Source.gave g.S.Source.left ran t),
       subst AreApart (sym t.sets) (apart_after (t.item ∷ []) c.loop-end.sets c.loop-end.invariant.1),
-      omega (arith, ap (λ r. r.done) t.report, answer_few c.loop-end.report (refusal c.loop-end.sets t.item), t.later, c.loop-end.invariant.2),
+      omega (arith, ap (λ r. r.done) t.report, answer_few c.loop-end.report (refusal c.loop-end.sets t.item), forward, c.loop-end.invariant.2),
     )

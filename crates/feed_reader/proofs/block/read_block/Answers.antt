@@ -2,7 +2,7 @@ use Rattle.std.proofs.Common.{◌≡◌, ◌++◌, ◌∷◌, [], Ok, Err, true,
 use Rattle.std.proofs.lemmas.List.{append-nil}
 use Rattle.std.proofs.lemmas.Result.{err_from_is_err_and}
 use Rattle.mh_io.specs.declared.lines_answer.LineStep.TheVariants.{End}
-use Rattle.mh_io.proofs.LinesTaken.{gave_none, then_gave}
+use Rattle.feed_reader.proofs.FeedTakings.{gave_none, then_gave}
 use Rattle.feed_reader.specs.Line.{is_end}
 use Rattle.feed_reader.proofs.FeedLines.{no_lines_inside, one_more_inside, block_and, tail_told, line_off, block_ended, then_encloses, line_lost}
 use Rattle.feed_reader.proofs.block.read_block.Goals as goal

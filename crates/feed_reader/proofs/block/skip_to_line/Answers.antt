@@ -1,7 +1,7 @@
 use Rattle.std.proofs.Common.{◌≡◌, ◌++◌, ◌∷◌, [], Ok, Err, true, refl, sym, ap, ◌∙◌, subst}
 use Rattle.mh_io.specs.Lined.{Lined, IsStopped}
 use Rattle.mh_io.specs.declared.lines_answer.LineStep.TheVariants.{Line, End}
-use Rattle.mh_io.proofs.LinesTaken.{gave_none, then_gave}
+use Rattle.feed_reader.proofs.FeedTakings.{gave_none, then_gave}
 use Rattle.feed_reader.specs.Line.{is_passed_over}
 use Rattle.feed_reader.proofs.FeedLines.{no_lines_passed, one_more_passed, then_skips, no_line_at}
 use Rattle.feed_reader.proofs.block.skip_to_line.Goals as goal

@@ -1,9 +1,9 @@
-use Rattle.std.proofs.Common.{◌≡◌, ◌+◌, [], ◌∷◌, ◌++◌, Err, length, sym, ap, ◌∙◌, subst, arith, append_assoc, length-append}
+use Rattle.std.proofs.Common.{◌≡◌, ◌+◌, [], ◌∷◌, ◌++◌, None, Ok, Err, length, sym, ap, ◌∙◌, subst, arith, append_assoc, length-append}
 use Rattle.mh_io.specs.Lined.{Lined, Gave}
-use Rattle.mh_io.proofs.LinesTaken.{then_gave}
+use Rattle.feed_reader.proofs.FeedTakings.{then_gave}
 use Rattle.feed_reader.specs.Steps.{Means, feed_fault}
 use Rattle.feed_reader.proofs.FeedLines.{no_line_at}
-use Rattle.feed_reader.proofs.FeedAnswers.{Owed, told, ended_outside, fault_outside, end_again, fault_again}
+use Rattle.feed_reader.proofs.FeedAnswers.{Owed, follows, told, ended_outside, fault_outside, end_again, fault_again}
 use Rattle.feed_reader.proofs.read.next_message.Goals as goal
 
 pub returns-in-Ok-Line : goal.returns-in-Ok-Line
@@ -17,6 +17,7 @@ returns-in-Ok-Line g c =
     let owed = told g.S.Source.faults g.S.Source.name g.S.Source.gave g.S.Source.left c.read_message.result s.passed line t.further given s.over (subst (λ n. Means n (line ∷ t.further) c.read_message.new.lines c.read_message.result) number t.means) in
     record {
       answers = owed.answers;
+      follows = λ first items so_far. follows g.S.Source.faults g.S.Source.name g.S.Source.gave g.S.Source.left first c.args.lines.now c.read_message.new.lines items c.read_message.result so_far owed.answers;
       stops = owed.stops;
       placed = owed.placed;
       bounded = c.read_message.ensures.bounded;
@@ -26,10 +27,11 @@ returns-in-Ok-Line g c =
 pub returns-in-Ok-End : goal.returns-in-Ok-End
 returns-in-Ok-End g c =
     let s = rw c.in-Ok-End.field-0-is at c.in-Ok-End.ensures.skips in
-    let over = rw c.in-Ok-End.field-0-is at c.in-Ok-End.ensures.stops in
+    let over = rw c.in-Ok-End.field-0-is at c.in-Ok-End.ensures.comes in
     let owed = ended_outside g.S.Source.faults g.S.Source.name g.S.Source.gave g.S.Source.left s.passed s.lines s.over over in
     record {
       answers = owed.answers;
+      follows = λ first items so_far. follows g.S.Source.faults g.S.Source.name g.S.Source.gave g.S.Source.left first c.args.lines.now c.skip_to_line.new.lines items (Ok None) so_far owed.answers;
       stops = owed.stops;
       placed = owed.placed;
       bounded = c.in-Ok-End.ensures.bounded;
@@ -41,13 +43,14 @@ returns g c =
     let s = c.in-Err.ensures.skips in
     let fault = c.in-Err.fault in
     let after = c.skip_to_line.new.lines in
-    let owed = fault_outside g.S.Source.faults g.S.Source.name g.S.Source.gave g.S.Source.left fault s.passed s.lines s.over c.in-Err.ensures.stops in
+    let owed = fault_outside g.S.Source.faults g.S.Source.name g.S.Source.gave g.S.Source.left fault s.passed s.lines s.over c.in-Err.ensures.comes in
     let next : c.given-next.result + 1 ≡ after.given + 1 = ap (λ n. n + 1) c.given-next.ensures.value in
     let same : Err c.feed_fault.result ≡ Err (feed_fault fault (after.given + 1) (after.given + 1)) =
     ap (λ f. Err f) (c.feed_fault.ensures ∙ ap (λ n. feed_fault fault n n) next) in
     let all : Owed g.S.Source.faults g.S.Source.name g.S.Source.gave g.S.Source.left c.args.lines.now after (Err c.feed_fault.result) = subst (Owed g.S.Source.faults g.S.Source.name g.S.Source.gave g.S.Source.left c.args.lines.now after) (sym same) owed in
     record {
       answers = all.answers;
+      follows = λ first items so_far. follows g.S.Source.faults g.S.Source.name g.S.Source.gave g.S.Source.left first c.args.lines.now after items (Err c.feed_fault.result) so_far all.answers;
       stops = all.stops;
       placed = all.placed;
       bounded = c.in-Err.ensures.bounded;

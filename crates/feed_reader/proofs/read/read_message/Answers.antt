@@ -1,8 +1,8 @@
 use Rattle.std.proofs.Common.{◌≡◌, [], sym, ◌∙◌}
-use Rattle.mh_io.proofs.LinesTaken.{gave_none}
+use Rattle.feed_reader.proofs.FeedTakings.{gave_none}
 use Rattle.feed_reader.specs.declared.message.Meaning.TheVariants as meaning
 use Rattle.feed_reader.specs.Line.{meaning_of}
-use Rattle.feed_reader.proofs.FeedMeanings.{message_means, bad_means}
+use Rattle.feed_reader.proofs.FeedMeanings.{message_means, bad_means, lost_means}
 use Rattle.feed_reader.proofs.read.read_message.Goals as goal
 
 pub returns-in-Ok-Tells-clause-tells : goal.returns-in-Ok-Tells-clause-tells
@@ -27,5 +27,5 @@ pub returns-in-Err-clause-tells : goal.returns-in-Err-clause-tells
 returns-in-Err-clause-tells g c = record {
   further = [];
   lines = gave_none g.S.Source.faults g.S.Source.name g.S.Source.gave g.S.Source.left c.args.lines.now;
-  means = c.given-first.ensures.value;
+  means = lost_means c.args.lines.now c.args.lines.now.given c.given-first.result c.args.line.now c.requires.full c.given-first.ensures.value;
 }
