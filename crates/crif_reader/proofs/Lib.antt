@@ -1,4 +1,4 @@
-pub mod Parts
+pub mod FirstLines
 pub mod Currencies
 pub mod Places
 pub mod Gathered

@@ -1,17 +1,13 @@
 -- The lines of a text, the fields of a line, and words without regard to case.
 use Rattle.std.specs.Prelude.{ℕ, List, [], ◌∷◌, length, reverse, map, Bool, ◌==◌, if◌then◌else◌}
-use Rattle.std.specs.List.{slice_split}
 use Rattle.std.specs.Str.{str_eq_ignore_ascii_case}
+use Rattle.mh_units.specs.Cut.{parts_at}
 
 -- what is cut behind each LF: each line ends with LF, and the last may lack it
 abbrev pub ended : List (List ℕ) → List (List ℕ)
 ended [] = []
 ended (last ∷ []) = if length last == 0 then [] else last ∷ []
 ended (line ∷ next ∷ more) = line ∷ ended (next ∷ more)
-
--- the parts of a text between the bytes of one kind: one more than there are such bytes
-abbrev pub parts_at : ℕ → List ℕ → List (List ℕ)
-parts_at mark bytes = slice_split (λ b. b == mark) bytes
 
 abbrev pub lines_of : List ℕ → List (List ℕ)
 lines_of bytes = ended (parts_at 10 bytes)

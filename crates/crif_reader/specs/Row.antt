@@ -11,7 +11,7 @@ use Rattle.simm_kinds.specs.declared.kinds.RiskType.TheVariants as kind
 use Rattle.simm_kinds.specs.declared.kinds.BucketId.TheVariants as bucket
 use Rattle.simm_kinds.specs.declared.row.CrifRow.{CrifRow}
 use Rattle.simm_kinds.specs.Key.{Key}
-use Rattle.simm_kinds.specs.NameText.{is_name}
+use Rattle.simm_kinds.specs.NameText.{is_full_name}
 use Rattle.crif_reader.specs.Lines.{fields_of, is_word}
 
 -- a row, and the trade that it belongs to
@@ -34,7 +34,7 @@ risk_type_of field = if is_word (codes "Risk_FX") field then Some kind.Fx else N
 
 -- a name that isn't empty
 abbrev pub trade_of : List ℕ → Option (List ℕ)
-trade_of field = if not (length field == 0) && is_name field then Some field else None
+trade_of field = if is_full_name field then Some field else None
 
 abbrev pub product_of : List ℕ → Option ProductClass
 product_of field =

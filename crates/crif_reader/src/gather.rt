@@ -1,12 +1,25 @@
-ghost use Rattle.std.specs.Prelude.{◌≡◌, OnOk};
+ghost use Rattle.std.specs.Prelude.{◌≡◌, ◌∷◌, [], IfOk, OnOk};
+ghost use Rattle.simm_kinds.specs.NameText.{IsName};
 ghost use Rattle.crif_reader.specs.Growth.{with_entry, IsIndex};
 
 use crate::row::Entry;
-use simm_kinds::{Listed, TradeRows};
+use simm_kinds::{CrifRow, Listed, Name, TradeRows};
 use std::alloc::{AllocError, Global};
 use std::collections::BTreeMap;
 
-/// Adds a row at the end of its trade, or with a new trade behind the others. `places` has the place of each trade.
+/// A trade with one row.
+fn started_trade(alloc: Global, name: &[u8], row: CrifRow) -> Result<TradeRows, AllocError>
+    requires { IsName name.now }
+    ensures { IfOk result (λ t. t ≡ record { trade = name.now; rows = row ∷ [] }) }
+{
+    let trade = Name::of_bytes(alloc, name)?;
+    let mut rows = Listed::with_capacity(alloc, 1)?;
+    rows.push(row)?;
+    Ok(TradeRows { trade, rows })
+}
+
+/// Adds a row at the end of its trade, or with a new trade behind the others. `places` has the place of each trade. The name is
+/// copied for a new trade alone.
 pub fn add_entry<'a>(
     alloc: Global,
     trades: &mut Vec<TradeRows>,
@@ -14,21 +27,17 @@ pub fn add_entry<'a>(
     added: Entry<'a>,
 ) -> Result<(), AllocError>
     requires index { IsIndex places.old trades.old.items }
-    requires name { added.text.now ≡ added.trade }
-    ensures trades { OnOk result (trades.new.items ≡ with_entry trades.old.items (record { trade = added.entry.trade; row = added.entry.row })) }
+    requires name { IsName added.trade.now }
+    ensures trades { OnOk result (trades.new.items ≡ with_entry trades.old.items (record { trade = added.entry.trade.now; row = added.entry.row })) }
     ensures index { OnOk result (IsIndex places.new trades.new.items) }
 {
-    let Entry { text, trade, row } = added;
-    match places.get(&text).copied() {
+    let Entry { trade, row } = added;
+    match places.get(&trade).copied() {
         Some(place) => trades[place].rows.push(row)?,
         None => {
-            let mut rows = Vec::with_capacity(alloc, 1)?;
-            rows.push(row)?;
-            places.insert(text, trades.len())?;
-            trades.push(TradeRows {
-                trade,
-                rows: Listed::from_vec(rows),
-            })?;
+            let started = started_trade(alloc, trade, row)?;
+            places.insert(trade, trades.len())?;
+            trades.push(started)?;
         }
     }
     Ok(())

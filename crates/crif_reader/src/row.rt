@@ -1,21 +1,21 @@
 ghost use Rattle.std.specs.Prelude.{◌≡◌, ◌≢◌, length, map, MatchOption, IfOk, IsTrue};
-ghost use Rattle.crif_reader.specs.Lines.{parts_at, trimmed};
+ghost use Rattle.mh_units.specs.Cut.{parts_at};
+ghost use Rattle.crif_reader.specs.Lines.{trimmed};
 ghost use Rattle.crif_reader.specs.Columns.{parts_of};
 ghost use Rattle.crif_reader.specs.Reads.{Gives};
 ghost use Rattle.crif_reader.specs.Row.{risk_type_of, trade_of, product_of, currency_of, amount_of, fx_key, entry_of, entry_of_fields};
-ghost use Rattle.simm_kinds.specs.NameText.{is_currency};
+ghost use Rattle.simm_kinds.specs.NameText.{is_currency, IsName};
 
 use crate::CrifFault;
-use crate::text::{are_plain, cut_at, is_word, trim_spaces};
-use mh_units::read_cents;
-use simm_kinds::{BucketId, CrifRow, FactorKey, Name, NameFault, ProductClass, RiskType};
+use crate::text::{are_plain, is_word, trim_spaces};
+use mh_units::{cut_at, read_cents};
+use simm_kinds::{BucketId, CrifRow, FactorKey, Name, ProductClass, RiskType};
 use std::alloc::{AllocError, Global};
 
-/// A row, and the trade that it belongs to: its name, and where the file has it.
+/// A row, and the name of the trade that it belongs to, as the file has it.
 #[derive(Drop)]
 pub struct Entry<'a> {
-    pub text: &'a [u8],
-    pub trade: Name,
+    pub trade: &'a [u8],
     pub row: CrifRow,
 }
 
@@ -75,18 +75,15 @@ fn read_risk_type(field: &[u8]) -> Result<RiskType, CrifFault>
     }
 }
 
-/// Reads a name that isn't empty.
-fn read_trade(alloc: Global, field: &[u8]) -> Result<Name, CrifFault>
-    ensures value { Gives (λ n. n) result (trade_of field.now) }
-    ensures same { IfOk result (λ n. n ≡ field.now) }
+/// Tests a name that isn't empty.
+fn read_trade(field: &[u8]) -> Result<&[u8], CrifFault>
+    ensures value { Gives (λ n. n.now) result (trade_of field.now) }
+    ensures name { IfOk result (λ n. IsName n.now) }
 {
-    if field.is_empty() {
-        return Err(CrifFault::Refused);
-    }
-    match Name::read(alloc, field) {
-        Ok(name) => Ok(name),
-        Err(NameFault::Memory) => Err(CrifFault::Memory),
-        Err(_) => Err(CrifFault::Refused),
+    if Name::is_full_name(field) {
+        Ok(field)
+    } else {
+        Err(CrifFault::Refused)
     }
 }
 
@@ -112,12 +109,7 @@ fn currency_name(alloc: Global, letters: &[u8]) -> Result<Name, AllocError>
     requires { IsTrue (is_currency letters.now) }
     ensures { IfOk result (λ q. q ≡ letters.now) }
 {
-    match Name::read(alloc, letters) {
-        Ok(name) => Ok(name),
-        Err(NameFault::Memory) => Err(AllocError),
-        Err(NameFault::Long) => unreachable!(),
-        Err(NameFault::Byte) => unreachable!(),
-    }
+    Name::of_bytes(alloc, letters)
 }
 
 /// Reads a currency, in upper case.
@@ -171,25 +163,24 @@ fn make_fx_key(alloc: Global, kind: RiskType, class: ProductClass, currency: Nam
 
 #[tactic(auto, unfolding(crate::specs::Row::entry_of_fields))]
 fn read_columns<'a>(alloc: Global, columns: &Columns<'a>) -> Result<Entry<'a>, CrifFault>
-    ensures value { Gives (λ e. record { trade = e.trade; row = e.row }) result (entry_of_fields (map trimmed (parts_of columns.now))) }
-    ensures name { IfOk result (λ e. e.text.now ≡ e.trade) }
+    ensures value { Gives (λ e. record { trade = e.trade.now; row = e.row }) result (entry_of_fields (map trimmed (parts_of columns.now))) }
+    ensures name { IfOk result (λ e. IsName e.trade.now) }
 {
     let kind = read_risk_type(trim_spaces(columns.risk_type))?;
-    let text = trim_spaces(columns.trade_id);
-    let trade = read_trade(alloc, text)?;
+    let trade = read_trade(trim_spaces(columns.trade_id))?;
     let class = read_product(trim_spaces(columns.product_class))?;
     let currency = read_currency(alloc, trim_spaces(columns.qualifier))?;
     let amount = read_amount(trim_spaces(columns.amount_usd))?;
     let key = make_fx_key(alloc, kind, class, currency);
     let row = CrifRow { key, amount };
-    Ok(Entry { text, trade, row })
+    Ok(Entry { trade, row })
 }
 
 /// Reads a line that is one row.
 #[tactic(auto, unfolding(crate::specs::Row::entry_of))]
 pub fn read_entry(alloc: Global, line: &[u8]) -> Result<Entry<'_>, CrifFault>
-    ensures value { Gives (λ e. record { trade = e.trade; row = e.row }) result (entry_of line.now) }
-    ensures name { IfOk result (λ e. e.text.now ≡ e.trade) }
+    ensures value { Gives (λ e. record { trade = e.trade.now; row = e.row }) result (entry_of line.now) }
+    ensures name { IfOk result (λ e. IsName e.trade.now) }
 {
     if !are_plain(line) {
         return Err(CrifFault::Refused);

@@ -1,16 +1,9 @@
-ghost use Rattle.std.specs.Prelude.{◌≡◌, ◌<◌, ◌==◌, ◌∷◌, [], length, MatchOption, IfSome};
+ghost use Rattle.std.specs.Prelude.{◌≡◌, ◌<◌, ◌∷◌, length};
 ghost use Rattle.std.specs.List.{list_all};
-ghost use Rattle.crif_reader.specs.Lines.{lines_of, parts_at, trimmed, is_word};
+ghost use Rattle.crif_reader.specs.Lines.{lines_of, trimmed, is_word};
 ghost use Rattle.crif_reader.specs.Row.{is_plain};
 
-/// The bytes before the first such byte and those behind it, or `None` where there is none.
-pub fn cut_at(bytes: &[u8], mark: u8) -> Option<(&[u8], &[u8])>
-    ensures parts { MatchOption result (parts_at mark bytes.now ≡ bytes.now ∷ []) (λ cut. parts_at mark bytes.now ≡ cut.0.now ∷ parts_at mark cut.1.now) }
-    ensures shorter { IfSome result (λ cut. length cut.1.now < length bytes.now) }
-{
-    let place = bytes.iter().position(|byte| *byte == mark)?;
-    Some((&bytes[..place], &bytes[place + 1..]))
-}
+use mh_units::cut_at;
 
 /// The first line, without its LF, and the bytes behind it.
 pub fn cut_line(bytes: &[u8]) -> (&[u8], &[u8])

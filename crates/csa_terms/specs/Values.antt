@@ -1,9 +1,9 @@
 -- The kinds of value in a terms file, each with its test. Amounts are in cents, rates in ten-thousandths.
-use Rattle.std.specs.Prelude.{ℕ, ◌==◌, List, length, is_some, Option, ok_or, option_and_then, Result, Ok, Err, ℤ, if◌then◌else◌}
+use Rattle.std.specs.Prelude.{ℕ, List, is_some, Option, ok_or, option_and_then, Result, Ok, Err, ℤ, if◌then◌else◌}
 use Rattle.std.specs.Result.{result_map_both}
 use Rattle.toml.specs.Data.{Data, Items, Members, as_str, as_array, as_table}
 use Rattle.mh_units.specs.Numeral.{cents_of, fixed_of}
-use Rattle.simm_kinds.specs.NameText.{name_fault}
+use Rattle.simm_kinds.specs.NameText.{name_fault, is_full_name}
 use Rattle.csa_terms.specs.declared.range.Range.{Range}
 use Rattle.csa_terms.specs.declared.value_fault.ValueFault.{ValueFault}
 use Rattle.csa_terms.specs.declared.value_fault.ValueFault.TheVariants.{Missing, BadNumber, OutOfRange, BadDate, BadName}
@@ -29,14 +29,13 @@ abbrev pub name_of : List ℕ → Result (List ℕ) ValueFault
 name_of text = if is_some (name_fault text) then Err BadName else Ok text
 
 -- a name that isn't empty
-abbrev pub filled : List ℕ → Result (List ℕ) ValueFault
-filled name = if length name == 0 then Err BadName else Ok name
+abbrev pub full_name_of : List ℕ → Result (List ℕ) ValueFault
+full_name_of text = if is_full_name text then Ok text else Err BadName
 
 unfoldable pub set_name_of : Option Data → Result (List ℕ) ValueFault
 set_name_of value = do
   text ← text_of value
-  name ← name_of text
-  filled name
+  full_name_of text
 
 -- ---- numbers
 

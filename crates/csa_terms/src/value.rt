@@ -70,11 +70,10 @@ pub fn set_name(alloc: Global, value: Option<&Value>) -> Result<Name, ValueFault
     ensures named { IfOk result (λ n. 0 < length n) }
 {
     let text = text(value)?;
-    let name = name(alloc, text)?;
-    if name.bytes().is_empty() {
+    if !Name::is_full_name(text.as_bytes()) {
         return Err(ValueFault::BadName);
     }
-    Ok(name)
+    name(alloc, text)
 }
 
 /// An amount of money in the range.

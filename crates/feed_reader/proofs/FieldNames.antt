@@ -2,8 +2,9 @@
 use Rattle.std.proofs.Common.{◌≡◌, ◌==◌, ◌∷◌, [], ◌++◌, ℕ, true, false, cond, List, Some, None, refl, append_assoc}
 use Rattle.std.specs.List.{list_all}
 use Rattle.std.proofs.lemmas.List.Folds.{list_all-append}
-use Rattle.feed_reader.specs.Line.{fields_of, is_full_name, full_name, full_names, only_name, withdrawal, withdrawn}
-use Rattle.feed_reader.proofs.FieldParts.{first_part}
+use Rattle.simm_kinds.specs.NameText.{is_full_name}
+use Rattle.feed_reader.specs.Line.{fields_of, full_name, full_names, only_name, withdrawal, withdrawn}
+use Rattle.mh_units.proofs.Cuts.{first_part}
 
 -- of two fields or more none is the only one
 pub two_fields : (fields : List (List ℕ)) (first further : List ℕ) → fields ≡ first ∷ fields_of further → None ≡ only_name fields

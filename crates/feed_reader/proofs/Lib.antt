@@ -1,4 +1,3 @@
-pub mod FieldParts
 pub mod FieldNames
 pub mod FeedTakings
 pub mod FeedLines

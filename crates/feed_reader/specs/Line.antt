@@ -1,8 +1,9 @@
 -- Feed grammar: what a line outside a block is.
-use Rattle.std.specs.Prelude.{◌≡◌, ℕ, List, [], ◌∷◌, Bool, true, false, ◌==◌, codes, is_none, Option, Some, None, if◌then◌else◌}
-use Rattle.std.specs.List.{All, slice_split, list_all}
+use Rattle.std.specs.Prelude.{◌≡◌, ℕ, List, [], ◌∷◌, Bool, true, false, ◌==◌, codes, Option, Some, None, if◌then◌else◌}
+use Rattle.std.specs.List.{All, list_all}
 use Rattle.std.specs.Str.{bytes_eq}
-use Rattle.simm_kinds.specs.NameText.{name_fault}
+use Rattle.mh_units.specs.Cut.{parts_at}
+use Rattle.simm_kinds.specs.NameText.{is_full_name}
 use Rattle.feed_reader.specs.declared.message.Message.TheVariants.{Withdraw, Ask}
 use Rattle.feed_reader.specs.declared.message.Meaning.{Meaning}
 use Rattle.feed_reader.specs.declared.message.Meaning.TheVariants.{Opens, Tells, Bad}
@@ -14,14 +15,9 @@ is_passed_over (b ∷ bs) = b == 35
 
 -- the parts between the tabs
 abbrev pub fields_of : List ℕ → List (List ℕ)
-fields_of line = slice_split (λ b. b == 9) line
+fields_of line = parts_at 9 line
 
--- a name that isn't empty
-abbrev pub is_full_name : List ℕ → Bool
-is_full_name [] = false
-is_full_name (b ∷ bs) = is_none (name_fault (b ∷ bs))
-
--- the field, where it is such a name
+-- the field, where it is a name that isn't empty
 abbrev pub full_name : List ℕ → Option (List ℕ)
 full_name field = if is_full_name field then Some field else None
 

@@ -1,33 +1,20 @@
-ghost use Rattle.std.specs.Prelude.{◌≡◌, ◌==◌, ◌<◌, ◌∷◌, [], length, Some, None, MatchOption, IfOk, IfSome, if◌then◌else◌};
-ghost use Rattle.std.specs.List.{list_all};
-ghost use Rattle.feed_reader.specs.Line.{fields_of, is_full_name, full_name, full_names, only_name, opening, question, withdrawal, meaning_of};
+ghost use Rattle.std.specs.Prelude.{◌≡◌, Some, None, IfOk};
+ghost use Rattle.feed_reader.specs.Line.{fields_of, full_name, full_names, only_name, opening, question, withdrawal, meaning_of};
 
 use crate::message::{Meaning, Message};
 use crate::words::{ASK, CRIF, TAB, WITHDRAW, is_word};
-use simm_kinds::{Listed, Name, NameFault};
+use mh_units::cut_at;
+use simm_kinds::{Listed, Name};
 use std::alloc::{AllocError, Global};
-
-/// The first field and the bytes behind its tab, or `None` where there is one field alone.
-fn cut_field(bytes: &[u8]) -> Option<(&[u8], &[u8])>
-    ensures parts { MatchOption result (fields_of bytes.now ≡ bytes.now ∷ []) (λ cut. fields_of bytes.now ≡ cut.0.now ∷ fields_of cut.1.now) }
-    ensures shorter { IfSome result (λ cut. length cut.1.now < length bytes.now) }
-{
-    let place = bytes.iter().position(|byte| *byte == TAB)?;
-    Some((&bytes[..place], &bytes[place + 1..]))
-}
 
 /// The name that the field is, or `None` where it is empty or no name.
 fn read_name(alloc: Global, field: &[u8]) -> Result<Option<Name>, AllocError>
     ensures { IfOk result (λ name. name ≡ full_name field.now) }
 {
-    if field.is_empty() {
+    if !Name::is_full_name(field) {
         return Ok(None);
     }
-    match Name::read(alloc, field) {
-        Ok(name) => Ok(Some(name)),
-        Err(NameFault::Memory) => Err(AllocError),
-        Err(_) => Ok(None),
-    }
+    Ok(Some(Name::of_bytes(alloc, field)?))
 }
 
 /// The names that the fields are, or `None` where one of them is none.
@@ -36,7 +23,7 @@ fn read_names(alloc: Global, fields: &[u8]) -> Result<Option<Listed<Name>>, Allo
 {
     let mut names = Listed::new(alloc);
     let mut rest = fields;
-    while let Some((field, further)) = cut_field(rest) {
+    while let Some((field, further)) = cut_at(rest, TAB) {
         let Some(name) = read_name(alloc, field)? else {
             return Ok(None);
         };
@@ -54,7 +41,7 @@ fn read_names(alloc: Global, fields: &[u8]) -> Result<Option<Listed<Name>>, Allo
 fn read_set(alloc: Global, fields: &[u8]) -> Result<Option<Name>, AllocError>
     ensures { IfOk result (λ set. set ≡ only_name (fields_of fields.now)) }
 {
-    match cut_field(fields) {
+    match cut_at(fields, TAB) {
         Some(_) => Ok(None),
         None => read_name(alloc, fields),
     }
@@ -83,7 +70,7 @@ fn read_ask(alloc: Global, fields: &[u8]) -> Result<Meaning, AllocError>
 fn read_withdraw(alloc: Global, fields: &[u8]) -> Result<Meaning, AllocError>
     ensures { IfOk result (λ meaning. meaning ≡ withdrawal (fields_of fields.now)) }
 {
-    let Some((first, further)) = cut_field(fields) else {
+    let Some((first, further)) = cut_at(fields, TAB) else {
         return Ok(Meaning::Bad);
     };
     let Some(set) = read_name(alloc, first)? else {
@@ -102,7 +89,7 @@ fn read_withdraw(alloc: Global, fields: &[u8]) -> Result<Meaning, AllocError>
 pub(crate) fn read_line(alloc: Global, line: &[u8]) -> Result<Meaning, AllocError>
     ensures { IfOk result (λ meaning. meaning ≡ meaning_of line.now) }
 {
-    let Some((word, fields)) = cut_field(line) else {
+    let Some((word, fields)) = cut_at(line, TAB) else {
         return Ok(Meaning::Bad);
     };
     if is_word(word, CRIF) {

@@ -1,18 +1,13 @@
 -- What reading a numeral answers, test by test.
-use Rattle.std.proofs.Common.{Option, MatchOption, ◌≡◌, ◌≢◌, ℕ, ◌+◌, ◌-◌, ◌*◌, ◌^◌, ◌<◌, ◌≤◌, min, Bool, true, false, cond, not, ◌&&◌, nat_le, nat_lt, ◌==◌, List, [], ◌∷◌, ◌++◌, length, ℤ, Some, None, Result, Ok, Err, refl, sym, ap, ◌∙◌, subst, arith, ⊎_elim, eqb-true, true≢false}
-use Rattle.std.proofs.lemmas.Bool.{lt-ltb, le-ltb, eq-eqb, ne_eqb, le-leb, lt-leb, cases_lt, and_left, and_right, ltb-true, ltb-false, eqb-false, and_parts, and_from, leb-true}
-use Rattle.std.specs.Result.{result_ok, result_map_both}
-use Rattle.mh_units.specs.declared.numeral.NumeralFault.{NumeralFault}
+use Rattle.std.proofs.Common.{Option, MatchOption, ◌≡◌, ◌≢◌, ℕ, ◌+◌, ◌-◌, ◌*◌, ◌^◌, ◌<◌, ◌≤◌, min, Bool, true, false, cond, not, ◌&&◌, nat_le, nat_lt, ◌==◌, List, [], ◌∷◌, ◌++◌, length, ℤ, Some, None, Ok, Err, refl, sym, ap, ◌∙◌, subst, arith, ⊎_elim, eqb-true, true≢false}
+use Rattle.std.proofs.lemmas.Bool.{lt-ltb, le-ltb, eq-eqb, ne_eqb, le-leb, lt-leb, cases_lt, and_left, and_right, and_parts, and_from, leb-true}
+use Rattle.std.specs.Result.{result_ok}
 use Rattle.mh_units.specs.declared.numeral.NumeralFault.TheVariants as faults
 use Rattle.mh_units.specs.declared.scan.Phase.TheVariants as phases
-use Rattle.mh_units.specs.declared.quantities.Cents.{Cents}
-use Rattle.mh_units.specs.declared.quantities.Rate4.{Rate4}
-use Rattle.mh_units.specs.Grammar.{IsNumeral}
 use Rattle.mh_units.specs.Scan.{is_numeral, reach}
-use Rattle.mh_units.specs.Numeral.{number_of, magnitude, scaled, signed, number, whole, fraction, exponent, exponent_digits, after_mantissa, after_mark, after_sign, digits, is_minus, fixed_of, fixed_value, cents_of, rate4_of, IsAnswer, IsFixed}
+use Rattle.mh_units.specs.Numeral.{number_of, magnitude, scaled, signed, number, whole, fraction, exponent, exponent_digits, after_mantissa, after_mark, after_sign, digits, is_minus, fixed_of, fixed_value, IsFixed}
 use Rattle.mh_units.proofs.Scans.{numeral_is}
-use Rattle.mh_units.proofs.Apart.{apart_is}
-use Rattle.mh_units.proofs.Fronts.{numeral_from, no_numeral, reach_is_longest}
+use Rattle.mh_units.proofs.Fronts.{numeral_from}
 use Rattle.mh_units.proofs.Numbers.{shift_up}
 
 -- ---- the tests, in their order
@@ -128,48 +123,6 @@ unfolding number_of fixed_of
 fixed_from places text none few =
     rw (magnitude_fixed places text none few, leb_is (length text) 64, eq-eqb (length (after_mantissa text)) 0 none, le-leb (length (fraction text)) places few, leb_is (fixed_value places text) (10 ^ 12))
     (chosen (length text == 0) (nat_lt 64 (length text)) (is_numeral text) (nat_lt (10 ^ 12) (fixed_value places text)) (reach phases.Start text) (signed text (fixed_value places text)) (empty_is_none text))
-
--- ---- the answer by the written grammar
-
-pub answer_is : (places most : ℕ) (text : List ℕ) → IsAnswer (λ n. n) places most text (number_of places most text)
-unfolding number_of
-answer_is places most text = at_empty (length text == 0) refl
-  where
-    at_size : 0 < length text → length text ≤ 64 → IsNumeral text → (t : Bool) → nat_lt most (magnitude places text) ≡ t → IsAnswer (λ n. n) places most text (cond t (Err faults.TooLarge) (Ok (signed text (magnitude places text))))
-    at_size some short good true e = (short, good, ltb-true most (magnitude places text) e)
-    at_size some short good false e = (short, good, apart_is text good, ltb-false most (magnitude places text) e, refl)
-
-    at_bytes : 0 < length text → length text ≤ 64 → (t : Bool) → is_numeral text ≡ t → IsAnswer (λ n. n) places most text (cond (not t) (Err (faults.BadByte (reach phases.Start text))) (cond (nat_lt most (magnitude places text)) (Err faults.TooLarge) (Ok (signed text (magnitude places text)))))
-    at_bytes some short true e = at_size some short (numeral_from text e) (nat_lt most (magnitude places text)) refl
-    at_bytes some short false e = (some, short, no_numeral text e, reach_is_longest text)
-
-    at_length : 0 < length text → (t : Bool) → nat_lt 64 (length text) ≡ t → IsAnswer (λ n. n) places most text (cond t (Err faults.TooLong) (cond (not (is_numeral text)) (Err (faults.BadByte (reach phases.Start text))) (cond (nat_lt most (magnitude places text)) (Err faults.TooLarge) (Ok (signed text (magnitude places text))))))
-    at_length some true e = ltb-true 64 (length text) e
-    at_length some false e = at_bytes some (ltb-false 64 (length text) e) (is_numeral text) refl
-
-    at_empty : (t : Bool) → (length text == 0) ≡ t → IsAnswer (λ n. n) places most text (cond t (Err faults.Empty) (cond (nat_lt 64 (length text)) (Err faults.TooLong) (cond (not (is_numeral text)) (Err (faults.BadByte (reach phases.Start text))) (cond (nat_lt most (magnitude places text)) (Err faults.TooLarge) (Ok (signed text (magnitude places text)))))))
-    at_empty true e = nil_of text (eqb-true (length text) 0 e)
-    at_empty false e = at_length (let apart : length text ≢ 0 = eqb-false (length text) 0 e in omega arith) (nat_lt 64 (length text)) refl
-
--- the same of an answer that is made of it
-answer_mapped : {A : Type 0} (make : ℤ → A) (view : A → ℤ) → ((n : ℤ) → view (make n) ≡ n) → (places most : ℕ) (text : List ℕ) (r : Result ℤ NumeralFault) → IsAnswer (λ n. n) places most text r → IsAnswer view places most text (result_map_both make (λ e. e) r)
-answer_mapped make view same places most text (Ok n) a = (a.0, a.1, a.2, a.3, same n ∙ a.4)
-answer_mapped make view same places most text (Err faults.Empty) a = a
-answer_mapped make view same places most text (Err faults.TooLong) a = a
-answer_mapped make view same places most text (Err (faults.BadByte place)) a = a
-answer_mapped make view same places most text (Err faults.TooLarge) a = a
-
-pub cents_answer : (text : List ℕ) (r : Result Cents NumeralFault) → r ≡ cents_of text → IsAnswer (λ c. c.0) 2 (10 ^ 15) text r
-unfolding cents_of
-cents_answer text r e =
-    let P : Result Cents NumeralFault → Type 0 = λ x. IsAnswer (λ c. c.0) 2 (10 ^ 15) text x in
-    subst P (sym e) (answer_mapped (λ n. record { 0 = n }) (λ (c : Cents). c.0) (λ n. refl) 2 (10 ^ 15) text (number_of 2 (10 ^ 15) text) (answer_is 2 (10 ^ 15) text))
-
-pub rate4_answer : (text : List ℕ) (r : Result Rate4 NumeralFault) → r ≡ rate4_of text → IsAnswer (λ c. c.0) 4 (10 ^ 12) text r
-unfolding rate4_of
-rate4_answer text r e =
-    let P : Result Rate4 NumeralFault → Type 0 = λ x. IsAnswer (λ c. c.0) 4 (10 ^ 12) text x in
-    subst P (sym e) (answer_mapped (λ n. record { 0 = n }) (λ (c : Rate4). c.0) (λ n. refl) 4 (10 ^ 12) text (number_of 4 (10 ^ 12) text) (answer_is 4 (10 ^ 12) text))
 
 -- ---- exact values by the written grammar
 

@@ -1,6 +1,7 @@
 pub mod Integers
 pub mod Least
 pub mod Roundings
+pub mod Cuts
 pub mod Numbers
 pub mod Digits
 pub mod Apart

@@ -7,7 +7,7 @@ use Rattle.std.proofs.Math.Nat.{one-le-pow, pow-le-pow_right, mul-div-mul_right,
 use Rattle.std.proofs.lemmas.Bool.{cases_lt, le-leb, lt-leb}
 use Rattle.std.specs.List.{AllByRecursion}
 use Rattle.mh_units.specs.Grammar.{IsDigit}
-use Rattle.mh_units.specs.Numeral.{number_after, number, nearest, scaled, IsNearest}
+use Rattle.mh_units.specs.Numeral.{number_after, number, nearest, scaled, distance, IsNearest}
 
 pub number_after-append : (n : ℕ) (xs ys : List ℕ) → number_after n (xs ++ ys) ≡ number_after (number_after n xs) ys
 number_after-append n [] ys = refl
@@ -89,7 +89,7 @@ nearest_from top bottom n some half = record {
       (λ below. let unit = unit_after m n bottom below in omega (arith, unit, half.above))
       (λ from. ⊎_elim
       (λ above. let unit = unit_after n m bottom above in omega (arith, unit, half.below))
-      (λ to. let same : m ≡ n = omega arith in rw same (omega arith))
+      (λ to. let P : ℕ → Type 0 = λ k. distance (n * bottom) top ≤ distance (k * bottom) top in let same : n ≡ m = omega arith in subst P same (omega arith))
       (cases_lt n m))
       (cases_lt m n);
   greatest = λ m far. ⊎_elim

@@ -106,10 +106,10 @@ signed text n = with_sign (is_minus text) n
 
 -- The number that a numeral writes is, without its sign, this top over this bottom: the digits' number, times ten to the power
 -- of the exponent, less one power of ten for each digit behind the point.
-abbrev pub written_top : List ℕ → ℕ
+unfoldable pub written_top : List ℕ → ℕ
 written_top text = number (whole text ++ fraction text) * (if is_minus (exponent text) then 1 else 10 ^ number (exponent_digits text))
 
-abbrev pub written_bottom : List ℕ → ℕ
+unfoldable pub written_bottom : List ℕ → ℕ
 written_bottom text = 10 ^ length (fraction text) * (if is_minus (exponent text) then 10 ^ number (exponent_digits text) else 1)
 
 -- how far apart two numbers are
@@ -179,10 +179,16 @@ pub record IsFixed (places : ℕ) (text : List ℕ) : Type 0 where
 
 -- ---- the answer by the written grammar
 
--- The fault is the first that holds; without one the answer is the value, by its view.
-abbrev pub IsAnswer : {A : Type 0} → (A → ℤ) → ℕ → ℕ → List ℕ → Result A NumeralFault → Type 0
-IsAnswer view places most text (Ok a) = (length text ≤ 64) × IsNumeral text × IsApart text × (magnitude places text ≤ most) × (view a ≡ signed text (magnitude places text))
-IsAnswer view places most text (Err faults.Empty) = text ≡ []
-IsAnswer view places most text (Err faults.TooLong) = 64 < length text
-IsAnswer view places most text (Err (faults.BadByte place)) = (0 < length text) × (length text ≤ 64) × (¬ IsNumeral text) × IsLongestFront text place
-IsAnswer view places most text (Err faults.TooLarge) = (length text ≤ 64) × IsNumeral text × (most < magnitude places text)
+-- the nearest whole number is above most in size
+pub record IsTooLarge (places most : ℕ) (text : List ℕ) : Type 0 where
+  pub size : ℕ
+  pub nearest : IsNearest (written_top text * 10 ^ places) (written_bottom text) size
+  pub large : most < size
+
+-- The fault is the first that holds. Without one the text is a numeral, and its parts are those of the grammar.
+abbrev pub IsAnswer : {A : Type 0} → ℕ → ℕ → List ℕ → Result A NumeralFault → Type 0
+IsAnswer places most text (Ok a) = (length text ≤ 64) × IsNumeral text × IsApart text
+IsAnswer places most text (Err faults.Empty) = text ≡ []
+IsAnswer places most text (Err faults.TooLong) = 64 < length text
+IsAnswer places most text (Err (faults.BadByte place)) = (0 < length text) × (length text ≤ 64) × (¬ IsNumeral text) × IsLongestFront text place
+IsAnswer places most text (Err faults.TooLarge) = (length text ≤ 64) × IsNumeral text × IsTooLarge places most text

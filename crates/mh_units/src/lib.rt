@@ -1,7 +1,8 @@
-//! Units, rounding and numerals: the exact arithmetic that every margin and call amount rests on.
+//! Units, rounding and numerals: the exact arithmetic that every margin and call amount rests on; and bytes with their parts.
 #![tactic(auto)]
 
 mod bytes;
+mod cut;
 mod money;
 mod numeral;
 mod parts;
@@ -11,6 +12,7 @@ mod scan;
 mod value;
 
 pub use bytes::{Bytes, Text};
+pub use cut::cut_at;
 pub use money::write_cents;
 pub use numeral::{NumeralFault, read_cents, read_fixed, read_rate4};
 pub use quantities::{Cents, Corr6, Rate4};

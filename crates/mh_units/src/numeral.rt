@@ -1,6 +1,6 @@
 ghost use Rattle.std.specs.Prelude.{◌≡◌, true, ◌^◌, ◌<◌, ◌≤◌, ◌≤ℤ◌, length, unsigned_abs, IfOk, IfSome, MatchOption};
 ghost use Rattle.mh_units.specs.Scan.{is_numeral};
-ghost use Rattle.mh_units.specs.Numeral.{fault_number, number_of, cents_of, rate4_of, fixed_of, fixed_value, with_sign, signed, IsAnswer, IsRounded, IsFixed, IsExact};
+ghost use Rattle.mh_units.specs.Numeral.{fault_number, number_of, cents_of, rate4_of, fixed_of, with_sign, IsAnswer, IsRounded, IsFixed, IsExact};
 
 use crate::parts::take_apart;
 use crate::quantities::{Cents, Rate4};
@@ -46,7 +46,7 @@ impl NumeralFault {
 pub fn read_cents(text: &[u8]) -> Result<Cents, NumeralFault>
     ensures value { result ≡ cents_of text.now }
     ensures nearest { IfOk result (λ c. IsRounded 2 text.now c.0) }
-    ensures answer { IsAnswer (λ c. c.0) 2 (10 ^ 15) text.now result }
+    ensures answer { IsAnswer 2 (10 ^ 15) text.now result }
     ensures size { IfOk result (λ c. unsigned_abs c.0 ≤ 10 ^ 15) }
 {
     number_of(text, 2, MOST_CENTS).map(|cents| Cents(i128::from(cents)))
@@ -57,7 +57,7 @@ pub fn read_cents(text: &[u8]) -> Result<Cents, NumeralFault>
 pub fn read_rate4(text: &[u8]) -> Result<Rate4, NumeralFault>
     ensures value { result ≡ rate4_of text.now }
     ensures nearest { IfOk result (λ r. IsRounded 4 text.now r.0) }
-    ensures answer { IsAnswer (λ r. r.0) 4 (10 ^ 12) text.now result }
+    ensures answer { IsAnswer 4 (10 ^ 12) text.now result }
     ensures size { IfOk result (λ r. unsigned_abs r.0 ≤ 10 ^ 12) }
 {
     number_of(text, 4, MOST_RATE).map(Rate4)
@@ -68,8 +68,7 @@ pub fn read_rate4(text: &[u8]) -> Result<Rate4, NumeralFault>
 pub fn read_fixed(text: &[u8], places: u8) -> Option<i64>
     requires { places ≤ 6 }
     ensures value { result ≡ fixed_of places text.now }
-    ensures exact { IfSome result (λ n. IsExact places text.now n) }
-    ensures answer { MatchOption result (¬ IsFixed places text.now) (λ n. IsFixed places text.now × (n ≡ signed text.now (fixed_value places text.now))) }
+    ensures answer { MatchOption result (¬ IsFixed places text.now) (λ n. IsFixed places text.now × IsExact places text.now n) }
     ensures size { IfSome result (λ n. unsigned_abs n ≤ 10 ^ 12) }
 {
     let parts = take_apart(text);

@@ -1,6 +1,6 @@
 use crate::{
-    Cents, Corr6, NumeralFault, Rate4, clamp_to, div_away, div_down, div_trunc, div_up, least_root,
-    mul_corr, read_cents, read_fixed, read_rate4, write_cents,
+    Cents, Corr6, NumeralFault, Rate4, clamp_to, cut_at, div_away, div_down, div_trunc, div_up,
+    least_root, mul_corr, read_cents, read_fixed, read_rate4, write_cents,
 };
 use std::test::Fail;
 
@@ -80,6 +80,13 @@ fn money_is_written(rt: HostRuntime) -> Result<(), Fail> {
         assert_eq!(rt; text.as_slice(), want.as_bytes(), "{cents}");
     }
     Ok(())
+}
+
+#[test]
+fn bytes_are_cut_at_the_first_mark(rt: HostRuntime) {
+    let (front, rest) = cut_at(b"a,,b", b',').unwrap_or((b"", b""));
+    assert_eq!(rt; (front, rest), (b"a".as_slice(), b",b".as_slice()));
+    assert!(rt; cut_at(b"ab", b',').is_none());
 }
 
 #[test]

@@ -7,7 +7,7 @@ ghost use Rattle.std.specs.Cmp.Lexicographic.{slice_cmp, pointwise};
 ghost use Rattle.std.specs.Ordering.{nat_cmp, as_partial_cmp};
 ghost use Rattle.std.specs.List.{list_all};
 ghost use Rattle.std.specs.Str.{is_utf8};
-ghost use Rattle.simm_kinds.specs.NameText.{IsName, ReadsName, is_printable, is_trimmed, has_name_bytes};
+ghost use Rattle.simm_kinds.specs.NameText.{IsName, ReadsName, name_fault, is_full_name, is_printable, is_trimmed, has_name_bytes};
 
 use crate::NameFault;
 use std::alloc::{AllocError, Global};
@@ -71,17 +71,42 @@ fn has_name_bytes(bytes: &[u8]) -> bool
 }
 
 impl Name {
-    /// Reads a name. The faults are tested in the order of `NameFault`.
+    /// Why a text is no name: the first fault in the order of `NameFault`, or `None` for a name. It takes no memory.
+    pub fn fault(text: &[u8]) -> Option<NameFault>
+        ensures { result ≡ name_fault text.now }
+    {
+        if text.len() > LONGEST {
+            Some(NameFault::Long)
+        } else if is_utf8(text) && has_name_bytes(text) {
+            None
+        } else {
+            Some(NameFault::Byte)
+        }
+    }
+
+    /// Whether a text is a name that isn't empty. It takes no memory.
+    pub fn is_full_name(text: &[u8]) -> bool
+        ensures { result ≡ is_full_name text.now }
+    {
+        !text.is_empty() && Name::fault(text).is_none()
+    }
+
+    /// Reads a name. Where the text is none, the fault is the first in the order of `NameFault`; `Memory` comes last.
     pub fn read(alloc: Global, text: &[u8]) -> Result<Name, NameFault>
         ensures { ReadsName text.now result }
     {
-        if text.len() > LONGEST {
-            return Err(NameFault::Long);
+        match Name::fault(text) {
+            Some(fault) => Err(fault),
+            None => Ok(Name::of_bytes(alloc, text)?),
         }
-        if !is_utf8(text) || !has_name_bytes(text) {
-            return Err(NameFault::Byte);
-        }
-        let bytes = Vec::from_slice(alloc, text)?;
+    }
+
+    /// The name of these bytes, which the caller knows to be one.
+    pub fn of_bytes(alloc: Global, bytes: &[u8]) -> Result<Name, AllocError>
+        requires { IsName bytes.now }
+        ensures { IfOk result (λ name. name ≡ bytes.now) }
+    {
+        let bytes = Vec::from_slice(alloc, bytes)?;
         Ok(Name { bytes })
     }
 
@@ -98,8 +123,7 @@ impl Name {
     pub fn copy(&self, alloc: Global) -> Result<Name, AllocError>
         ensures { IfOk result (λ copy. copy ≡ self.now) }
     {
-        let bytes = Vec::from_slice(alloc, self.bytes.as_slice())?;
-        Ok(Name { bytes })
+        Name::of_bytes(alloc, self.bytes.as_slice())
     }
 
     /// Lends the bytes. It takes no memory.

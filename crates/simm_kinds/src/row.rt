@@ -45,7 +45,7 @@ impl TradeRows {
 fn copy_rows(alloc: Global, rows: &[CrifRow]) -> Result<Listed<CrifRow>, AllocError>
     ensures { IfOk result (λ copies. copies ≡ rows.now) }
 {
-    let mut copies = Listed::new(alloc);
+    let mut copies = Listed::with_capacity(alloc, rows.len())?;
     for row in rows {
         copies.push(row.copy(alloc)?)?;
     }

@@ -1,6 +1,6 @@
 use Rattle.std.proofs.Common.{ap, ◌∙◌}
 use Rattle.crif_reader.specs.Lines.{ended}
-use Rattle.crif_reader.proofs.Parts.{ended-first}
+use Rattle.crif_reader.proofs.FirstLines.{ended-first}
 use Rattle.crif_reader.proofs.text.cut_line.Goals as goal
 
 pub returns-in-Some-clause-lines : goal.returns-in-Some-clause-lines

@@ -1,6 +1,7 @@
 use Rattle.std.proofs.Common.{◌≡◌, ◌++◌, true, length}
 use Rattle.std.specs.List.{list_all}
-use Rattle.feed_reader.specs.Line.{fields_of, is_full_name}
+use Rattle.simm_kinds.specs.NameText.{is_full_name}
+use Rattle.feed_reader.specs.Line.{fields_of}
 use Rattle.feed_reader.proofs.fields.read_names.Given as goal
 
 -- the fields so far are names, and with those of the rest they are all

@@ -2,8 +2,8 @@ use Rattle.std.proofs.Common.{None, ◌≡◌, arith, ◌∙◌, ap, sym, length
 use Rattle.std.proofs.lemmas.Bool.{eqb-false}
 use Rattle.std.specs.Result.{result_ok}
 use Rattle.mh_units.specs.Numeral.{fixed_of}
-use Rattle.mh_units.proofs.Answers.{fixed_answer, fixed_none_rest, fixed_none_long, fixed_from}
-use Rattle.mh_units.proofs.Written.{option_exact}
+use Rattle.mh_units.proofs.Answers.{fixed_none_rest, fixed_none_long, fixed_from}
+use Rattle.mh_units.proofs.Written.{exact_answer}
 use Rattle.mh_units.proofs.numeral.read_fixed.Goals as goal
 use Rattle.mh_units.proofs.numeral.read_fixed.Goals.{then-not-is_empty-via-then-not-is_empty, then-not-is_empty-via-else-not-is_empty+then-parts-places}
 
@@ -30,16 +30,10 @@ pub returns-then-not-is_empty-clause-value : goal.returns-then-not-is_empty-clau
 returns-then-not-is_empty-clause-value c = none_is c
 
 pub returns-then-not-is_empty-clause-answer : goal.returns-then-not-is_empty-clause-answer
-returns-then-not-is_empty-clause-answer c = fixed_answer c.args.places c.args.text.now None (none_is c)
+returns-then-not-is_empty-clause-answer c = exact_answer c.args.places c.args.text.now None (none_is c)
 
 pub returns-clause-value : goal.returns-clause-value
 returns-clause-value c = value_is c
 
 pub returns-clause-answer : goal.returns-clause-answer
-returns-clause-answer c = fixed_answer c.args.places c.args.text.now c.ok.result (value_is c)
-
-pub returns-then-not-is_empty-clause-exact : goal.returns-then-not-is_empty-clause-exact
-returns-then-not-is_empty-clause-exact c = tt
-
-pub returns-clause-exact : goal.returns-clause-exact
-returns-clause-exact c = option_exact c.args.places c.args.text.now c.ok.result (fixed_answer c.args.places c.args.text.now c.ok.result (value_is c))
+returns-clause-answer c = exact_answer c.args.places c.args.text.now c.ok.result (value_is c)

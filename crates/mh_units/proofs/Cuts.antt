@@ -1,25 +1,18 @@
--- The parts of a text between the bytes of one kind, and its lines.
-use Rattle.std.proofs.Common.{◌≡◌, ◌∷◌, [], ℕ, ◌+◌, ◌<◌, ◌≤◌, Bool, true, false, cond, ltb, List, length, take, drop, Some, None, refl, sym, arith}
-use Rattle.std.specs.List.{slice_split, onto_first, position_or_len}
-use Rattle.std.proofs.lemmas.List.Splits.{slice_split_none, slice_split_first}
+-- The parts of a text between the bytes of one kind.
+use Rattle.std.proofs.Common.{◌≡◌, ◌∷◌, [], ℕ, ◌+◌, ◌<◌, ◌≤◌, Bool, false, cond, ltb, List, length, take, drop, Some, None, refl, sym, ap, arith}
+use Rattle.std.specs.List.{slice_split, position_or_len}
+use Rattle.std.proofs.lemmas.List.Splits.{length-slice_split, slice_split_none, slice_split_first}
 use Rattle.std.proofs.lemmas.List.Sums.{fails_before_first}
 use Rattle.std.proofs.lemmas.List.Elements.{All-from_get_or}
 use Rattle.std.proofs.lemmas.Bool.{lt-ltb}
-use Rattle.crif_reader.specs.Lines.{ended}
 
 -- there is always a first part
 pub first_part : (p : ℕ → Bool) (bytes : List ℕ) → (part : List ℕ) × (parts : List (List ℕ)) × (slice_split p bytes ≡ part ∷ parts)
-first_part p [] = ([], [], refl)
-first_part p (b ∷ bs) = elim (p b) as (λ v. (part : List ℕ) × (parts : List (List ℕ)) × (cond v ([] ∷ slice_split p bs) (onto_first b (slice_split p bs)) ≡ part ∷ parts)) [
-  | true ↦ ([], slice_split p bs, refl)
-  | false ↦ elim (slice_split p bs) as (λ s. (part : List ℕ) × (parts : List (List ℕ)) × (onto_first b s ≡ part ∷ parts)) [
-    | [] ↦ (b ∷ [], [], refl)
-    | part ∷ parts ↦ (b ∷ part, parts, refl)
-  ]
-]
-
-pub ended-first : (p : ℕ → Bool) (line bytes : List ℕ) → ended (line ∷ slice_split p bytes) ≡ line ∷ ended (slice_split p bytes)
-ended-first p line bytes = let f = first_part p bytes in rw f.2 refl
+first_part p bytes = of_parts (slice_split p bytes) refl
+  where
+    of_parts : (parts : List (List ℕ)) → slice_split p bytes ≡ parts → (part : List ℕ) × (rest : List (List ℕ)) × (slice_split p bytes ≡ part ∷ rest)
+    of_parts [] none = absurd (omega (arith, length-slice_split p bytes, ap length none))
+    of_parts (part ∷ rest) same = (part, rest, same)
 
 -- where a search for the first place found none
 pub split_nowhere : (p : ℕ → Bool) (bytes : List ℕ) → cond (ltb (position_or_len p bytes) (length bytes)) (Some (position_or_len p bytes)) None ≡ None → slice_split p bytes ≡ bytes ∷ []

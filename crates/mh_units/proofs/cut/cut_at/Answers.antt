@@ -2,8 +2,8 @@ use Rattle.std.proofs.Common.{◌==◌, rules, tests, sym, ◌∙◌}
 use Rattle.std.proofs.lemmas.Iterator.{YieldsList-from_slice}
 use Rattle.std.proofs.lemmas.Iterator.Search.{position_from_yields_List}
 use Rattle.std.proofs.lemmas.List.{take_rest}
-use Rattle.crif_reader.proofs.Parts.{split_nowhere, split_there}
-use Rattle.crif_reader.proofs.text.cut_at.Goals as goal
+use Rattle.mh_units.proofs.Cuts.{split_nowhere, split_there}
+use Rattle.mh_units.proofs.cut.cut_at.Goals as goal
 
 pub returns-in_err-place-clause-parts : goal.returns-in_err-place-clause-parts
 returns-in_err-place-clause-parts c =
