@@ -1,4 +1,4 @@
-ghost use Rattle.std.specs.Prelude.{◌≡◌, ◌++◌, OnOk, IfOk, codes, decimal, map};
+ghost use Rattle.std.specs.Prelude.{◌≡◌, ◌++◌, OnOk, codes, decimal, map};
 ghost use Rattle.std.specs.List.{flat_map};
 ghost use Rattle.margin_text.specs.Fields.{field, last_field};
 ghost use Rattle.margin_text.specs.Feeds.{name_at, refused_fields, refused_line, end_field, feed_line, feed_text};
@@ -7,7 +7,7 @@ use crate::pieces::{push_field, push_last, push_last_number, push_number};
 use csa_terms::SetTerms;
 use feed_gate::{FeedEnd, FeedReport, RefusedMessage};
 use mh_units::Text;
-use std::alloc::{AllocError, Global};
+use std::alloc::AllocError;
 
 /// Adds the first fields of a refused message.
 fn push_refused_fields(text: &mut Text, feed: u32, line: u32) -> Result<(), AllocError>
@@ -118,30 +118,22 @@ fn push_feed_line(
     push_end(text, end)
 }
 
-/// The printed report of a feed: a line for each message that made no call, in the feed's order, then one with the
+/// Adds the printed report of a feed: a line for each message that made no call, in the feed's order, then one with the
 /// feed's number, how many of its messages stand in a journal, how many were refused, and how it ended. `sets` are the
 /// terms of the sets, in the order from which messages count them.
 ///
 /// # Errors
 ///
 /// For want of memory alone.
-pub fn report_text(
-    alloc: Global,
+pub fn push_report(
+    text: &mut Text,
     feed: u32,
     sets: &[SetTerms],
     report: &FeedReport,
-) -> Result<Text, AllocError>
-    ensures { IfOk result (λ text. text ≡ feed_text feed (map (λ s. s.name) sets.now) report.now.done report.now.refused report.now.end) }
+) -> Result<(), AllocError>
+    ensures { OnOk result (text.new ≡ text.old ++ feed_text feed (map (λ s. s.name) sets.now) report.now.done report.now.refused report.now.end) }
 {
-    let mut text = Text::new(alloc);
     let refused = report.refused.as_slice();
-    push_all_refused(&mut text, feed, sets, refused)?;
-    push_feed_line(
-        &mut text,
-        feed,
-        report.done,
-        refused.len() as u64,
-        report.end,
-    )?;
-    Ok(text)
+    push_all_refused(text, feed, sets, refused)?;
+    push_feed_line(text, feed, report.done, refused.len() as u64, report.end)
 }

@@ -10,8 +10,8 @@ mod set_journal;
 mod trade_parts;
 
 pub use breakdown_lines::margin_lines;
-pub use feed_lines::report_text;
-pub use set_journal::journal_text;
+pub use feed_lines::push_report;
+pub use set_journal::{journal_text, push_journal};
 
 #[cfg(test)]
 mod tests;

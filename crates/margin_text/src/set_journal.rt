@@ -21,8 +21,27 @@ fn push_entries(alloc: Global, text: &mut Text, set: &SetState) -> Result<(), Al
     Ok(())
 }
 
-/// The printed journal of a netting set: its name and how many entries it has, then each entry with its number from 1,
-/// its caller, event and reply. Under an entry stand the trades and rows of a submit, or the parts of a margin.
+/// Adds the printed journal of a netting set: its name and how many entries it has, then each entry with its number
+/// from 1, its caller, event and reply. Under an entry stand the trades and rows of a submit, or the parts of a margin.
+///
+/// # Errors
+///
+/// For want of memory alone.
+pub fn push_journal(
+    alloc: Global,
+    text: &mut Text,
+    set: &SetState,
+    name: &Name,
+) -> Result<(), AllocError>
+    ensures { OnOk result (text.new ≡ text.old ++ journal_text name.now set.now.journal) }
+{
+    push_field(text, b"SET")?;
+    push_field(text, name.bytes())?;
+    push_last_number(text, u64::from(set.entries()))?;
+    push_entries(alloc, text, set)
+}
+
+/// The printed journal of a netting set, as `push_journal` adds it.
 ///
 /// # Errors
 ///
@@ -31,9 +50,6 @@ pub fn journal_text(alloc: Global, set: &SetState, name: &Name) -> Result<Text, 
     ensures { IfOk result (λ text. text ≡ journal_text name.now set.now.journal) }
 {
     let mut text = Text::new(alloc);
-    push_field(&mut text, b"SET")?;
-    push_field(&mut text, name.bytes())?;
-    push_last_number(&mut text, u64::from(set.entries()))?;
-    push_entries(alloc, &mut text, set)?;
+    push_journal(alloc, &mut text, set, name)?;
     Ok(text)
 }

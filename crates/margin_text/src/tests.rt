@@ -1,4 +1,4 @@
-use crate::report_text;
+use crate::push_report;
 use csa_terms::{SetTerms, read_terms};
 use feed_gate::{FeedEnd, FeedReport, RefusedMessage};
 use mh_units::Text;
@@ -41,7 +41,8 @@ fn each_refused_message_is_printed(rt: HostRuntime) -> Result<(), Fail> {
         end: FeedEnd::Cut { line: 16 },
     };
     let sets = vec![in alloc; terms(alloc)?]?;
-    let text = report_text(alloc, 7, sets.as_slice(), &report)?;
+    let mut text = Text::new(alloc);
+    push_report(&mut text, 7, sets.as_slice(), &report)?;
     assert_eq!(rt; text.as_slice(), REPORT.as_bytes());
     Ok(())
 }
@@ -53,7 +54,9 @@ fn ended(alloc: Global, end: FeedEnd) -> Result<Text, Fail> {
         refused: Listed::new(alloc),
         end,
     };
-    Ok(report_text(alloc, 0, &[], &report)?)
+    let mut text = Text::new(alloc);
+    push_report(&mut text, 0, &[], &report)?;
+    Ok(text)
 }
 
 #[test]

@@ -1,5 +1,5 @@
 -- The stages of a calculation, one after the other.
-use Rattle.std.proofs.Common.{◌≡◌, ℕ, ◌≤◌, List, [], ◌∷◌, ◌++◌, Option, Some, None, IfSome, option_map, ap, sym, refl, subst, ◌∙◌, inl, inr, ⊎_elim, arith, append-nil}
+use Rattle.std.proofs.Common.{◌≡◌, ℕ, ◌≤◌, List, [], ◌++◌, Option, Some, None, IfSome, option_map, ap, sym, refl, subst, ◌∙◌, inl, inr, ⊎_elim, arith, append-nil}
 use Rattle.std.specs.Io.KnownBytes.{append_known}
 use Rattle.mh_io.specs.Folder.{Telling, File, file_of}
 use Rattle.simm_kinds.specs.declared.row.TradeRows.{TradeRows}
@@ -11,9 +11,11 @@ use Rattle.margin_top.specs.declared.status.Status.{Status}
 use Rattle.margin_top.specs.declared.status.Status.TheVariants as status
 use Rattle.margin_top.specs.declared.fault.FileFault.{FileFault}
 use Rattle.margin_top.specs.declared.fault.FileFault.TheVariants as file
+use Rattle.margin_top.specs.declared.fault.ValueFault.{ValueFault}
+use Rattle.margin_top.specs.declared.fault.ValueFault.TheVariants as value
 use Rattle.margin_top.specs.declared.fault.CalcFault.{CalcFault}
 use Rattle.margin_top.specs.declared.fault.CalcFault.TheVariants as fault
-use Rattle.margin_top.specs.Files.{FolderSeen, Deeds, no_deeds, with_reading, told_after, Did, IsWhole, IsTooLong, IsRead, Failed}
+use Rattle.margin_top.specs.Files.{FolderSeen, Deeds, no_deeds, with_reading, told_after, Did, IsWhole, IsTooLong, IsRead, Failed, NoValue}
 use Rattle.margin_top.specs.Calc.{SinkSeen, GotLine, HasBoth, HasMargin, CrifFails, Cause, MarginPrints, status_of, fault_text, CalcEnds}
 use Rattle.margin_top.proofs.FileLemmas.{did_more, rises_earlier}
 
@@ -31,30 +33,33 @@ long_before old mid deeds name taken did h =
     record { front = files_before old.told mid.told deeds (λ files. (rest : List ℕ) × (file_of files name ≡ Some (taken ++ rest))) did h.front; many = h.many }
 
 -- a file's fault after another file was read
-pub failed_after : (old mid new : FolderSeen) (first bytes name : List ℕ) (faults : ℕ) (IsRefused : List ℕ → Type 0) (f : FileFault) → Did old mid (with_reading no_deeds first bytes faults) → old.finds ≤ mid.finds → old.reads ≤ mid.reads → Failed mid new no_deeds name IsRefused f → Failed old new (with_reading no_deeds first bytes faults) name IsRefused f
-failed_after old mid new first bytes name faults IsRefused file.Missing did finds reads h =
+pub failed_after : (old mid new : FolderSeen) (first bytes name : List ℕ) (faults : ℕ) (f : FileFault) → Did old mid (with_reading no_deeds first bytes faults) → old.finds ≤ mid.finds → old.reads ≤ mid.reads → Failed mid new no_deeds name f → Failed old new (with_reading no_deeds first bytes faults) name f
+failed_after old mid new first bytes name faults file.Missing did finds reads h =
     record { did = did_more old mid new first bytes faults _ did h.did; rose = rises_earlier old.finds mid.finds new.finds finds h.rose }
-failed_after old mid new first bytes name faults IsRefused file.Unread did finds reads h =
+failed_after old mid new first bytes name faults file.Unread did finds reads h =
     record { taken = h.taken; faults = h.faults; did = did_more old mid new first bytes faults (with_reading no_deeds name h.taken h.faults) did h.did; failed = h.failed; rose = rises_earlier old.reads mid.reads new.reads reads h.rose }
-failed_after old mid new first bytes name faults IsRefused file.Long did finds reads h =
+failed_after old mid new first bytes name faults file.Long did finds reads h =
     record { taken = h.taken; faults = h.faults; did = did_more old mid new first bytes faults (with_reading no_deeds name h.taken h.faults) did h.did; long = long_before old mid (with_reading no_deeds first bytes faults) name h.taken did h.long }
-failed_after old mid new first bytes name faults IsRefused file.Refused did finds reads h =
+failed_after old mid new first bytes name faults file.Memory did finds reads h =
+    ⊎_elim
+    (λ stood. inl (did_more old mid new first bytes faults no_deeds did stood))
+    (λ was. inr (record { taken = was.taken; faults = was.faults; did = did_more old mid new first bytes faults (with_reading no_deeds name was.taken was.faults) did was.did }))
+    h
+
+-- a file without a value after another file was read
+pub no_value_after : (old mid new : FolderSeen) (first bytes name : List ℕ) (faults : ℕ) (IsRefused : List ℕ → Type 0) (f : ValueFault) → Did old mid (with_reading no_deeds first bytes faults) → old.finds ≤ mid.finds → old.reads ≤ mid.reads → NoValue mid new no_deeds name IsRefused f → NoValue old new (with_reading no_deeds first bytes faults) name IsRefused f
+no_value_after old mid new first bytes name faults IsRefused (value.OfFile f) did finds reads h = failed_after old mid new first bytes name faults f did finds reads h
+no_value_after old mid new first bytes name faults IsRefused value.Refused did finds reads h =
     record { bytes = h.bytes; faults = h.faults; did = did_more old mid new first bytes faults (with_reading no_deeds name h.bytes h.faults) did h.did; whole = whole_before old mid (with_reading no_deeds first bytes faults) name h.bytes did h.whole; so = h.so }
-failed_after old mid new first bytes name faults IsRefused file.Memory did finds reads h =
-    record {
-      deeds = record { names = first ∷ (h.deeds).names; readings = record { name = first; taken = bytes; faults = faults } ∷ (h.deeds).readings };
-      did = did_more old mid new first bytes faults h.deeds did h.did;
-      asked = ⊎_elim (λ e. inl (ap (λ names. first ∷ names) e)) (λ e. inr (ap (λ names. first ∷ names) e)) h.asked;
-    }
 
 -- the parameters were read, and then the CRIF file gave no batch
-pub crif_failed : (old mid new : FolderSeen) (params_name crif_name : List ℕ) (p : Params) (f : FileFault) → IsRead old mid no_deeds params_name (λ bytes. params_of bytes ≡ Some p) → old.finds ≤ mid.finds → old.reads ≤ mid.reads → Failed mid new no_deeds crif_name (λ bytes. crif_of bytes ≡ None) f → CrifFails params_name crif_name old new f
+pub crif_failed : (old mid new : FolderSeen) (params_name crif_name : List ℕ) (p : Params) (f : ValueFault) → IsRead old mid no_deeds params_name (λ bytes. params_of bytes ≡ Some p) → old.finds ≤ mid.finds → old.reads ≤ mid.reads → NoValue mid new no_deeds crif_name (λ bytes. crif_of bytes ≡ None) f → CrifFails params_name crif_name old new f
 crif_failed old mid new params_name crif_name p f first finds reads h = record {
   param_bytes = first.bytes;
   param_faults = first.faults;
   p = p;
   params = record { whole = first.whole; values = first.so };
-  failed = failed_after old mid new params_name first.bytes crif_name first.faults (λ bytes. crif_of bytes ≡ None) f first.did finds reads h;
+  failed = no_value_after old mid new params_name first.bytes crif_name first.faults (λ bytes. crif_of bytes ≡ None) f first.did finds reads h;
 }
 
 -- both files were read
@@ -91,21 +96,21 @@ ends_with_margin params_name crif_name old new out_old out_new b status.Find mar
 ends_with_margin params_name crif_name old new out_old out_new b status.Read margin h = absurd h
 ends_with_margin params_name crif_name old new out_old out_new b status.Feed margin h = absurd h
 
--- how a calculation with a fault ends
-pub ends_at_fault : (params_name crif_name : List ℕ) (old new : FolderSeen) (out_old out_new : SinkSeen) (f : CalcFault) (s : Status) → Cause params_name crif_name old new f → s ≡ status_of f → GotLine out_old out_new (fault_text params_name crif_name f) → CalcEnds params_name crif_name old new out_old out_new s
-ends_at_fault params_name crif_name old new out_old out_new f s cause e printed =
-    subst (CalcEnds params_name crif_name old new out_old out_new) (sym e) (at f cause printed)
+-- how a calculation with a fault ends, where this line was printed
+pub ends_at_fault : (params_name crif_name : List ℕ) (old new : FolderSeen) (out_old out_new : SinkSeen) (f : CalcFault) (s : Status) (line : List ℕ) → Cause params_name crif_name old new f → s ≡ status_of f → line ≡ fault_text params_name crif_name f → GotLine out_old out_new line → CalcEnds params_name crif_name old new out_old out_new s
+ends_at_fault params_name crif_name old new out_old out_new f s line cause e is printed =
+    subst (CalcEnds params_name crif_name old new out_old out_new) (sym e) (at f cause (subst (GotLine out_old out_new) is printed))
   where
     at : (f : CalcFault) → Cause params_name crif_name old new f → GotLine out_old out_new (fault_text params_name crif_name f) → CalcEnds params_name crif_name old new out_old out_new (status_of f)
-    at (fault.OfParams file.Missing) cause printed = record { f = fault.OfParams file.Missing; cause = cause; status = refl; printed = printed }
-    at (fault.OfParams file.Unread) cause printed = record { f = fault.OfParams file.Unread; cause = cause; status = refl; printed = printed }
-    at (fault.OfParams file.Long) cause printed = record { f = fault.OfParams file.Long; cause = cause; status = refl; printed = printed }
-    at (fault.OfParams file.Refused) cause printed = record { f = fault.OfParams file.Refused; cause = cause; status = refl; printed = printed }
-    at (fault.OfParams file.Memory) cause printed = record { f = fault.OfParams file.Memory; cause = cause; status = refl; printed = printed }
-    at (fault.OfCrif file.Missing) cause printed = record { f = fault.OfCrif file.Missing; cause = cause; status = refl; printed = printed }
-    at (fault.OfCrif file.Unread) cause printed = record { f = fault.OfCrif file.Unread; cause = cause; status = refl; printed = printed }
-    at (fault.OfCrif file.Long) cause printed = record { f = fault.OfCrif file.Long; cause = cause; status = refl; printed = printed }
-    at (fault.OfCrif file.Refused) cause printed = record { f = fault.OfCrif file.Refused; cause = cause; status = refl; printed = printed }
-    at (fault.OfCrif file.Memory) cause printed = record { f = fault.OfCrif file.Memory; cause = cause; status = refl; printed = printed }
+    at (fault.OfParams (value.OfFile file.Missing)) cause printed = record { f = fault.OfParams (value.OfFile file.Missing); cause = cause; status = refl; printed = printed }
+    at (fault.OfParams (value.OfFile file.Unread)) cause printed = record { f = fault.OfParams (value.OfFile file.Unread); cause = cause; status = refl; printed = printed }
+    at (fault.OfParams (value.OfFile file.Long)) cause printed = record { f = fault.OfParams (value.OfFile file.Long); cause = cause; status = refl; printed = printed }
+    at (fault.OfParams (value.OfFile file.Memory)) cause printed = record { f = fault.OfParams (value.OfFile file.Memory); cause = cause; status = refl; printed = printed }
+    at (fault.OfParams value.Refused) cause printed = record { f = fault.OfParams value.Refused; cause = cause; status = refl; printed = printed }
+    at (fault.OfCrif (value.OfFile file.Missing)) cause printed = record { f = fault.OfCrif (value.OfFile file.Missing); cause = cause; status = refl; printed = printed }
+    at (fault.OfCrif (value.OfFile file.Unread)) cause printed = record { f = fault.OfCrif (value.OfFile file.Unread); cause = cause; status = refl; printed = printed }
+    at (fault.OfCrif (value.OfFile file.Long)) cause printed = record { f = fault.OfCrif (value.OfFile file.Long); cause = cause; status = refl; printed = printed }
+    at (fault.OfCrif (value.OfFile file.Memory)) cause printed = record { f = fault.OfCrif (value.OfFile file.Memory); cause = cause; status = refl; printed = printed }
+    at (fault.OfCrif value.Refused) cause printed = record { f = fault.OfCrif value.Refused; cause = cause; status = refl; printed = printed }
     at fault.OutOfRange cause printed = record { f = fault.OutOfRange; cause = cause; status = refl; printed = printed }
     at fault.Memory cause printed = record { f = fault.Memory; cause = cause; status = refl; printed = printed }

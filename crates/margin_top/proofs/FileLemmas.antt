@@ -9,8 +9,7 @@ use Rattle.mh_io.specs.declared.folder.FindRefused.TheVariants as find
 use Rattle.mh_io.specs.declared.reading.ReadAllFault.{ReadAllFault}
 use Rattle.mh_io.specs.declared.reading.ReadAllFault.TheVariants as read
 use Rattle.margin_top.specs.declared.fault.FileFault.{FileFault}
-use Rattle.margin_top.specs.declared.fault.FileFault.TheVariants as fault
-use Rattle.margin_top.specs.Files.{FolderSeen, Deeds, no_deeds, with_reading, with_name, told_after, Did, IsRead, IsCutShort, Failed, FileEnds}
+use Rattle.margin_top.specs.Files.{FolderSeen, Deeds, no_deeds, with_reading, with_name, told_after, Did, Failed, FileEnds}
 use Rattle.margin_top.specs.Faults.{fault_of_find, fault_of_read}
 
 -- a name was asked for, a source of it gave these bytes, and it came back
@@ -74,23 +73,22 @@ did_ask (Some t) name = ap (λ reads. Some (record t { asked = t.asked ++ name �
 pub find_ends : (S : Type 0) (old new : FolderSeen) (name : List ℕ) (r : FindRefused) (result : Result (List ℕ) FileFault) → IsErrAnd result (λ e. e ≡ fault_of_find r) → new.told ≡ told_after_find {S = S} (Err r) name old.told → (r ≡ find.Failed → Rises old.finds new.finds) → FileEnds old new name result
 find_ends S old new name r (Ok bytes) h told rose = absurd h
 find_ends S old new name find.Failed (Err e) h told rose =
-    subst (Failed old new no_deeds name (λ _. ⊥)) (sym h) (record { did = told ∙ did_ask old.told name; rose = rose refl })
+    subst (Failed old new no_deeds name) (sym h) (record { did = told ∙ did_ask old.told name; rose = rose refl })
 find_ends S old new name find.Memory (Err e) h told rose =
-    subst (Failed old new no_deeds name (λ _. ⊥)) (sym h) (record { deeds = no_deeds; did = told ∙ did_nothing old.told; asked = inl refl })
+    subst (Failed old new no_deeds name) (sym h) (inl (told ∙ did_nothing old.told))
 
 -- how the reading of a file ends where it wasn't read to its end
 pub read_ends : (old new : FolderSeen) (name : List ℕ) (r : ReadAllFault) (result : Result (List ℕ) FileFault) (taken : List ℕ) (first faults : ℕ) → IsErrAnd result (λ e. e ≡ fault_of_read r) → Did old new (with_reading no_deeds name taken faults) → IfSome old.told (λ t. (rest : List ℕ) × (file_of t.files name ≡ Some (taken ++ rest))) → StopsAt r (length taken) → first ≡ 0 → (r ≡ read.ReadFault → Rises first faults) → old.reads ≤ new.reads → new.reads ≡ added_faults old.reads faults → FileEnds old new name result
 read_ends old new name r (Ok bytes) taken first faults h did front stops none rose kept rises = absurd h
 read_ends old new name read.ReadFault (Err e) taken first faults h did front stops none rose kept rises =
     let failed = rose_from_none faults first none (rose refl) in
-    subst (Failed old new no_deeds name (λ _. ⊥)) (sym h)
+    subst (Failed old new no_deeds name) (sym h)
     (record { taken = taken; faults = faults; did = did; failed = failed; rose = rises_by old.reads new.reads faults kept rises failed })
 read_ends old new name (read.TooLong n) (Err e) taken first faults h did front stops none rose kept rises =
-    subst (Failed old new no_deeds name (λ _. ⊥)) (sym h)
+    subst (Failed old new no_deeds name) (sym h)
     (record { taken = taken; faults = faults; did = did; long = record { front = front; many = stops.0 } })
 read_ends old new name read.Memory (Err e) taken first faults h did front stops none rose kept rises =
-    subst (Failed old new no_deeds name (λ _. ⊥)) (sym h)
-    (record { deeds = with_reading no_deeds name taken faults; did = did; asked = inr refl })
+    subst (Failed old new no_deeds name) (sym h) (inr (record { taken = taken; faults = faults; did = did }))
 
 -- two things done one after the other
 pub did_more : (old mid new : FolderSeen) (name bytes : List ℕ) (faults : ℕ) (deeds : Deeds) → Did old mid (with_reading no_deeds name bytes faults) → Did mid new deeds → Did old new (record { names = name ∷ deeds.names; readings = record { name = name; taken = bytes; faults = faults } ∷ deeds.readings })
@@ -105,19 +103,3 @@ did_more old mid new name bytes faults deeds first second =
     joined (Some t) =
         ap Some (ap (λ names. record t { asked = names; reads = t.reads ++ record { name = name; taken = bytes; faults = faults } ∷ [] ++ deeds.readings }) (append_assoc t.asked (name ∷ []) deeds.names)
         ∙ ap (λ reads. record t { asked = t.asked ++ (name ∷ [] ++ deeds.names); reads = reads }) (append_assoc t.reads (record { name = name; taken = bytes; faults = faults } ∷ []) deeds.readings))
-
--- a file whose bytes were read, and then refused or not, by its grammar
-pub fault_of_bytes : (old new : FolderSeen) (name : List ℕ) (IsRefused : List ℕ → Type 0) (f : FileFault) → Failed old new no_deeds name (λ _. ⊥) f → Failed old new no_deeds name IsRefused f
-fault_of_bytes old new name IsRefused fault.Missing h = h
-fault_of_bytes old new name IsRefused fault.Unread h = h
-fault_of_bytes old new name IsRefused fault.Long h = h
-fault_of_bytes old new name IsRefused fault.Refused h = absurd h.so
-fault_of_bytes old new name IsRefused fault.Memory h = h
-
--- a file whose bytes are known to be so
-pub so_read : (old new : FolderSeen) (name bytes : List ℕ) (AreSo : List ℕ → Type 0) → IsRead old new no_deeds name (λ read. read ≡ bytes) → AreSo bytes → IsRead old new no_deeds name AreSo
-so_read old new name bytes AreSo h so = record { bytes = h.bytes; faults = h.faults; did = h.did; whole = h.whole; so = subst AreSo (sym h.so) so }
-
--- memory ran out after a file was read
-pub starved_after : (old new : FolderSeen) (name : List ℕ) (AreSo : List ℕ → Type 0) → IsRead old new no_deeds name AreSo → IsCutShort old new no_deeds name
-starved_after old new name AreSo h = record { deeds = with_reading no_deeds name h.bytes h.faults; did = h.did; asked = inr refl }

@@ -5,7 +5,9 @@ use Rattle.mh_io.specs.Folder.{Telling, file_of}
 use Rattle.mh_io.specs.declared.reading.TheConstants.{MOST_BYTES}
 use Rattle.margin_top.specs.declared.fault.FileFault.{FileFault}
 use Rattle.margin_top.specs.declared.fault.FileFault.TheVariants as file
-use Rattle.margin_top.specs.Files.{FolderSeen, Deeds, Failed}
+use Rattle.margin_top.specs.declared.fault.ValueFault.{ValueFault}
+use Rattle.margin_top.specs.declared.fault.ValueFault.TheVariants as value
+use Rattle.margin_top.specs.Files.{FolderSeen, Deeds, Failed, NoValue}
 
 -- what was read whole of a file is the file
 pub same_bytes : (told : Option Telling) (t : Telling) (name a b : List ℕ) → told ≡ Some t
@@ -25,18 +27,27 @@ front_bytes told t name taken bytes e h known =
     let same : taken ++ front.0 ≡ bytes = cc in
     (front.0, same)
 
--- of a file that fits and isn't refused no fault comes but want of memory, where no count rose
-pub only_memory_of : (old new : FolderSeen) (before : Deeds) (name bytes : List ℕ) (IsRefused : List ℕ → Type 0)
+-- of a file that fits no fault comes but want of memory, where no count rose
+pub only_memory_of : (old new : FolderSeen) (before : Deeds) (name bytes : List ℕ)
     (t : Telling) (f : FileFault) → old.told ≡ Some t → file_of t.files name ≡ Some bytes
-    → length bytes ≤ MOST_BYTES → (IsRefused bytes → ⊥)
+    → length bytes ≤ MOST_BYTES
     → (Rises old.finds new.finds → ⊥) → (Rises old.reads new.reads → ⊥)
-    → Failed old new before name IsRefused f → f ≡ file.Memory
-only_memory_of old new before name bytes IsRefused t file.Missing told has few so finds reads h = absurd (finds h.rose)
-only_memory_of old new before name bytes IsRefused t file.Unread told has few so finds reads h = absurd (reads h.rose)
-only_memory_of old new before name bytes IsRefused t file.Long told has few so finds reads h =
+    → Failed old new before name f → f ≡ file.Memory
+only_memory_of old new before name bytes t file.Missing told has few finds reads h = absurd (finds h.rose)
+only_memory_of old new before name bytes t file.Unread told has few finds reads h = absurd (reads h.rose)
+only_memory_of old new before name bytes t file.Long told has few finds reads h =
     let front = front_bytes old.told t name h.taken bytes told (h.long).front has in
     absurd (omega (arith, ap length front.1, length-append h.taken front.0, (h.long).many))
-only_memory_of old new before name bytes IsRefused t file.Refused told has few so finds reads h =
+only_memory_of old new before name bytes t file.Memory told has few finds reads h = refl
+
+-- the same of a file that isn't refused
+pub only_memory_for : (old new : FolderSeen) (before : Deeds) (name bytes : List ℕ) (IsRefused : List ℕ → Type 0)
+    (t : Telling) (f : ValueFault) → old.told ≡ Some t → file_of t.files name ≡ Some bytes
+    → length bytes ≤ MOST_BYTES → (IsRefused bytes → ⊥)
+    → (Rises old.finds new.finds → ⊥) → (Rises old.reads new.reads → ⊥)
+    → NoValue old new before name IsRefused f → f ≡ value.OfFile file.Memory
+only_memory_for old new before name bytes IsRefused t (value.OfFile f) told has few so finds reads h =
+    ap value.OfFile (only_memory_of old new before name bytes t f told has few finds reads h)
+only_memory_for old new before name bytes IsRefused t value.Refused told has few so finds reads h =
     let same = same_bytes old.told t name h.bytes bytes told (h.whole).whole has in
     absurd (so (subst IsRefused same h.so))
-only_memory_of old new before name bytes IsRefused t file.Memory told has few so finds reads h = refl

@@ -1,5 +1,5 @@
 -- The stages of a run, one after the other.
-use Rattle.std.proofs.Common.{◌≡◌, ℕ, ◌+◌, ◌<◌, ◌≤◌, arith, List, [], ◌∷◌, ◌++◌, map, length, take, drop, zero, suc, append-nil, Bool, true, false, cond, nat_le, nat_lt, Ok, Err, Some, refl, sym, ap, ◌∙◌, subst, inl, ⊎_elim}
+use Rattle.std.proofs.Common.{◌≡◌, ℕ, ◌+◌, ◌<◌, ◌≤◌, arith, List, [], ◌∷◌, ◌++◌, map, length, take, drop, zero, suc, append-nil, Bool, true, false, cond, nat_le, nat_lt, Ok, Err, Some, refl, sym, ap, ◌∙◌, subst, inr, ⊎_elim}
 use Rattle.std.specs.List.{AllByRecursion, IsDistinct}
 use Rattle.std.proofs.lemmas.Bool.{or_parts, leb-false, ltb-false, cases_lt}
 use Rattle.std.proofs.lemmas.List.{length-map, length-append, length-take-le, drop_all, take_all}
@@ -11,7 +11,6 @@ use Rattle.mh_io.specs.declared.folder.FindRefused.TheVariants as find
 use Rattle.simm_kinds.specs.Order.{same_name}
 use Rattle.simm_rules.specs.Params.{Params}
 use Rattle.simm_params.specs.Grammar.{params_of}
-use Rattle.csa_terms.specs.declared.fault.TermsFault.{TermsFault}
 use Rattle.csa_terms.specs.Grammar.{terms_of}
 use Rattle.csa_terms.specs.Terms.{Agreement, AreTerms}
 use Rattle.held_cell.specs.Entries.{entry}
@@ -25,19 +24,21 @@ use Rattle.feed_gate.specs.declared.report.FeedReport.{FeedReport}
 use Rattle.feed_gate.specs.Calls.{calls, called, after_calls, after_feed}
 use Rattle.feed_gate.specs.Sets.{AreApart}
 use Rattle.feed_gate.proofs.Runs.{after_terms}
-use Rattle.margin_top.specs.declared.fault.FileFault.{FileFault}
+use Rattle.margin_top.specs.declared.status.Status.{Status}
 use Rattle.margin_top.specs.declared.run_fault.RunFault.{RunFault}
-use Rattle.margin_top.specs.declared.run_fault.RunFault.TheVariants as fault
-use Rattle.margin_top.specs.Files.{FolderSeen, no_deeds, with_reading, IsRead, Failed}
-use Rattle.margin_top.specs.Run.{start, HasInputs, IsFed, HasRun, TermsFail, FindEnds, FeedFails, RunStarves, RunCause}
-use Rattle.margin_top.specs.RunStages.{IsRefusedFault}
+use Rattle.margin_top.specs.declared.run_fault.TermsFileFault.{TermsFileFault}
+use Rattle.margin_top.specs.declared.run_fault.TermsFileFault.TheVariants as terms
+use Rattle.margin_top.specs.Files.{FolderSeen, no_deeds, with_reading, IsRead}
+use Rattle.margin_top.specs.Calc.{SinkSeen, GotLine}
+use Rattle.margin_top.specs.Run.{start, HasInputs, IsFed, HasRun, NoTerms, FindEnds, FeedFails, RunCause, RunEnds, status_of_run, run_fault_text}
+use Rattle.margin_top.specs.RunStages.{TermsEnds}
 use Rattle.margin_top.proofs.FileLemmas.{did_ask, did_nothing, did_more}
 use Rattle.margin_top.proofs.CalcLemmas.{whole_before, failed_after}
 
 -- a feed that wasn't found
 pub find_fails : (S : Type 0) (old new : FolderSeen) (name : List ℕ) (why : FindRefused) → new.told ≡ told_after_find {S = S} (Err why) name old.told → (why ≡ find.Failed → Rises old.finds new.finds) → FindEnds old new name why
 find_fails S old new name find.Failed told rose = record { did = told ∙ did_ask old.told name; rose = rose refl }
-find_fails S old new name find.Memory told rose = record { deeds = no_deeds; did = told ∙ did_nothing old.told; asked = inl refl }
+find_fails S old new name find.Memory told rose = told ∙ did_nothing old.told
 
 -- both files were read
 pub inputs_read : (old mid new : FolderSeen) (pn tn : List ℕ) (p : Params) (agreements : List Agreement) → IsRead old mid no_deeds pn (λ bytes. params_of bytes ≡ Some p) → IsRead mid new no_deeds tn (λ bytes. terms_of bytes ≡ Ok agreements) → old.finds ≤ new.finds → old.reads ≤ new.reads → HasInputs pn tn old new p agreements
@@ -55,47 +56,30 @@ inputs_read old mid new pn tn p agreements first second finds reads = record {
 }
 
 -- the parameters were read, and then the terms file gave nothing
-pub terms_failed : (old mid new : FolderSeen) (pn tn : List ℕ) (p : Params) (f : FileFault) → IsRead old mid no_deeds pn (λ bytes. params_of bytes ≡ Some p) → old.finds ≤ mid.finds → old.reads ≤ mid.reads → Failed mid new no_deeds tn (λ _. ⊥) f → TermsFail pn tn old new f
-terms_failed old mid new pn tn p f first finds reads h = record {
+pub no_terms : (old mid new : FolderSeen) (pn tn : List ℕ) (p : Params) (f : TermsFileFault) → IsRead old mid no_deeds pn (λ bytes. params_of bytes ≡ Some p) → old.finds ≤ mid.finds → old.reads ≤ mid.reads → TermsEnds mid new tn (Err f) → NoTerms pn tn old new f
+no_terms old mid new pn tn p (terms.OfFile f) first finds reads h = record {
   param_bytes = first.bytes;
   param_faults = first.faults;
   p = p;
   params = record { whole = first.whole; values = first.so };
-  failed = failed_after old mid new pn first.bytes tn first.faults (λ _. ⊥) f first.did finds reads h;
+  failed = failed_after old mid new pn first.bytes tn first.faults f first.did finds reads h;
 }
-
--- memory ran out after both files were read
-starved : (old mid new : FolderSeen) (pn tn : List ℕ) (P Q : List ℕ → Type 0) → IsRead old mid no_deeds pn P → IsRead mid new no_deeds tn Q → RunStarves pn tn old new
-starved old mid new pn tn P Q first second = record {
-  deeds = with_reading (with_reading no_deeds pn first.bytes first.faults) tn second.bytes second.faults;
-  did = did_more old mid new pn first.bytes first.faults (with_reading no_deeds tn second.bytes second.faults) first.did second.did;
-  asked = refl;
-}
-
-pub run_starved : (old mid new : FolderSeen) (pn tn : List ℕ) (p : Params) (agreements : List Agreement) → IsRead old mid no_deeds pn (λ bytes. params_of bytes ≡ Some p) → IsRead mid new no_deeds tn (λ bytes. terms_of bytes ≡ Ok agreements) → RunStarves pn tn old new
-run_starved old mid new pn tn p agreements first second = starved old mid new pn tn (λ bytes. params_of bytes ≡ Some p) (λ bytes. terms_of bytes ≡ Ok agreements) first second
-
--- the terms file was refused
-pub terms_refused : (old mid new : FolderSeen) (pn tn fn : List ℕ) (p : Params) (e : TermsFault) (f : RunFault) → IsRead old mid no_deeds pn (λ bytes. params_of bytes ≡ Some p) → IsRead mid new no_deeds tn (λ bytes. terms_of bytes ≡ Err e) → IsRefusedFault e f → RunCause pn tn fn old new f
-terms_refused old mid new pn tn fn p e (fault.TermsRefused line) first second h = record {
-  param_bytes = first.bytes;
-  param_faults = first.faults;
-  p = p;
-  params = record { whole = first.whole; values = first.so };
-  e = e;
-  read = record {
-    bytes = second.bytes;
-    faults = second.faults;
-    did = did_more old mid new pn first.bytes first.faults (with_reading no_deeds tn second.bytes second.faults) first.did second.did;
-    whole = whole_before old mid (with_reading no_deeds pn first.bytes first.faults) tn second.bytes first.did second.whole;
-    so = second.so;
-  };
-  line = h;
-}
-terms_refused old mid new pn tn fn p e fault.Memory first second h = starved old mid new pn tn (λ bytes. params_of bytes ≡ Some p) (λ bytes. terms_of bytes ≡ Err e) first second
-terms_refused old mid new pn tn fn p e (fault.OfParams f) first second h = absurd h
-terms_refused old mid new pn tn fn p e (fault.OfTerms f) first second h = absurd h
-terms_refused old mid new pn tn fn p e (fault.OfFeed why) first second h = absurd h
+no_terms old mid new pn tn p (terms.Refused line) first finds reads h =
+    let second = h.read in record {
+      param_bytes = first.bytes;
+      param_faults = first.faults;
+      p = p;
+      params = record { whole = first.whole; values = first.so };
+      e = h.e;
+      read = record {
+        bytes = second.bytes;
+        faults = second.faults;
+        did = did_more old mid new pn first.bytes first.faults (with_reading no_deeds tn second.bytes second.faults) first.did second.did;
+        whole = whole_before old mid (with_reading no_deeds pn first.bytes first.faults) tn second.bytes first.did second.whole;
+        so = second.so;
+      };
+      line = h.line;
+    }
 
 -- ---- the sets
 
@@ -181,3 +165,8 @@ has_run old mid new pn tn fn p agreements started sets r inputs begun fed =
 
 pub feed_failed : (old mid new : FolderSeen) (pn tn fn : List ℕ) (p : Params) (agreements : List Agreement) (why : FindRefused) → HasInputs pn tn old mid p agreements → FindEnds mid new fn why → FeedFails pn tn fn old new why
 feed_failed old mid new pn tn fn p agreements why inputs h = record { p = p; agreements = agreements; mid = mid; inputs = inputs; missing = h }
+
+-- a run ended before its feed, and this line was printed
+pub at_fault : (pn tn fn : List ℕ) (old new : FolderSeen) (out_old out_new : SinkSeen) (f : RunFault) (s : Status) (line : List ℕ) → RunCause pn tn fn old new f → s ≡ status_of_run f → line ≡ run_fault_text pn tn fn f → GotLine out_old out_new line → RunEnds pn tn fn old new out_old out_new s
+at_fault pn tn fn old new out_old out_new f s line cause status is printed =
+    inr (record { f = f; cause = cause; status = sym status; printed = subst (GotLine out_old out_new) is printed })

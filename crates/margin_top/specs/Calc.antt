@@ -16,11 +16,13 @@ use Rattle.margin_top.specs.declared.status.Status.{Status}
 use Rattle.margin_top.specs.declared.status.Status.TheVariants as status
 use Rattle.margin_top.specs.declared.fault.FileFault.{FileFault}
 use Rattle.margin_top.specs.declared.fault.FileFault.TheVariants as file
+use Rattle.margin_top.specs.declared.fault.ValueFault.{ValueFault}
+use Rattle.margin_top.specs.declared.fault.ValueFault.TheVariants as value
 use Rattle.margin_top.specs.declared.fault.CalcFault.{CalcFault}
 use Rattle.margin_top.specs.declared.fault.CalcFault.TheVariants as fault
 use Rattle.margin_text.specs.Margins.{margin_text}
 use Rattle.margin_top.specs.Lines.{params_fault, crif_fault, refused_fault, find_fault, read_fault, long_fault}
-use Rattle.margin_top.specs.Files.{FolderSeen, no_deeds, with_reading, Did, IsWhole, Failed}
+use Rattle.margin_top.specs.Files.{FolderSeen, no_deeds, with_reading, Did, IsWhole, NoValue}
 
 -- what is seen of a sink: what it holds, where it tells, and its count of faults
 pub record SinkSeen : Type 0 where
@@ -69,12 +71,12 @@ pub record HasMargin (params_name crif_name : List ℕ) (old new : FolderSeen) (
   pub margin : b ≡ simm p (rows_of trades)
 
 -- the parameters were read, and then the CRIF file gave no batch
-pub record CrifFails (params_name crif_name : List ℕ) (old new : FolderSeen) (f : FileFault) : Type 0 where
+pub record CrifFails (params_name crif_name : List ℕ) (old new : FolderSeen) (f : ValueFault) : Type 0 where
   pub param_bytes : List ℕ
   pub param_faults : ℕ
   pub p : Params
   pub params : HasParams old params_name param_bytes p
-  pub failed : Failed old new (with_reading no_deeds params_name param_bytes param_faults) crif_name (λ bytes. crif_of bytes ≡ None) f
+  pub failed : NoValue old new (with_reading no_deeds params_name param_bytes param_faults) crif_name (λ bytes. crif_of bytes ≡ None) f
 
 -- both files were read, and the book is out of range
 pub record IsOutOfRange (params_name crif_name : List ℕ) (old new : FolderSeen) : Type 0 where
@@ -92,7 +94,7 @@ pub record IsStarved (params_name crif_name : List ℕ) (old new : FolderSeen) :
 
 -- what happened at each fault of a calculation
 abbrev pub Cause : List ℕ → List ℕ → FolderSeen → FolderSeen → CalcFault → Type 0
-Cause params_name crif_name old new (fault.OfParams f) = Failed old new no_deeds params_name (λ bytes. params_of bytes ≡ None) f
+Cause params_name crif_name old new (fault.OfParams f) = NoValue old new no_deeds params_name (λ bytes. params_of bytes ≡ None) f
 Cause params_name crif_name old new (fault.OfCrif f) = CrifFails params_name crif_name old new f
 Cause params_name crif_name old new fault.OutOfRange = IsOutOfRange params_name crif_name old new
 Cause params_name crif_name old new fault.Memory = IsStarved params_name crif_name old new
@@ -103,30 +105,36 @@ MarginEnds params_name crif_name old new (Ok b) = HasMargin params_name crif_nam
 MarginEnds params_name crif_name old new (Err f) = Cause params_name crif_name old new f
 
 abbrev pub status_of_file : Status → FileFault → Status
-status_of_file refused file.Missing = status.Find
-status_of_file refused file.Unread = status.Read
-status_of_file refused file.Long = refused
-status_of_file refused file.Refused = refused
-status_of_file refused file.Memory = status.Memory
+status_of_file too_long file.Missing = status.Find
+status_of_file too_long file.Unread = status.Read
+status_of_file too_long file.Long = too_long
+status_of_file too_long file.Memory = status.Memory
+
+abbrev pub status_of_value : Status → ValueFault → Status
+status_of_value refused (value.OfFile f) = status_of_file refused f
+status_of_value refused value.Refused = refused
 
 -- the status of each fault
 abbrev pub status_of : CalcFault → Status
-status_of (fault.OfParams f) = status_of_file status.Params f
-status_of (fault.OfCrif f) = status_of_file status.Terms f
+status_of (fault.OfParams f) = status_of_value status.Params f
+status_of (fault.OfCrif f) = status_of_value status.Terms f
 status_of fault.OutOfRange = status.Terms
 status_of fault.Memory = status.Memory
 
-abbrev pub line_of_file : List ℕ → List ℕ → FileFault → List ℕ
-line_of_file name refused file.Missing = find_fault name
-line_of_file name refused file.Unread = read_fault name
-line_of_file name refused file.Long = long_fault name
-line_of_file name refused file.Refused = refused
-line_of_file name refused file.Memory = []
+abbrev pub line_of_file : List ℕ → FileFault → List ℕ
+line_of_file name file.Missing = find_fault name
+line_of_file name file.Unread = read_fault name
+line_of_file name file.Long = long_fault name
+line_of_file name file.Memory = []
+
+abbrev pub line_of_value : List ℕ → List ℕ → ValueFault → List ℕ
+line_of_value name refused (value.OfFile f) = line_of_file name f
+line_of_value name refused value.Refused = refused
 
 -- the one line that is printed at each fault; for want of memory none
 abbrev pub fault_text : List ℕ → List ℕ → CalcFault → List ℕ
-fault_text params_name crif_name (fault.OfParams f) = line_of_file params_name params_fault f
-fault_text params_name crif_name (fault.OfCrif f) = line_of_file crif_name crif_fault f
+fault_text params_name crif_name (fault.OfParams f) = line_of_value params_name params_fault f
+fault_text params_name crif_name (fault.OfCrif f) = line_of_value crif_name crif_fault f
 fault_text params_name crif_name fault.OutOfRange = refused_fault
 fault_text params_name crif_name fault.Memory = []
 

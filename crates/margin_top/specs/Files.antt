@@ -5,6 +5,8 @@ use Rattle.mh_io.specs.Folder.{Telling, Reading, file_of}
 use Rattle.mh_io.specs.declared.reading.TheConstants.{MOST_BYTES}
 use Rattle.margin_top.specs.declared.fault.FileFault.{FileFault}
 use Rattle.margin_top.specs.declared.fault.FileFault.TheVariants as fault
+use Rattle.margin_top.specs.declared.fault.ValueFault.{ValueFault}
+use Rattle.margin_top.specs.declared.fault.ValueFault.TheVariants as value
 
 -- what is seen of a folder: all that it tells, and its counts of faults
 pub record FolderSeen : Type 0 where
@@ -76,26 +78,34 @@ pub record IsRead (old new : FolderSeen) (before : Deeds) (name : List ℕ) (Are
   pub whole : IsWhole old name bytes
   pub so : AreSo bytes
 
--- memory ran out: of the names at most this one was asked for
-pub record IsCutShort (old new : FolderSeen) (before : Deeds) (name : List ℕ) : Type 0 where
-  pub deeds : Deeds
-  pub did : Did old new deeds
-  pub asked : (deeds.names ≡ before.names) ⊎ (deeds.names ≡ before.names ++ name ∷ [])
+-- a file was found, and so much of it was taken before it was handed back
+pub record IsTaken (old new : FolderSeen) (before : Deeds) (name : List ℕ) : Type 0 where
+  pub taken : List ℕ
+  pub faults : ℕ
+  pub did : Did old new (with_reading before name taken faults)
 
--- why a file gave no value, after what was done before, where IsRefused says which bytes have none
-abbrev pub Failed : FolderSeen → FolderSeen → Deeds → List ℕ → (List ℕ → Type 0) → FileFault → Type 0
-Failed old new before name IsRefused fault.Missing = IsMissing old new before name
-Failed old new before name IsRefused fault.Unread = IsUnread old new before name
-Failed old new before name IsRefused fault.Long = IsLong old new before name
-Failed old new before name IsRefused fault.Refused = IsRead old new before name IsRefused
-Failed old new before name IsRefused fault.Memory = IsCutShort old new before name
+-- memory ran out: before the file was asked for, or after it was found, and then it was handed back
+abbrev pub IsCutShort : FolderSeen → FolderSeen → Deeds → List ℕ → Type 0
+IsCutShort old new before name = Did old new before ⊎ IsTaken old new before name
+
+-- why a file wasn't read whole, after what was done before
+abbrev pub Failed : FolderSeen → FolderSeen → Deeds → List ℕ → FileFault → Type 0
+Failed old new before name fault.Missing = IsMissing old new before name
+Failed old new before name fault.Unread = IsUnread old new before name
+Failed old new before name fault.Long = IsLong old new before name
+Failed old new before name fault.Memory = IsCutShort old new before name
+
+-- why a file gave no value, where IsRefused says which bytes have none
+abbrev pub NoValue : FolderSeen → FolderSeen → Deeds → List ℕ → (List ℕ → Type 0) → ValueFault → Type 0
+NoValue old new before name IsRefused (value.OfFile f) = Failed old new before name f
+NoValue old new before name IsRefused value.Refused = IsRead old new before name IsRefused
 
 -- what reading a whole file does: its bytes, or why there are none
 abbrev pub FileEnds : FolderSeen → FolderSeen → List ℕ → Result (List ℕ) FileFault → Type 0
 FileEnds old new name (Ok bytes) = IsRead old new no_deeds name (λ read. read ≡ bytes)
-FileEnds old new name (Err f) = Failed old new no_deeds name (λ _. ⊥) f
+FileEnds old new name (Err f) = Failed old new no_deeds name f
 
 -- what reading a file by its grammar does: its value, or why there is none
-abbrev pub ValueEnds : {A : Type 0} → (List ℕ → Option A) → FolderSeen → FolderSeen → List ℕ → Result A FileFault → Type 0
+abbrev pub ValueEnds : {A : Type 0} → (List ℕ → Option A) → FolderSeen → FolderSeen → List ℕ → Result A ValueFault → Type 0
 ValueEnds grammar old new name (Ok value) = IsRead old new no_deeds name (λ bytes. grammar bytes ≡ Some value)
-ValueEnds grammar old new name (Err f) = Failed old new no_deeds name (λ bytes. grammar bytes ≡ None) f
+ValueEnds grammar old new name (Err f) = NoValue old new no_deeds name (λ bytes. grammar bytes ≡ None) f

@@ -1,5 +1,5 @@
 -- What a run of a feed does: for each status what happened, and what was printed.
-use Rattle.std.specs.Prelude.{ℕ, ◌≡◌, ◌<◌, ◌≤◌, List, [], ◌∷◌, ◌++◌, take, map, Bool, true, Some, None, IfSome, Ok, Err, ◌⊎◌}
+use Rattle.std.specs.Prelude.{ℕ, ◌≡◌, ◌<◌, ◌≤◌, List, [], ◌++◌, map, Bool, true, Some, None, IfSome, Ok, Err, ◌⊎◌}
 use Rattle.std.specs.List.{AllByRecursion, flat_map}
 use Rattle.mh_io.specs.Faults.{Rises}
 use Rattle.mh_io.specs.Folder.{file_of}
@@ -20,16 +20,13 @@ use Rattle.margin_text.specs.Feeds.{feed_text}
 use Rattle.margin_top.specs.declared.status.Status.{Status}
 use Rattle.margin_top.specs.declared.status.Status.TheVariants as status
 use Rattle.margin_top.specs.declared.fault.FileFault.{FileFault}
+use Rattle.margin_top.specs.declared.run_fault.TermsFileFault.{TermsFileFault}
+use Rattle.margin_top.specs.declared.run_fault.TermsFileFault.TheVariants as terms
 use Rattle.margin_top.specs.declared.run_fault.RunFault.{RunFault}
 use Rattle.margin_top.specs.declared.run_fault.RunFault.TheVariants as fault
 use Rattle.margin_top.specs.Lines.{params_fault, find_fault, terms_fault}
-use Rattle.margin_top.specs.Files.{FolderSeen, Deeds, no_deeds, with_reading, Did, IsWhole, IsRead, IsMissing, IsCutShort, Failed}
-use Rattle.margin_top.specs.Calc.{SinkSeen, Got, GotFront, GotLine, HasParams, status_of_file, line_of_file}
-
--- the sink got a front of the text
-pub record GotPart (old new : SinkSeen) (text : List ℕ) : Type 0 where
-  pub put : ℕ
-  pub front : Got old new (take put text)
+use Rattle.margin_top.specs.Files.{FolderSeen, no_deeds, with_reading, Did, IsWhole, IsRead, IsMissing, Failed, NoValue}
+use Rattle.margin_top.specs.Calc.{SinkSeen, Got, GotFront, GotLine, HasParams, status_of_file, status_of_value, line_of_file, line_of_value}
 
 -- the parameter file and then the terms file were read whole, with these values, and no count of faults fell
 pub record HasInputs (params_name terms_name : List ℕ) (old new : FolderSeen) (p : Params) (agreements : List Agreement) : Type 0 where
@@ -79,13 +76,13 @@ run_text sets r =
 
 -- ---- runs that didn't reach the feed
 
--- the parameters were read, and then the terms file gave nothing
+-- the parameters were read, and then the terms file wasn't read whole, or memory ran out for its terms
 pub record TermsFail (params_name terms_name : List ℕ) (old new : FolderSeen) (f : FileFault) : Type 0 where
   pub param_bytes : List ℕ
   pub param_faults : ℕ
   pub p : Params
   pub params : HasParams old params_name param_bytes p
-  pub failed : Failed old new (with_reading no_deeds params_name param_bytes param_faults) terms_name (λ _. ⊥) f
+  pub failed : Failed old new (with_reading no_deeds params_name param_bytes param_faults) terms_name f
 
 -- the parameters were read, and then the terms file was refused with this line
 pub record TermsRefuse (params_name terms_name : List ℕ) (old new : FolderSeen) (printed : List ℕ) : Type 0 where
@@ -100,7 +97,7 @@ pub record TermsRefuse (params_name terms_name : List ℕ) (old new : FolderSeen
 -- a name was asked for, and no source of it came
 abbrev pub FindEnds : FolderSeen → FolderSeen → List ℕ → FindRefused → Type 0
 FindEnds old new name find.Failed = IsMissing old new no_deeds name
-FindEnds old new name find.Memory = IsCutShort old new no_deeds name
+FindEnds old new name find.Memory = Did old new no_deeds
 
 -- both files were read, and then the feed wasn't found
 pub record FeedFails (params_name terms_name feed_name : List ℕ) (old new : FolderSeen) (why : FindRefused) : Type 0 where
@@ -110,17 +107,21 @@ pub record FeedFails (params_name terms_name feed_name : List ℕ) (old new : Fo
   pub inputs : HasInputs params_name terms_name old mid p agreements
   pub missing : FindEnds mid new feed_name why
 
--- both files were asked for, and then memory ran out
+-- why the terms file gave no terms
+abbrev pub NoTerms : List ℕ → List ℕ → FolderSeen → FolderSeen → TermsFileFault → Type 0
+NoTerms params_name terms_name old new (terms.OfFile f) = TermsFail params_name terms_name old new f
+NoTerms params_name terms_name old new (terms.Refused line) = TermsRefuse params_name terms_name old new line
+
+-- both files were read, and then memory ran out
 pub record RunStarves (params_name terms_name : List ℕ) (old new : FolderSeen) : Type 0 where
-  pub deeds : Deeds
-  pub did : Did old new deeds
-  pub asked : deeds.names ≡ params_name ∷ terms_name ∷ []
+  pub p : Params
+  pub agreements : List Agreement
+  pub inputs : HasInputs params_name terms_name old new p agreements
 
 -- what happened at each fault of a run
 abbrev pub RunCause : List ℕ → List ℕ → List ℕ → FolderSeen → FolderSeen → RunFault → Type 0
-RunCause params_name terms_name feed_name old new (fault.OfParams f) = Failed old new no_deeds params_name (λ bytes. params_of bytes ≡ None) f
-RunCause params_name terms_name feed_name old new (fault.OfTerms f) = TermsFail params_name terms_name old new f
-RunCause params_name terms_name feed_name old new (fault.TermsRefused line) = TermsRefuse params_name terms_name old new line
+RunCause params_name terms_name feed_name old new (fault.OfParams f) = NoValue old new no_deeds params_name (λ bytes. params_of bytes ≡ None) f
+RunCause params_name terms_name feed_name old new (fault.OfTerms f) = NoTerms params_name terms_name old new f
 RunCause params_name terms_name feed_name old new (fault.OfFeed why) = FeedFails params_name terms_name feed_name old new why
 RunCause params_name terms_name feed_name old new fault.Memory = RunStarves params_name terms_name old new
 
@@ -129,10 +130,13 @@ abbrev pub status_of_find : FindRefused → Status
 status_of_find find.Failed = status.Find
 status_of_find find.Memory = status.Memory
 
+abbrev pub status_of_terms : TermsFileFault → Status
+status_of_terms (terms.OfFile f) = status_of_file status.Terms f
+status_of_terms (terms.Refused line) = status.Terms
+
 abbrev pub status_of_run : RunFault → Status
-status_of_run (fault.OfParams f) = status_of_file status.Params f
-status_of_run (fault.OfTerms f) = status_of_file status.Terms f
-status_of_run (fault.TermsRefused line) = status.Terms
+status_of_run (fault.OfParams f) = status_of_value status.Params f
+status_of_run (fault.OfTerms f) = status_of_terms f
 status_of_run (fault.OfFeed why) = status_of_find why
 status_of_run fault.Memory = status.Memory
 
@@ -141,10 +145,13 @@ abbrev pub find_line : List ℕ → FindRefused → List ℕ
 find_line name find.Failed = find_fault name
 find_line name find.Memory = []
 
+abbrev pub line_of_terms : List ℕ → TermsFileFault → List ℕ
+line_of_terms name (terms.OfFile f) = line_of_file name f
+line_of_terms name (terms.Refused line) = line
+
 abbrev pub run_fault_text : List ℕ → List ℕ → List ℕ → RunFault → List ℕ
-run_fault_text params_name terms_name feed_name (fault.OfParams f) = line_of_file params_name params_fault f
-run_fault_text params_name terms_name feed_name (fault.OfTerms f) = line_of_file terms_name [] f
-run_fault_text params_name terms_name feed_name (fault.TermsRefused line) = line
+run_fault_text params_name terms_name feed_name (fault.OfParams f) = line_of_value params_name params_fault f
+run_fault_text params_name terms_name feed_name (fault.OfTerms f) = line_of_terms terms_name f
 run_fault_text params_name terms_name feed_name (fault.OfFeed why) = find_line feed_name why
 run_fault_text params_name terms_name feed_name fault.Memory = []
 
@@ -160,13 +167,13 @@ status_of_end end_at.ReadFault = status.Read
 status_of_end (end_at.Memory line) = status.Memory
 
 -- What printing a run does, by its status: that of the feed's end, but Write where the sink failed at a feed that
--- ended whole, and Memory where there was none for the text.
+-- ended whole, and Memory where there was none for the text, of which then nothing is printed.
 abbrev pub RunPrints : List Set → FeedReport → SinkSeen → SinkSeen → Status → Type 0
 RunPrints sets r old new status.Done = (r.end ≡ end_at.End) × Got old new (run_text sets r)
 RunPrints sets r old new status.Write = (r.end ≡ end_at.End) × GotFront old new (run_text sets r)
 RunPrints sets r old new status.Feed = (status_of_end r.end ≡ status.Feed) × GotLine old new (run_text sets r)
 RunPrints sets r old new status.Read = (r.end ≡ end_at.ReadFault) × GotLine old new (run_text sets r)
-RunPrints sets r old new status.Memory = GotPart old new (run_text sets r)
+RunPrints sets r old new status.Memory = (new.holds ≡ old.holds) ⊎ ((status_of_end r.end ≡ status.Memory) × GotLine old new (run_text sets r))
 RunPrints sets r old new _ = ⊥
 
 -- the run reached its feed

@@ -4,7 +4,7 @@ ghost use Rattle.margin_top.specs.Calc.{SinkSeen, CalcEnds};
 ghost use Rattle.margin_top.specs.Complete.{IsWell, EndsWell};
 
 use crate::margin_of::margin_of_files;
-use crate::printing::{print_fault, print_margin};
+use crate::printing::{print_line, print_margin};
 use crate::status::Status;
 use mh_io::{Folder, Sink};
 use std::alloc::Global;
@@ -41,6 +41,10 @@ pub fn calc<F: Folder, K: Sink>(
 {
     match margin_of_files(alloc, params, crif, folder) {
         Ok(margin) => print_margin(alloc, out, &margin),
-        Err(fault) => print_fault(out, fault, params, crif),
+        Err(fault) => {
+            let (status, line) = fault.ending(params, crif);
+            print_line(out, line);
+            status
+        }
     }
 }

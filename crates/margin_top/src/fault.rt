@@ -1,6 +1,9 @@
+//! Why files gave nothing, and a calculation no margin.
+use crate::fault_line::FaultLine;
+use crate::status::Status;
 use mh_io::{FindRefused, ReadAllFault};
 
-/// Why a file gave no value.
+/// Why a file wasn't read whole.
 #[derive(Clone, Copy, Debug, PartialEq, Eq)]
 pub enum FileFault {
     /// It isn't there or can't be opened.
@@ -9,8 +12,6 @@ pub enum FileFault {
     Unread,
     /// It is too long.
     Long,
-    /// Its grammar refuses it.
-    Refused,
     /// Memory ran out.
     Memory,
 }
@@ -44,15 +45,85 @@ impl From<ReadAllFault> for FileFault {
     }
 }
 
+impl FileFault {
+    ghost use Rattle.std.specs.Prelude.{◌≡◌};
+    ghost use Rattle.margin_top.specs.FaultLine.{line_text};
+    ghost use Rattle.margin_top.specs.Calc.{status_of_file, line_of_file};
+
+    /// The status and the line of the fault of the file of this name, where `too_long` is the status of one too long.
+    pub(crate) fn ending<'a>(self, name: &'a str, too_long: Status) -> (Status, FaultLine<'a>)
+        ensures status { result.0 ≡ status_of_file too_long self }
+        ensures line { line_text result.1 ≡ line_of_file name.now self }
+    {
+        match self {
+            FileFault::Missing => (Status::Find, FaultLine::Named(b"FAULT\tFIND\t", name)),
+            FileFault::Unread => (Status::Read, FaultLine::Named(b"FAULT\tREAD\t", name)),
+            FileFault::Long => (too_long, FaultLine::Named(b"FAULT\tLONG\t", name)),
+            FileFault::Memory => (Status::Memory, FaultLine::Whole(b"")),
+        }
+    }
+}
+
+/// Why a file gave no value.
+#[derive(Clone, Copy, Debug, PartialEq, Eq)]
+pub enum ValueFault {
+    /// It wasn't read whole, or memory ran out for its value.
+    OfFile(FileFault),
+    /// Its grammar refuses it.
+    Refused,
+}
+
+impl ValueFault {
+    ghost use Rattle.std.specs.Prelude.{◌≡◌};
+    ghost use Rattle.margin_top.specs.FaultLine.{line_text};
+    ghost use Rattle.margin_top.specs.Calc.{status_of_value, line_of_value};
+
+    /// The status and the line of the fault of the file of this name, where `status` is that of one too long or refused,
+    /// and `refused` the line of one refused.
+    pub(crate) fn ending<'a>(
+        self,
+        name: &'a str,
+        refused: &'a [u8],
+        status: Status,
+    ) -> (Status, FaultLine<'a>)
+        ensures status { result.0 ≡ status_of_value status self }
+        ensures line { line_text result.1 ≡ line_of_value name.now refused.now self }
+    {
+        match self {
+            ValueFault::OfFile(fault) => fault.ending(name, status),
+            ValueFault::Refused => (status, FaultLine::Whole(refused)),
+        }
+    }
+}
+
 /// Why a calculation gave no margin.
 #[derive(Clone, Copy, Debug, PartialEq, Eq)]
 pub enum CalcFault {
     /// The parameter file gave no parameters.
-    OfParams(FileFault),
+    OfParams(ValueFault),
     /// The CRIF file gave no batch.
-    OfCrif(FileFault),
+    OfCrif(ValueFault),
     /// The book of the batch is out of range.
     OutOfRange,
     /// Memory ran out after both files were read.
     Memory,
+}
+
+impl CalcFault {
+    ghost use Rattle.std.specs.Prelude.{◌≡◌};
+    ghost use Rattle.margin_top.specs.FaultLine.{line_text};
+    ghost use Rattle.margin_top.specs.Calc.{status_of, fault_text};
+
+    /// The status and the line of the fault.
+    pub(crate) fn ending<'a>(self, params: &'a str, crif: &'a str) -> (Status, FaultLine<'a>)
+        ensures status { result.0 ≡ status_of self }
+        ensures line { line_text result.1 ≡ fault_text params.now crif.now self }
+    {
+        match self {
+            CalcFault::OfParams(fault) => fault.ending(params, b"FAULT\tPARAMS\n", Status::Params),
+            CalcFault::OfCrif(fault) => fault.ending(crif, b"FAULT\tCRIF\n", Status::Terms),
+            CalcFault::OutOfRange => (Status::Terms, FaultLine::Whole(b"FAULT\tREFUSED\n")),
+            CalcFault::Memory => (Status::Memory, FaultLine::Whole(b"")),
+        }
+    }
 }

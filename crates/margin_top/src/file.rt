@@ -10,7 +10,7 @@ use std::alloc::Global;
 ///
 /// # Errors
 ///
-/// Any but `Refused`: the file is missing, unread or too long, each only where it is so; or memory ran out.
+/// The file is missing, unread or too long, each only where it is so; or memory ran out.
 pub(crate) fn read_file<F: Folder>(
     alloc: Global,
     folder: &mut F,

@@ -6,6 +6,7 @@ ghost use Rattle.margin_top.specs.Complete.{IsWellHouse, EndsWell};
 ghost use Rattle.margin_top.specs.House.{HouseEnds};
 
 use crate::calculation::calc;
+use crate::fault_line::FaultLine;
 use crate::printing::print_line;
 use crate::running::run;
 use crate::status::Status;
@@ -42,7 +43,7 @@ pub fn margin_house<F: Folder, K: Sink>(
         Some(Command::Calc(files)) => calc(alloc, files.params, files.crif, folder, out),
         Some(Command::Run(files)) => run(alloc, files.params, files.terms, files.feed, folder, out),
         None => {
-            print_line(out, b"FAULT\tWORDS\n");
+            print_line(out, FaultLine::Whole(b"FAULT\tWORDS\n"));
             Status::Words
         }
     }

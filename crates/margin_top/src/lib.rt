@@ -3,6 +3,7 @@
 
 mod calculation;
 mod fault;
+mod fault_line;
 mod file;
 mod house;
 mod margin_of;

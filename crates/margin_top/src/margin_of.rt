@@ -10,7 +10,7 @@ ghost use Rattle.bucket_cache.specs.declared.fault.SubmitFault.TheVariants as su
 ghost use Rattle.margin_top.specs.Files.{FolderSeen, ValueEnds};
 ghost use Rattle.margin_top.specs.Calc.{MarginEnds};
 
-use crate::fault::{CalcFault, FileFault};
+use crate::fault::{CalcFault, FileFault, ValueFault};
 use crate::file::read_file;
 use bucket_cache::{LiveMargin, SubmitFault};
 use crif_reader::{CrifFault, read_batch};
@@ -25,7 +25,7 @@ pub(crate) fn read_param_file<F: Folder>(
     alloc: Global,
     folder: &mut F,
     name: &str,
-) -> Result<Params, FileFault>
+) -> Result<Params, ValueFault>
     ensures finds { F.find_faults folder.old ≤ F.find_faults folder.new }
     ensures reads { F.read_faults folder.old ≤ F.read_faults folder.new }
     ensures due { F.due folder.new ≡ F.due folder.old }
@@ -34,16 +34,19 @@ pub(crate) fn read_param_file<F: Folder>(
         (record { told = F.told folder.new; finds = F.find_faults folder.new; reads = F.read_faults folder.new })
         name.now result }
 {
-    let bytes = read_file(alloc, folder, name)?;
+    let bytes = match read_file(alloc, folder, name) {
+        Ok(bytes) => bytes,
+        Err(fault) => return Err(ValueFault::OfFile(fault)),
+    };
     match read_params(alloc, bytes.as_slice()) {
         Ok(params) => Ok(params),
-        Err(ParamFault::Refused) => Err(FileFault::Refused),
-        Err(ParamFault::Memory) => Err(FileFault::Memory),
+        Err(ParamFault::Refused) => Err(ValueFault::Refused),
+        Err(ParamFault::Memory) => Err(ValueFault::OfFile(FileFault::Memory)),
     }
 }
 
 /// Reads the CRIF file of this name.
-fn read_crif_file<F: Folder>(alloc: Global, folder: &mut F, name: &str) -> Result<Batch, FileFault>
+fn read_crif_file<F: Folder>(alloc: Global, folder: &mut F, name: &str) -> Result<Batch, ValueFault>
     ensures finds { F.find_faults folder.old ≤ F.find_faults folder.new }
     ensures reads { F.read_faults folder.old ≤ F.read_faults folder.new }
     ensures due { F.due folder.new ≡ F.due folder.old }
@@ -53,11 +56,14 @@ fn read_crif_file<F: Folder>(alloc: Global, folder: &mut F, name: &str) -> Resul
         name.now result }
     ensures fx { IfOk result (λ trades. all_fx (rows_of trades) ≡ true) }
 {
-    let bytes = read_file(alloc, folder, name)?;
+    let bytes = match read_file(alloc, folder, name) {
+        Ok(bytes) => bytes,
+        Err(fault) => return Err(ValueFault::OfFile(fault)),
+    };
     match read_batch(alloc, bytes.as_slice()) {
         Ok(batch) => Ok(batch),
-        Err(CrifFault::Refused) => Err(FileFault::Refused),
-        Err(CrifFault::Memory) => Err(FileFault::Memory),
+        Err(CrifFault::Refused) => Err(ValueFault::Refused),
+        Err(CrifFault::Memory) => Err(ValueFault::OfFile(FileFault::Memory)),
     }
 }
 

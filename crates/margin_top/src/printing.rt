@@ -1,8 +1,9 @@
 ghost use Rattle.std.specs.Prelude.{◌≡◌, ◌≤◌, ◌++◌};
 ghost use Rattle.margin_text.specs.Fields.{last_field};
-ghost use Rattle.margin_top.specs.Calc.{SinkSeen, GotLine, MarginPrints, status_of, status_of_file, line_of_file, fault_text};
+ghost use Rattle.margin_top.specs.FaultLine.{line_text};
+ghost use Rattle.margin_top.specs.Calc.{SinkSeen, GotLine, MarginPrints};
 
-use crate::fault::{CalcFault, FileFault};
+use crate::fault_line::FaultLine;
 use crate::status::Status;
 use margin_text::margin_lines;
 use mh_io::{Sink, put_all};
@@ -25,18 +26,31 @@ pub(crate) fn print_margin<K: Sink>(alloc: Global, out: &mut K, margin: &Breakdo
     }
 }
 
-/// Prints one line, or a front of it where the sink fails. It takes no memory.
-pub(crate) fn print_line<K: Sink>(out: &mut K, line: &[u8])
+/// Prints the line of a fault, or a front of it where the sink fails. It takes no memory.
+pub(crate) fn print_line<K: Sink>(out: &mut K, line: FaultLine)
     ensures count { K.faults out.old ≤ K.faults out.new }
     ensures printed { GotLine
         (record { holds = K.holds out.old; faults = K.faults out.old })
-        (record { holds = K.holds out.new; faults = K.faults out.new }) line.now }
+        (record { holds = K.holds out.new; faults = K.faults out.new }) (line_text line.entry) }
 {
-    let _ = put_all(out, line);
+    match line {
+        FaultLine::Whole(bytes) => print_front(out, bytes),
+        FaultLine::Named(fields, name) => print_named(out, fields, name),
+    }
 }
 
-/// Prints one line whose last field is a file's name, or a front of it. It takes no memory.
-pub(crate) fn print_named<K: Sink>(out: &mut K, fields: &[u8], name: &str)
+/// Prints these bytes, or a front of them where the sink fails.
+fn print_front<K: Sink>(out: &mut K, bytes: &[u8])
+    ensures count { K.faults out.old ≤ K.faults out.new }
+    ensures printed { GotLine
+        (record { holds = K.holds out.old; faults = K.faults out.old })
+        (record { holds = K.holds out.new; faults = K.faults out.new }) bytes.now }
+{
+    let _ = put_all(out, bytes);
+}
+
+/// Prints one line whose last field is a file's name, or a front of it.
+fn print_named<K: Sink>(out: &mut K, fields: &[u8], name: &str)
     ensures count { K.faults out.old ≤ K.faults out.new }
     ensures printed { GotLine
         (record { holds = K.holds out.old; faults = K.faults out.old })
@@ -48,74 +62,5 @@ pub(crate) fn print_named<K: Sink>(out: &mut K, fields: &[u8], name: &str)
     if put_all(out, name.as_bytes()).is_err() {
         return;
     }
-    print_line(out, b"\n");
-}
-
-/// Prints the line of a file's fault; `refused` is the line and the status where its grammar refuses it.
-pub(crate) fn print_file_fault<K: Sink>(
-    out: &mut K,
-    fault: FileFault,
-    name: &str,
-    refused: &[u8],
-    status: Status,
-) -> Status
-    ensures count { K.faults out.old ≤ K.faults out.new }
-    ensures status { result ≡ status_of_file status fault }
-    ensures printed { GotLine
-        (record { holds = K.holds out.old; faults = K.faults out.old })
-        (record { holds = K.holds out.new; faults = K.faults out.new }) (line_of_file name.now refused.now fault) }
-{
-    match fault {
-        FileFault::Missing => {
-            print_named(out, b"FAULT\tFIND\t", name);
-            Status::Find
-        }
-        FileFault::Unread => {
-            print_named(out, b"FAULT\tREAD\t", name);
-            Status::Read
-        }
-        FileFault::Long => {
-            print_named(out, b"FAULT\tLONG\t", name);
-            status
-        }
-        FileFault::Refused => {
-            print_line(out, refused);
-            status
-        }
-        FileFault::Memory => {
-            print_line(out, b"");
-            Status::Memory
-        }
-    }
-}
-
-/// Prints the one line of a fault, and answers its status. It takes no memory.
-pub(crate) fn print_fault<K: Sink>(
-    out: &mut K,
-    fault: CalcFault,
-    params: &str,
-    crif: &str,
-) -> Status
-    ensures count { K.faults out.old ≤ K.faults out.new }
-    ensures status { result ≡ status_of fault }
-    ensures printed { GotLine
-        (record { holds = K.holds out.old; faults = K.faults out.old })
-        (record { holds = K.holds out.new; faults = K.faults out.new }) (fault_text params.now crif.now fault) }
-{
-    match fault {
-        CalcFault::OfParams(fault) => {
-            print_file_fault(out, fault, params, b"FAULT\tPARAMS\n", Status::Params)
-        }
-        CalcFault::OfCrif(fault) => {
-            print_file_fault(out, fault, crif, b"FAULT\tCRIF\n", Status::Terms)
-        }
-        CalcFault::OutOfRange => {
-            print_line(out, b"FAULT\tREFUSED\n");
-            Status::Terms
-        }
-        CalcFault::Memory => {
-            print_line(out, b"");
-            Status::Memory
-        }
-    }
+    print_front(out, b"\n");
 }

@@ -4,12 +4,12 @@ ghost use Rattle.csa_terms.specs.Grammar.{terms_of};
 ghost use Rattle.feed_gate.specs.Sets.{AreApart};
 ghost use Rattle.margin_top.specs.Files.{FolderSeen};
 ghost use Rattle.margin_top.specs.Run.{start};
-ghost use Rattle.margin_top.specs.RunStages.{TermsEnds, FeedEnds, RunFilesEnd, IsRefusedFault};
+ghost use Rattle.margin_top.specs.RunStages.{TermsEnds, FeedEnds, RunFilesEnd, IsTermsFault};
 
 use crate::fault::FileFault;
 use crate::file::read_file;
 use crate::margin_of::read_param_file;
-use crate::run_fault::RunFault;
+use crate::run_fault::{RunFault, TermsFileFault};
 use crate::terms_line::terms_line;
 use csa_terms::{Terms, TermsFault, read_terms};
 use feed_gate::{FeedReport, run_feed};
@@ -17,15 +17,6 @@ use mh_io::{FindRefused, Folder};
 use set_core::SetState;
 use simm_params::Params;
 use std::alloc::{AllocError, Global};
-
-/// Why a terms file gave no terms.
-#[derive(Debug, Drop)]
-pub(crate) enum TermsFileFault {
-    /// It could not be read.
-    OfFile(FileFault),
-    /// It is refused.
-    Refused(TermsFault),
-}
 
 /// What a run leaves: its sets with their terms, and the report of its feed.
 #[derive(Drop)]
@@ -55,8 +46,17 @@ fn read_terms_file<F: Folder>(
     };
     match read_terms(alloc, bytes.as_slice()) {
         Ok(terms) => Ok(terms),
-        Err(TermsFault::Memory) => Err(TermsFileFault::OfFile(FileFault::Memory)),
-        Err(fault) => Err(TermsFileFault::Refused(fault)),
+        Err(fault) => Err(refused_terms(alloc, &fault)),
+    }
+}
+
+/// The fault of a file that gave no terms.
+fn refused_terms(alloc: Global, fault: &TermsFault) -> TermsFileFault
+    ensures { IsTermsFault fault.now result }
+{
+    match terms_line(alloc, fault) {
+        Ok(line) => TermsFileFault::Refused(line),
+        Err(_) => TermsFileFault::OfFile(FileFault::Memory),
     }
 }
 
@@ -120,8 +120,7 @@ pub(crate) fn run_files<F: Folder>(
     };
     let agreements = match read_terms_file(alloc, folder, terms) {
         Ok(agreements) => agreements,
-        Err(TermsFileFault::OfFile(fault)) => return Err(RunFault::OfTerms(fault)),
-        Err(TermsFileFault::Refused(fault)) => return Err(refused_terms(alloc, &fault)),
+        Err(fault) => return Err(RunFault::OfTerms(fault)),
     };
     let Ok(mut sets) = make_sets(alloc, &values, &agreements) else {
         return Err(RunFault::Memory);
@@ -133,15 +132,5 @@ pub(crate) fn run_files<F: Folder>(
             report,
         }),
         Err(refused) => Err(RunFault::OfFeed(refused)),
-    }
-}
-
-/// The fault of terms that are refused.
-fn refused_terms(alloc: Global, fault: &TermsFault) -> RunFault
-    ensures { IsRefusedFault fault.now result }
-{
-    match terms_line(alloc, fault) {
-        Ok(line) => RunFault::TermsRefused(line),
-        Err(_) => RunFault::Memory,
     }
 }

@@ -4,8 +4,9 @@ ghost use Rattle.margin_top.specs.Calc.{SinkSeen};
 ghost use Rattle.margin_top.specs.Run.{RunEnds};
 ghost use Rattle.margin_top.specs.Complete.{IsWellRun, EndsWell};
 
+use crate::printing::print_line;
 use crate::run_files::run_files;
-use crate::run_printing::{print_run, print_run_fault};
+use crate::run_printing::print_run;
 use crate::status::Status;
 use mh_io::{Folder, Sink};
 use std::alloc::Global;
@@ -41,6 +42,10 @@ pub(crate) fn run<F: Folder, K: Sink>(
 {
     match run_files(alloc, params, terms, feed, folder) {
         Ok(run) => print_run(alloc, out, &run),
-        Err(fault) => print_run_fault(out, &fault, params, terms, feed),
+        Err(fault) => {
+            let (status, line) = fault.ending(params, terms, feed);
+            print_line(out, line);
+            status
+        }
     }
 }

@@ -1,5 +1,5 @@
-ghost use Rattle.std.specs.Prelude.{◌≡◌, ◌++◌, IfOk, OnOk, codes};
-ghost use Rattle.margin_text.specs.Fields.{last_field, field};
+ghost use Rattle.std.specs.Prelude.{◌≡◌, ◌≢◌, ◌++◌, IfOk, OnOk};
+ghost use Rattle.margin_text.specs.Fields.{last_field};
 ghost use Rattle.margin_top.specs.Lines.{terms_fault};
 ghost use Rattle.csa_terms.specs.declared.fault.TermsFault.TheVariants as terms;
 
@@ -7,9 +7,14 @@ use csa_terms::TermsFault;
 use mh_units::Text;
 use std::alloc::{AllocError, Global};
 
-/// The line of a terms file's fault; for want of memory it is empty.
+/// The line of a terms file's fault.
+///
+/// # Errors
+///
+/// For want of memory, of the terms' reader too.
 pub(crate) fn terms_line(alloc: Global, fault: &TermsFault) -> Result<Text, AllocError>
-    ensures { IfOk result (λ line. line ≡ terms_fault fault.now) }
+    ensures line { IfOk result (λ line. line ≡ terms_fault fault.now) }
+    ensures refused { OnOk result (fault.now ≢ terms.Memory) }
 {
     match fault {
         TermsFault::Toml => line_of(alloc, b"FAULT\tTERMS\t1\n"),
@@ -20,7 +25,7 @@ pub(crate) fn terms_line(alloc: Global, fault: &TermsFault) -> Result<Text, Allo
         TermsFault::BadDate(path) => named_line(alloc, b"FAULT\tTERMS\t6\t", path.as_slice()),
         TermsFault::TooManySets(count) => count_line(alloc, *count),
         TermsFault::BadName(path) => named_line(alloc, b"FAULT\tTERMS\t8\t", path.as_slice()),
-        TermsFault::Memory => Ok(Text::new(alloc)),
+        TermsFault::Memory => Err(AllocError),
     }
 }
 

@@ -25,10 +25,10 @@ returns-clause-printed g c =
     let start : SinkSeen = record { holds = g.K.Sink.holds c.args.out.now; faults = g.K.Sink.faults c.args.out.now } in
     let middle : SinkSeen = record { holds = g.K.Sink.holds c.put_all.new.sink; faults = g.K.Sink.faults c.put_all.new.sink } in
     let named : SinkSeen = record { holds = g.K.Sink.holds c.put_all-2.new.sink; faults = g.K.Sink.faults c.put_all-2.new.sink } in
-    let last : SinkSeen = record { holds = g.K.Sink.holds c.print_line.new.out; faults = g.K.Sink.faults c.print_line.new.out } in
+    let last : SinkSeen = record { holds = g.K.Sink.holds c.print_front.new.out; faults = g.K.Sink.faults c.print_front.new.out } in
     subst (λ n. GotLine start last (c.args.fields.now ++ last_field n)) c.as_bytes.ensures.value
     (got_line_after start middle last c.args.fields.now (last_field name)
     (put_went start middle c.args.fields.now c.put_all.result (sym c.is_err.ensures.value ∙ c.if-is_err.false) c.put_all.ensures.ok) c.put_all.ensures.count
     (got_line_after middle named last name (10 ∷ [])
     (put_went middle named name c.put_all-2.result (sym c.is_err-2.ensures.value ∙ c.if-is_err-2.false) c.put_all-2.ensures.ok) c.put_all-2.ensures.count
-    c.print_line.ensures.printed))
+    c.print_front.ensures.printed))

@@ -1,28 +1,20 @@
-use Rattle.std.proofs.Common.{◌≡◌, Err, arith, sym, ap, ◌∙◌, subst, take, drop, length, ◌++◌, map}
+use Rattle.std.proofs.Common.{◌≡◌, arith, sym, ap, ◌∙◌, subst, take, drop, length, ◌++◌, map}
 use Rattle.margin_top.specs.Run.{HasRun}
 use Rattle.margin_top.specs.Files.{FolderSeen}
-use Rattle.margin_top.specs.RunStages.{TermsEnds}
-use Rattle.margin_top.proofs.RunLemmas.{inputs_read, terms_failed, terms_refused, run_starved, has_run, feed_failed, written}
+use Rattle.margin_top.proofs.RunLemmas.{inputs_read, no_terms, has_run, feed_failed, written}
 use Rattle.margin_top.proofs.run_files.run_files.Goals as goal
 
-pub returns-in-Err-OfFile-clause-ends : goal.returns-in-Err-OfFile-clause-ends
-returns-in-Err-OfFile-clause-ends g c =
-    let mid : FolderSeen = record { told = g.F.Folder.told c.read_param_file.new.folder; finds = g.F.Folder.find_faults c.read_param_file.new.folder; reads = g.F.Folder.read_faults c.read_param_file.new.folder } in
-    let new : FolderSeen = record { told = g.F.Folder.told c.read_terms_file.new.folder; finds = g.F.Folder.find_faults c.read_terms_file.new.folder; reads = g.F.Folder.read_faults c.read_terms_file.new.folder } in
-    terms_failed _ mid new c.args.params.now c.args.terms.now c.in-Ok.values c.in-Err-OfFile.fault c.in-Ok.ensures.ends c.in-Ok.ensures.finds c.in-Ok.ensures.reads
-    (subst (λ e. TermsEnds mid new c.args.terms.now (Err e)) c.in-Err-OfFile.field-0-is c.in-Err-OfFile.ensures.ends)
-
-pub returns-in-Err-Refused-clause-ends : goal.returns-in-Err-Refused-clause-ends
-returns-in-Err-Refused-clause-ends g c =
-    let mid : FolderSeen = record { told = g.F.Folder.told c.read_param_file.new.folder; finds = g.F.Folder.find_faults c.read_param_file.new.folder; reads = g.F.Folder.read_faults c.read_param_file.new.folder } in
-    let new : FolderSeen = record { told = g.F.Folder.told c.read_terms_file.new.folder; finds = g.F.Folder.find_faults c.read_terms_file.new.folder; reads = g.F.Folder.read_faults c.read_terms_file.new.folder } in
-    terms_refused _ mid new c.args.params.now c.args.terms.now c.args.feed.now c.in-Ok.values c.in-Err-Refused.fault c.refused_terms.result c.in-Ok.ensures.ends
-    (subst (λ e. TermsEnds mid new c.args.terms.now (Err e)) c.in-Err-Refused.field-0-is c.in-Err-Refused.ensures.ends)
-    c.refused_terms.ensures
+pub returns-in-Err-read_terms_file-clause-ends : goal.returns-in-Err-read_terms_file-clause-ends
+returns-in-Err-read_terms_file-clause-ends g c =
+    no_terms _ _ _ c.args.params.now c.args.terms.now c.in-Ok.values c.in-Err-read_terms_file.fault c.in-Ok.ensures.ends c.in-Ok.ensures.finds c.in-Ok.ensures.reads c.in-Err-read_terms_file.ensures.ends
 
 pub returns-in_default-clause-ends : goal.returns-in_default-clause-ends
-returns-in_default-clause-ends g c =
-    run_starved _ _ _ c.args.params.now c.args.terms.now c.in-Ok.values c.in-Ok-read_terms_file.agreements c.in-Ok.ensures.ends c.in-Ok-read_terms_file.ensures.ends
+returns-in_default-clause-ends g c = record {
+  p = c.in-Ok.values;
+  agreements = c.in-Ok-read_terms_file.agreements;
+  inputs = inputs_read _ _ _ c.args.params.now c.args.terms.now c.in-Ok.values c.in-Ok-read_terms_file.agreements c.in-Ok.ensures.ends c.in-Ok-read_terms_file.ensures.ends
+      (omega (arith, c.in-Ok.ensures.finds, c.in-Ok-read_terms_file.ensures.finds)) (omega (arith, c.in-Ok.ensures.reads, c.in-Ok-read_terms_file.ensures.reads));
+}
 
 pub returns-in-Ok-run_feed_file-clause-ends : goal.returns-in-Ok-run_feed_file-clause-ends
 returns-in-Ok-run_feed_file-clause-ends g c =

@@ -9,11 +9,12 @@ pub returns : goal.returns
 returns c =
     let r = c.args.run.now.report in
     let sets = c.args.run.now.sets.items in
-    let journals : c.in_ok-text.text ≡ flat_map (λ s. journal_text s.terms.name s.journal) sets = c.in_ok-text.ensures ∙ ap (flat_map (λ s. journal_text s.terms.name s.journal)) c.deref.ensures.value in
-    let report : c.in_ok-report.report ≡ feed_text 0 (map (λ s. s.terms.name) sets) r.done r.refused r.end =
-    c.in_ok-report.ensures
-    ∙ ap (λ ts. feed_text 0 (map (λ t. t.name) ts) r.done r.refused r.end) (c.sets.ensures.value ∙ c.requires)
-    ∙ ap (λ names. feed_text 0 names r.done r.refused r.end) (map-map (λ s. s.terms) (λ t. t.name) sets) in
-    c.in_ok-extend.ensures.ok
-    ∙ ap (λ text. text ++ c.as_slice.result.now) journals
-    ∙ ap (λ text. flat_map (λ s. journal_text s.terms.name s.journal) sets ++ text) (c.as_slice.ensures ∙ report)
+    let journals : c.push_journals.new.text ≡ flat_map (λ s. journal_text s.terms.name s.journal) sets =
+    c.in_ok-push_journals.ensures
+    ∙ (ap (λ text. text ++ flat_map (λ s. journal_text s.terms.name s.journal) c.deref.result.now) c.new-text.ensures
+    ∙ ap (flat_map (λ s. journal_text s.terms.name s.journal)) c.deref.ensures.value) in
+    let names : map (λ t. t.name) c.sets.result.now ≡ map (λ s. s.terms.name) sets =
+    ap (map (λ t. t.name)) (c.sets.ensures.value ∙ c.requires) ∙ map-map (λ s. s.terms) (λ t. t.name) sets in
+    c.in_ok-push_report.ensures
+    ∙ ap (λ text. text ++ feed_text 0 (map (λ t. t.name) c.sets.result.now) r.done r.refused r.end) journals
+    ∙ ap (λ names. flat_map (λ s. journal_text s.terms.name s.journal) sets ++ feed_text 0 names r.done r.refused r.end) names

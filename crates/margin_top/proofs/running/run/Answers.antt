@@ -1,5 +1,6 @@
-use Rattle.std.proofs.Common.{sym, inl, inr}
+use Rattle.std.proofs.Common.{inl}
 use Rattle.margin_top.proofs.RunComplete.{run_ends_well}
+use Rattle.margin_top.proofs.RunLemmas.{at_fault}
 use Rattle.margin_top.proofs.running.run.Goals as goal
 
 pub returns-in-Ok-clause-complete : goal.returns-in-Ok-clause-complete
@@ -10,10 +11,11 @@ returns-in-Ok-clause-complete g c w = run_ends_well w c.print_run.result (inl (r
   printed = c.print_run.ensures.printed;
 }))
 
+pub returns-in-Err-clause-ends : goal.returns-in-Err-clause-ends
+returns-in-Err-clause-ends g c =
+    at_fault c.args.params.now c.args.terms.now c.args.feed.now _ _ _ _ c.in-Err.fault c.ending-status.result.0 _ c.in-Err.ensures.ends c.ending-status.ensures.status c.ending-status.ensures.line c.print_line.ensures.printed
+
 pub returns-in-Err-clause-complete : goal.returns-in-Err-clause-complete
-returns-in-Err-clause-complete g c w = run_ends_well w c.print_run_fault.result (inr (record {
-  f = c.in-Err.fault;
-  cause = c.in-Err.ensures.ends;
-  status = sym c.print_run_fault.ensures.status;
-  printed = c.print_run_fault.ensures.printed;
-}))
+returns-in-Err-clause-complete g c w =
+    run_ends_well w c.ending-status.result.0
+    (at_fault c.args.params.now c.args.terms.now c.args.feed.now _ _ _ _ c.in-Err.fault c.ending-status.result.0 _ c.in-Err.ensures.ends c.ending-status.ensures.status c.ending-status.ensures.line c.print_line.ensures.printed)
