@@ -3,15 +3,13 @@ use Rattle.std.proofs.Common.{◌≡◌, ℕ, ◌≤◌, List, [], ◌∷◌, �
 use Rattle.std.specs.List.{list_all, list_any, filter}
 use Rattle.std.proofs.lemmas.Bool.{or_parts, and_parts, and_from, ltb-false}
 use Rattle.simm_kinds.specs.declared.fault.MakeFault.TheVariants as fault
-use Rattle.simm_kinds.specs.declared.kinds.RiskType.TheVariants as kind
 use Rattle.simm_kinds.specs.declared.row.CrifRow.{CrifRow}
 use Rattle.simm_kinds.specs.declared.row.TradeRows.{TradeRows}
 use Rattle.simm_kinds.specs.Batch.{rows_of, IsBatch, is_misplaced, single_params}
 use Rattle.simm_kinds.specs.Key.{is_key}
-use Rattle.simm_kinds.specs.Order.{same_name, same_key, same_kind}
+use Rattle.simm_kinds.specs.Order.{same_name, same_key}
 use Rattle.simm_kinds.specs.Repeats.{repeats}
 use Rattle.simm_rules.specs.Params.{Params}
-use Rattle.simm_rules.specs.Net.{all_fx}
 use Rattle.simm_rules.specs.Range.{range}
 use Rattle.simm_params.specs.Facts.{IsParams}
 use Rattle.simm_plain.specs.FxKeys.{FxRows}
@@ -21,7 +19,7 @@ use Rattle.simm_plain.proofs.Fewer.{IsPart, done, skip, keep, no_part, front_par
 use Rattle.simm_plain.proofs.Keys.{fx_rows_from}
 use Rattle.bucket_cache.specs.Live.{put_trades, without, IsLive}
 use Rattle.bucket_cache.specs.Entries.{names_of, trade_of, trades_of}
-use Rattle.bucket_cache.proofs.Puts.{rows_pass, all_puts, count_puts}
+use Rattle.bucket_cache.proofs.Puts.{all_puts, count_puts}
 use Rattle.bucket_cache.proofs.Sizes.{few_rows, trades_within}
 
 -- ---- batches
@@ -60,15 +58,11 @@ few_in_batch ts h = let facts = batch_facts ts h in omega (arith, trades_within 
 
 -- ---- after a batch
 
-pub fx_after : (p : Params) (ts us : List TradeRows) → all_fx (rows_of ts) ≡ true → IsLive p us → all_fx (rows_of (put_trades ts us)) ≡ true
-fx_after p ts us fx live = rows_pass (λ r. same_kind r.key.kind kind.Fx) ts us fx live.fx
-
 pub few_after : (p : Params) (ts us : List TradeRows) → IsBatch ts → IsLive p us → length (rows_of (put_trades ts us)) ≤ 300000
 few_after p ts us batch live = omega (arith, count_puts ts us, (batch_facts ts batch).few, few_rows p (rows_of us) live.in_range)
 
-pub live_after : (p : Params) (ts us : List TradeRows) → IsBatch ts → all_fx (rows_of ts) ≡ true → IsLive p us → list_all (λ r. is_key r.key) (rows_of (put_trades ts us)) ≡ true → range p (rows_of (put_trades ts us)) ≡ None → IsLive p (put_trades ts us)
-live_after p ts us batch fx live keys none = record {
-  fx = fx_after p ts us fx live;
+pub live_after : (p : Params) (ts us : List TradeRows) → IsBatch ts → IsLive p us → list_all (λ r. is_key r.key) (rows_of (put_trades ts us)) ≡ true → range p (rows_of (put_trades ts us)) ≡ None → IsLive p (put_trades ts us)
+live_after p ts us batch live keys none = record {
   keys = keys;
   filled = all_puts (λ rows. not (length rows == 0)) ts us (batch_facts ts batch).filled live.filled;
   in_range = none;
@@ -106,9 +100,8 @@ pub live_without : (p : Params) (names : List (List ℕ)) (us : List TradeRows) 
 live_without p names us facts live =
     let kept : TradeRows → Bool = λ t. not (list_any (same_name t.trade) names) in
     let part : IsPart (rows_of (filter kept us)) (rows_of us) = rows_part kept us in
-    let fx : FxRows (rows_of us) = fx_rows_from (rows_of us) (each_passes (λ (r : CrifRow). is_key r.key) (λ r. is_key r.key ≡ true) (λ r h. h) (rows_of us) live.keys) live.fx in
+    let fx : FxRows (rows_of us) = fx_rows_from (rows_of us) (each_passes (λ (r : CrifRow). is_key r.key) (λ r. is_key r.key ≡ true) (λ r h. h) (rows_of us) live.keys) in
     record {
-      fx = all-part (λ (r : CrifRow). same_kind r.key.kind kind.Fx) (rows_of (filter kept us)) (rows_of us) part live.fx;
       keys = all-part (λ (r : CrifRow). is_key r.key) (rows_of (filter kept us)) (rows_of us) part live.keys;
       filled = all-part (λ (t : TradeRows). not (length t.rows == 0)) (filter kept us) us (filter_part kept us) live.filled;
       in_range = range-part p (rows_of (filter kept us)) (rows_of us) facts part fx live.in_range;

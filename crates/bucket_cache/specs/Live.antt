@@ -7,7 +7,6 @@ use Rattle.simm_kinds.specs.Batch.{rows_of}
 use Rattle.simm_kinds.specs.Key.{is_key}
 use Rattle.simm_kinds.specs.Order.{same_name}
 use Rattle.simm_rules.specs.Params.{Params}
-use Rattle.simm_rules.specs.Net.{all_fx}
 use Rattle.simm_rules.specs.Range.{range}
 
 -- the parameters, and the current trades with their rows
@@ -45,9 +44,8 @@ name_at book (suc i) = slice_get (map (λ t. t.trade) book) i
 abbrev pub rows_named : List TradeRows → List ℕ → Option (List CrifRow)
 rows_named book name = option_map (λ t. t.rows) (find (λ t. same_name name t.trade) book)
 
--- Each row is a sensitivity to a currency with the parts of one, each trade has a row, and the book is in range.
+-- Each row has the parts of its type, each trade has a row, and the book is in range.
 pub record IsLive (p : Params) (trades : List TradeRows) : Type 0 where
-  pub fx : all_fx (rows_of trades) ≡ true
   pub keys : list_all (λ r. is_key r.key) (rows_of trades) ≡ true
   pub filled : list_all (λ t. not (length t.rows == 0)) trades ≡ true
   pub in_range : range p (rows_of trades) ≡ None

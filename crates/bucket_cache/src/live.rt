@@ -1,10 +1,9 @@
-ghost use Rattle.std.specs.Prelude.{◌≡◌, [], length, map, None, Some, Err, IfOk, OnOk, OnErr, ℕ, IsTrue, true};
+ghost use Rattle.std.specs.Prelude.{◌≡◌, [], length, map, None, Some, Err, IfOk, OnOk, OnErr, ℕ, true};
 ghost use Rattle.std.specs.List.{list_all};
 ghost use Rattle.std.specs.Option.{option_copied};
 ghost use Rattle.simm_kinds.specs.Batch.{IsBatch, rows_of};
 ghost use Rattle.simm_kinds.specs.Key.{is_key};
 ghost use Rattle.simm_rules.specs.declared.values.RangeFault.{RangeFault as Fault};
-ghost use Rattle.simm_rules.specs.Net.{all_fx};
 ghost use Rattle.simm_rules.specs.Range.{range};
 ghost use Rattle.simm_rules.specs.Simm.{simm};
 ghost use Rattle.bucket_cache.specs.Live.{put_trades, without, first_unknown, name_at, rows_named};
@@ -20,8 +19,8 @@ use simm_rules::{Breakdown, RangeFault};
 use std::alloc::{AllocError, Global};
 use std::marker::Model;
 
-/// The current trades of a netting set in the order in which they came, all of them sensitivities to currencies and
-/// their book in range, with the parameters of their margin. Contracts see the parameters and the book.
+/// The current trades of a netting set in the order in which they came, their book in range, with the parameters of
+/// their margin. Contracts see the parameters and the book.
 #[derive(Drop)]
 pub struct LiveMargin {
     params: Params,
@@ -57,8 +56,7 @@ impl LiveMargin {
     /// limit, and `Memory` for want of memory. Nothing changes then.
     #[tactic(auto, using(crate::proofs::Firsts::first_batch))]
     pub fn submit(&mut self, alloc: Global, trades: &[TradeRows]) -> Result<(), SubmitFault>
-        requires batch { IsBatch trades.now }
-        requires fx { IsTrue (all_fx (rows_of trades.now)) }
+        requires { IsBatch trades.now }
         ensures in_range { OnOk result (range self.old.params (rows_of (put_trades trades.now self.old.book)) ≡ None) }
         ensures book { OnOk result (self.new ≡ record self.old { book = put_trades trades.now self.old.book }) }
         ensures range { (fault : Fault) → result ≡ Err (SubmitFault.Range fault) →
@@ -144,8 +142,7 @@ impl LiveMargin {
         alloc: Global,
         trades: &[TradeRows],
     ) -> Result<Option<RangeFault>, AllocError>
-        requires batch { IsBatch trades.now }
-        requires fx { IsTrue (all_fx (rows_of trades.now)) }
+        requires { IsBatch trades.now }
         ensures fault { IfOk result (λ fault. fault ≡ range self.now.params (rows_of (put_trades trades.now self.now.book))) }
         ensures keys { IfOk result (λ fault. fault ≡ None → list_all (λ r. is_key r.key) (rows_of (put_trades trades.now self.now.book)) ≡ true) }
     {

@@ -1,7 +1,3 @@
-ghost use Rattle.std.specs.Prelude.{◌≡◌, IfOk, true};
-ghost use Rattle.simm_kinds.specs.Batch.{rows_of};
-ghost use Rattle.simm_rules.specs.Net.{all_fx};
-
 use crate::{LiveMargin, SubmitFault, WithdrawFault};
 use simm_kinds::{
     Batch, BucketId, CrifRow, FactorKey, Listed, Name, ProductClass, RiskType, TradeRows,
@@ -27,7 +23,6 @@ fn read_name(alloc: Global, text: &str) -> Result<Name, Fail> {
 }
 
 fn trade(alloc: Global, name: &str, currency: &str, amount: i64) -> Result<TradeRows, Fail>
-    ensures { IfOk result (λ t. all_fx t.rows ≡ true) }
 {
     let key = FactorKey::make(
         ProductClass::RatesFX,
@@ -46,8 +41,6 @@ fn trade(alloc: Global, name: &str, currency: &str, amount: i64) -> Result<Trade
 }
 
 fn batch(alloc: Global, trade: TradeRows) -> Result<Batch, Fail>
-    requires { all_fx trade.rows ≡ true }
-    ensures { IfOk result (λ b. all_fx (rows_of b) ≡ true) }
 {
     let mut trades = Listed::new(alloc);
     trades.push(trade)?;

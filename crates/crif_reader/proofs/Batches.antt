@@ -1,9 +1,8 @@
 -- What the grammar has is a batch of FX rows.
 use Rattle.std.proofs.Common.{◌≡◌, ◌==◌, ◌∷◌, [], ◌++◌, ℕ, ◌+◌, ◌<◌, ◌≤◌, ◌^◌, Bool, true, false, not, ◌&&◌, ◌||◌, cond, ltb, ℤ, unsigned_abs, List, length, map, fold, Option, Some, None, option_map, Result, Ok, Err, zero, suc, refl, ap, sym, subst, ◌∙◌, arith, length-append, zero-add}
-use Rattle.std.specs.List.{list_any, All, AllByRecursion}
+use Rattle.std.specs.List.{list_any, AllByRecursion}
 use Rattle.std.proofs.lemmas.Bool.{and_parts, or_from, or_parts, ne_eqb, eqb-false, ltb-false, le-ltb, le-leb, not-true}
 use Rattle.std.proofs.lemmas.List.{nil_from_length}
-use Rattle.std.proofs.lemmas.List.Elements.{All-from_recursion}
 use Rattle.std.proofs.lemmas.Option.{option_and_then_some, cond_some, same_Some}
 use Rattle.mh_units.specs.declared.quantities.Cents.{Cents}
 use Rattle.mh_units.specs.declared.numeral.NumeralFault.{NumeralFault}
@@ -111,15 +110,7 @@ names-gathered : (es : List Entry) → map (λ t. t.trade) (gathered es) ≡ tra
 unfolding gathered
 names-gathered es = names_of es (trade_names es)
 
-fx_rows : (rs : List CrifRow) → AllByRecursion IsGoodRow rs → AllByRecursion (λ r. r.key.kind ≡ kind.Fx) rs
-fx_rows [] h = tt
-fx_rows (r ∷ rs) h = (h.0.fx, fx_rows rs h.1)
-
-pub record IsFxBatch (trades : List TradeRows) : Type 0 where
-  pub batch : IsBatch trades
-  pub fx : All (λ r. r.key.kind ≡ kind.Fx) (rows_of trades)
-
-pub batch-gathered : (es : List Entry) → AllByRecursion IsGoodEntry es → 0 < length es → length es ≤ 100000 → IsFxBatch (gathered es)
+pub batch-gathered : (es : List Entry) → AllByRecursion IsGoodEntry es → 0 < length es → length es ≤ 100000 → IsBatch (gathered es)
 batch-gathered es good some few =
     let trades = gathered es in
     let all : AllByRecursion IsGoodTrade trades = rw (← grown-gathered es) (good-grown [] es tt good) in
@@ -129,10 +120,7 @@ batch-gathered es good some few =
     let once : repeats same_name (map (λ t. t.trade) trades) ≡ false = rw (names-gathered es) (repeats-trade_names es) in
     let params : repeats same_key (single_params trades) ≡ false = rw (no_params (rows_of trades) rows) refl in
     let fits : ltb 100000 (length (rows_of trades)) ≡ false = le-ltb 100000 (length (rows_of trades)) (omega arith) in
-    record {
-      batch = rw (there, once, params, fits, none_misplaced trades all, none_empty trades all, none_large (rows_of trades) rows) refl;
-      fx = All-from_recursion (λ r. r.key.kind ≡ kind.Fx) (rows_of trades) (fx_rows (rows_of trades) rows);
-    }
+    rw (there, once, params, fits, none_misplaced trades all, none_empty trades all, none_large (rows_of trades) rows) refl
 
 -- ---- what a line has
 
@@ -206,19 +194,19 @@ good_lines (line ∷ lines) es e =
     let next = good_lines lines entries is_entries in
     subst (AreGood (line ∷ lines)) (same_Some _ es e2) (record { count = omega (arith, next.count); good = (good_line line entry is_entry, next.good) })))
 
--- the trades of lines are a batch of FX rows
-pub batch_of_lines : (lines : List (List ℕ)) (trades : List TradeRows) → trades_of_lines lines ≡ Some trades → IsFxBatch trades
+-- the trades of lines are a batch
+pub batch_of_lines : (lines : List (List ℕ)) (trades : List TradeRows) → trades_of_lines lines ≡ Some trades → IsBatch trades
 unfolding trades_of_lines
 batch_of_lines lines trades e =
     in_range ((length lines == 0) || ltb 100000 (length lines)) refl e
   where
-    of_entries : (o : Option (List Entry)) → entries_of lines ≡ o → 0 < length lines → length lines ≤ 100000 → option_map gathered o ≡ Some trades → IsFxBatch trades
+    of_entries : (o : Option (List Entry)) → entries_of lines ≡ o → 0 < length lines → length lines ≤ 100000 → option_map gathered o ≡ Some trades → IsBatch trades
     of_entries None h some few k = cc
     of_entries (Some es) h some few k =
         let all = good_lines lines es h in
-        subst IsFxBatch (same_Some (gathered es) trades k) (batch-gathered es all.good (omega (arith, all.count)) (omega (arith, all.count)))
+        subst IsBatch (same_Some (gathered es) trades k) (batch-gathered es all.good (omega (arith, all.count)) (omega (arith, all.count)))
 
-    in_range : (b : Bool) → ((length lines == 0) || ltb 100000 (length lines)) ≡ b → cond b None (option_map gathered (entries_of lines)) ≡ Some trades → IsFxBatch trades
+    in_range : (b : Bool) → ((length lines == 0) || ltb 100000 (length lines)) ≡ b → cond b None (option_map gathered (entries_of lines)) ≡ Some trades → IsBatch trades
     in_range true h k = cc
     in_range false h k =
         let parts = or_parts (length lines == 0) (ltb 100000 (length lines)) h in

@@ -1,6 +1,4 @@
-ghost use Rattle.std.specs.Prelude.{◌≡◌, IfOk};
-ghost use Rattle.std.specs.List.{All};
-ghost use Rattle.simm_kinds.specs.Batch.{rows_of};
+ghost use Rattle.std.specs.Prelude.{◌≡◌};
 ghost use Rattle.crif_reader.specs.Lines.{lines_of};
 ghost use Rattle.crif_reader.specs.Reads.{Gives};
 ghost use Rattle.std.specs.Str.{bytes_eq};
@@ -10,7 +8,7 @@ use crate::CrifFault;
 use crate::gather::add_entry;
 use crate::row::read_entry;
 use crate::text::cut_line;
-use simm_kinds::{Batch, Listed, RiskType, TradeRows};
+use simm_kinds::{Batch, Listed, TradeRows};
 use std::alloc::Global;
 use std::collections::BTreeMap;
 
@@ -58,8 +56,7 @@ fn read_lines(alloc: Global, further: &[u8]) -> Result<Vec<TradeRows>, CrifFault
 ///
 /// Every other text is `Refused`; `Memory` may come at any text.
 pub fn read_batch(alloc: Global, bytes: &[u8]) -> Result<Batch, CrifFault>
-    ensures exact { Gives (λ trades. trades) result (crif_of bytes.now) }
-    ensures fx { IfOk result (λ trades. All (λ r. r.key.kind ≡ RiskType.Fx) (rows_of trades)) }
+    ensures { Gives (λ trades. trades) result (crif_of bytes.now) }
 {
     if bytes.is_empty() {
         return Err(CrifFault::Refused);

@@ -27,11 +27,11 @@ use Rattle.simm_kinds.specs.Kinds.{class_of}
 use Rattle.simm_kinds.specs.Key.{Key}
 use Rattle.simm_kinds.specs.Order.{product_place, class_place, place_of_part, bucket_cmp, same_product, same_bucket}
 use Rattle.simm_kinds.proofs.Orders.{by_variant, product_cmp, class_cmp, one_product, one_class, derived_bucket_cmp, bucket_cmp_is, bucket_total, exact_buckets}
-use Rattle.simm_rules.specs.Net.{is_of, is_in_class}
+use Rattle.simm_rules.specs.Net.{measure_of, is_measure, is_of, is_in_class}
 use Rattle.factor_book.specs.declared.place.Place.{Place}
 use Rattle.factor_book.specs.declared.holding.Holding.{Holding}
 use Rattle.factor_book.specs.contracts.place.PlaceOrd.TheImpl as place_order
-use Rattle.factor_book.specs.Place.{measure_of, measure_place, place_of, place_cmp}
+use Rattle.factor_book.specs.Place.{measure_place, place_of, place_cmp}
 
 -- ---- the derived order is that of specs/
 
@@ -178,47 +178,18 @@ own_class kind.AddOnFixedAmount = tt
 own_class kind.ProductClassMultiplier = tt
 own_class kind.Pv = tt
 
-only_measure : (m : Measure) (k : RiskType) → is_of m k ≡ true → measure_of k ≡ Some m
-only_measure measure.Delta kind.IrCurve h = refl
-only_measure measure.Delta kind.Inflation h = refl
-only_measure measure.Delta kind.XccyBasis h = refl
-only_measure measure.Vega kind.IrVol h = refl
-only_measure measure.Vega kind.InflationVol h = refl
-only_measure measure.Delta kind.CreditQ h = refl
-only_measure measure.Vega kind.CreditVol h = refl
-only_measure measure.Delta kind.CreditNonQ h = refl
-only_measure measure.Vega kind.CreditVolNonQ h = refl
-only_measure measure.BaseCorr kind.BaseCorr h = refl
-only_measure measure.Delta kind.Equity h = refl
-only_measure measure.Vega kind.EquityVol h = refl
-only_measure measure.Delta kind.Commodity h = refl
-only_measure measure.Vega kind.CommodityVol h = refl
-only_measure measure.Delta kind.Fx h = refl
-only_measure measure.Vega kind.FxVol h = refl
+only_measure : (m : Measure) (o : Option Measure) → is_measure m o ≡ true → o ≡ Some m
+only_measure measure.Delta (Some measure.Delta) h = refl
+only_measure measure.Vega (Some measure.Vega) h = refl
+only_measure measure.Curvature (Some measure.Curvature) h = refl
+only_measure measure.BaseCorr (Some measure.BaseCorr) h = refl
 only_measure _ _ h = absurd (false≢true h)
 
-own_measure : (k : RiskType) → IfSome (measure_of k) (λ m. is_of m k ≡ true)
-own_measure kind.IrCurve = refl
-own_measure kind.Inflation = refl
-own_measure kind.XccyBasis = refl
-own_measure kind.IrVol = refl
-own_measure kind.InflationVol = refl
-own_measure kind.CreditQ = refl
-own_measure kind.CreditVol = refl
-own_measure kind.CreditNonQ = refl
-own_measure kind.CreditVolNonQ = refl
-own_measure kind.BaseCorr = refl
-own_measure kind.Equity = refl
-own_measure kind.EquityVol = refl
-own_measure kind.Commodity = refl
-own_measure kind.CommodityVol = refl
-own_measure kind.Fx = refl
-own_measure kind.FxVol = refl
-own_measure kind.Notional = tt
-own_measure kind.AddOnNotionalFactor = tt
-own_measure kind.AddOnFixedAmount = tt
-own_measure kind.ProductClassMultiplier = tt
-own_measure kind.Pv = tt
+own_measure : (m : Measure) → is_measure m (Some m) ≡ true
+own_measure measure.Delta = refl
+own_measure measure.Vega = refl
+own_measure measure.Curvature = refl
+own_measure measure.BaseCorr = refl
 
 pub stands-at : (product : ProductClass) (class : RiskClass) (measure : Measure) (bucket : BucketId) (k : Key) → stands_in product class measure bucket k ≡ true → place_of k ≡ bucket_place product class measure bucket
 stands-at product class measure bucket k h =
@@ -227,7 +198,7 @@ stands-at product class measure bucket k h =
     let d = and_parts (same_product k.product product) (is_in_class class k.kind) b.0 in
     let product_is = one_product k.product product (eqb-true (product_place k.product) (product_place product) d.0) in
     let class_is = only_class class k.kind d.1 in
-    let measure_is = only_measure measure k.kind b.1 in
+    let measure_is = only_measure measure (measure_of k.kind) b.1 in
     let bucket_is = exact_buckets k.bucket bucket (is_eq-Equal (bucket_cmp k.bucket bucket) a.1) in
     λ i. record { product = product_is i; class = class_is i; measure = measure_is i; bucket = bucket_is i }
 
@@ -238,7 +209,7 @@ at-stands product class measure bucket k e =
     let measure_is : measure_of k.kind ≡ Some measure = ap (λ (p : Place). p.measure) e in
     let bucket_is : k.bucket ≡ bucket = ap (λ (p : Place). p.bucket) e in
     let in_class : is_in_class class k.kind ≡ true = subst (λ (o : Option RiskClass). IfSome o (λ c. is_in_class c k.kind ≡ true)) class_is (own_class k.kind) in
-    let of_measure : is_of measure k.kind ≡ true = subst (λ (o : Option Measure). IfSome o (λ m. is_of m k.kind ≡ true)) measure_is (own_measure k.kind) in
+    let of_measure : is_of measure k.kind ≡ true = ap (is_measure measure) measure_is ∙ own_measure measure in
     let same_products : same_product k.product product ≡ true = ap (λ p. same_product p product) product_is ∙ eq-eqb (product_place product) (product_place product) refl in
     and_from (same_product k.product product && is_in_class class k.kind && is_of measure k.kind) (same_bucket k.bucket bucket)
     (and_from (same_product k.product product && is_in_class class k.kind) (is_of measure k.kind) (and_from (same_product k.product product) (is_in_class class k.kind) same_products in_class) of_measure)

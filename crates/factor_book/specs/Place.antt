@@ -1,39 +1,14 @@
 -- Where a key stands in the book: keys of one product class, risk class, measure and bucket stand together.
-use Rattle.std.specs.Prelude.{ℕ, Option, Some, None}
+use Rattle.std.specs.Prelude.{ℕ}
 use Rattle.std.specs.Ordering.{nat_cmp, ordering_then}
 use Rattle.std.specs.declared.cmp.Ordering.{Ordering}
-use Rattle.simm_kinds.specs.declared.kinds.RiskType.{RiskType}
-use Rattle.simm_kinds.specs.declared.kinds.RiskType.TheVariants as kind
 use Rattle.simm_kinds.specs.declared.kinds.Measure.{Measure}
 use Rattle.simm_kinds.specs.declared.kinds.Measure.TheVariants as measure
 use Rattle.simm_kinds.specs.Kinds.{class_of}
 use Rattle.simm_kinds.specs.Key.{Key}
 use Rattle.simm_kinds.specs.Order.{product_place, class_place, place_of_part, bucket_cmp}
+use Rattle.simm_rules.specs.Net.{measure_of}
 use Rattle.factor_book.specs.declared.place.Place.{Place}
-
--- the measure that the rows of a type are sensitivities of; add-ons have none
-abbrev pub measure_of : RiskType → Option Measure
-measure_of kind.IrCurve = Some measure.Delta
-measure_of kind.Inflation = Some measure.Delta
-measure_of kind.XccyBasis = Some measure.Delta
-measure_of kind.IrVol = Some measure.Vega
-measure_of kind.InflationVol = Some measure.Vega
-measure_of kind.CreditQ = Some measure.Delta
-measure_of kind.CreditVol = Some measure.Vega
-measure_of kind.CreditNonQ = Some measure.Delta
-measure_of kind.CreditVolNonQ = Some measure.Vega
-measure_of kind.BaseCorr = Some measure.BaseCorr
-measure_of kind.Equity = Some measure.Delta
-measure_of kind.EquityVol = Some measure.Vega
-measure_of kind.Commodity = Some measure.Delta
-measure_of kind.CommodityVol = Some measure.Vega
-measure_of kind.Fx = Some measure.Delta
-measure_of kind.FxVol = Some measure.Vega
-measure_of kind.Notional = None
-measure_of kind.AddOnNotionalFactor = None
-measure_of kind.AddOnFixedAmount = None
-measure_of kind.ProductClassMultiplier = None
-measure_of kind.Pv = None
 
 abbrev pub place_of : Key → Place
 place_of k = record { product = k.product; class = class_of k.kind; measure = measure_of k.kind; bucket = k.bucket }

@@ -1,5 +1,6 @@
 ghost use Rattle.std.specs.Prelude.{◌≡◌};
-ghost use Rattle.factor_book.specs.Place.{measure_of, place_of};
+ghost use Rattle.simm_rules.specs.Net.{measure_of};
+ghost use Rattle.factor_book.specs.Place.{place_of};
 
 use simm_kinds::{BucketId, FactorKey, Measure, ProductClass, RiskClass, RiskType};
 

@@ -1,4 +1,3 @@
-pub mod Rows
 pub mod Called
 pub mod Runs
 pub mod Feeds

@@ -3,7 +3,6 @@ ghost use Rattle.std.specs.Prelude.{◌≡◌, ◌∷◌, [], map, option_map, I
 ghost use Rattle.feed_reader.specs.Feed.{Sent};
 ghost use Rattle.crif_reader.specs.Grammar.{crif_of};
 ghost use Rattle.set_core.specs.declared.event.Event.TheVariants as events;
-ghost use Rattle.set_core.specs.Events.{IsFx};
 ghost use Rattle.feed_gate.specs.Calls.{set_of, event_of, called, after_feed};
 ghost use Rattle.feed_gate.specs.Refused.{place_of, unless_full, refusal};
 ghost use Rattle.feed_gate.specs.Sets.{AreApart};
@@ -56,8 +55,7 @@ fn find_set(sets: &[SetState], name: &Name) -> Option<usize>
 
 /// The event of a message; `None` where its block is no batch.
 fn event_of(alloc: Global, message: Message) -> Result<Option<Event>, AllocError>
-    ensures event { IfOk result (λ event. event ≡ event_of message) }
-    ensures fx { IfOk result (λ event. IfSome event IsFx) }
+    ensures { IfOk result (λ event. event ≡ event_of message) }
 {
     match message {
         Message::Crif { block, .. } => submit_of(alloc, &block),
@@ -67,8 +65,7 @@ fn event_of(alloc: Global, message: Message) -> Result<Option<Event>, AllocError
 }
 
 fn submit_of(alloc: Global, block: &Bytes) -> Result<Option<Event>, AllocError>
-    ensures event { IfOk result (λ event. event ≡ option_map events.Submit (crif_of block.now)) }
-    ensures fx { IfOk result (λ event. IfSome event IsFx) }
+    ensures { IfOk result (λ event. event ≡ option_map events.Submit (crif_of block.now)) }
 {
     match read_batch(alloc, block.as_slice()) {
         Ok(batch) => Ok(Some(Event::Submit(batch))),
@@ -85,7 +82,6 @@ fn call(
     place: u32,
     event: Event,
 ) -> Result<Option<RefusedMessage>, AllocError>
-    requires { IsFx event }
     ensures refused { IfOk result (λ answer. answer ≡ unless_full line place set.old event) }
     ensures set { OnOk result (set.new ≡ called set.old event) }
     ensures stands { IfOk result (λ answer. IfSome answer (λ _. set.new ≡ set.old)) }

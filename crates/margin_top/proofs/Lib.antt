@@ -2,7 +2,6 @@ pub mod FileLemmas
 pub mod PrintLemmas
 pub mod CalcLemmas
 pub mod CompleteLemmas
-pub mod RowLemmas
 pub mod RunLemmas
 pub mod KnownFiles
 pub mod LongLines

@@ -3,7 +3,6 @@ ghost use Rattle.simm_params.specs.Grammar.{params_of};
 ghost use Rattle.crif_reader.specs.Grammar.{crif_of};
 ghost use Rattle.simm_kinds.specs.Batch.{rows_of};
 ghost use Rattle.simm_rules.specs.declared.values.RangeFault.{RangeFault as Fault};
-ghost use Rattle.simm_rules.specs.Net.{all_fx};
 ghost use Rattle.simm_rules.specs.Range.{range};
 ghost use Rattle.simm_rules.specs.Simm.{simm};
 ghost use Rattle.bucket_cache.specs.declared.fault.SubmitFault.TheVariants as submit;
@@ -54,7 +53,6 @@ fn read_crif_file<F: Folder>(alloc: Global, folder: &mut F, name: &str) -> Resul
         (record { told = F.told folder.old; finds = F.find_faults folder.old; reads = F.read_faults folder.old })
         (record { told = F.told folder.new; finds = F.find_faults folder.new; reads = F.read_faults folder.new })
         name.now result }
-    ensures fx { IfOk result (λ trades. all_fx (rows_of trades) ≡ true) }
 {
     let bytes = match read_file(alloc, folder, name) {
         Ok(bytes) => bytes,
@@ -69,7 +67,6 @@ fn read_crif_file<F: Folder>(alloc: Global, folder: &mut F, name: &str) -> Resul
 
 /// The margin of a batch alone: that of a live margin which took it.
 fn margin_of_batch(alloc: Global, values: Params, batch: &Batch) -> Result<Breakdown, SubmitFault>
-    requires { IsTrue (all_fx (rows_of batch.now)) }
     ensures in_range { OnOk result (range values (rows_of batch.now) ≡ None) }
     ensures value { IfOk result (λ margin. margin ≡ simm values (rows_of batch.now)) }
     ensures range { (fault : Fault) → result ≡ Err (submit.Range fault) → range values (rows_of batch.now) ≡ Some fault }

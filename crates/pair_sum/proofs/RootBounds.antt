@@ -1,6 +1,7 @@
 -- The root of a pair sum is 0 where the sum is none, and at most the amounts that the sum is made of.
-use Rattle.std.proofs.Common.{◌≡◌, ℕ, ◌*◌, ◌≤◌, ℤ, pos, ◌≤ℤ◌, unsigned_abs, sym, subst, arith}
+use Rattle.std.proofs.Common.{◌≡◌, ℕ, ◌*◌, ◌≤◌, ℤ, pos, ◌≤ℤ◌, unsigned_abs, sym, subst, arith, FitsSigned}
 use Rattle.std.proofs.lemmas.Int.{ints}
+use Rattle.std.specs.Int.{w128}
 use Rattle.mh_units.specs.Rounding.{up, root}
 use Rattle.mh_units.proofs.Roundings.{up_is, root_is, IsRoot_unique}
 use Rattle.simm_rules.specs.Concentration.{one}
@@ -17,3 +18,8 @@ root_of_within q g h =
 
 pub within_from : (q r : ℤ) (g : ℕ) → r ≡ root_of q → unsigned_abs q ≤ 1000000 * (g * g) → r ≤ℤ pos g
 within_from q r g e h = subst (λ z. z ≤ℤ pos g) (sym e) (root_of_within q g h)
+
+-- what 128 bits hold
+
+pub bits_within : (q : ℤ) → FitsSigned w128 q → unsigned_abs q ≤ 1000000 * (14000000000000000 * 14000000000000000)
+bits_within q h = omega (arith, ints, h)

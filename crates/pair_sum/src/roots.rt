@@ -11,12 +11,12 @@ use simm_rules::BucketMargin;
 use std::marker::Brand;
 use std::sync::ledger::{Blank, Ledger};
 
-/// The root of a pair sum, which has the unit 10^6, upwards to the cent: a bucket's margin.
+/// The root of a pair sum, which has the unit 10^6, upwards to the cent: a bucket's margin. Any sum is right; the root of one
+/// below 0 is 0.
 pub fn bucket_root(q: i128) -> i128
-    requires { unsigned_abs q ≤ 8 * 10 ^ 37 }
     ensures value { result ≡ root_of q }
     ensures not_negative { pos 0 ≤ℤ result }
-    ensures size { unsigned_abs result ≤ 9 * 10 ^ 15 }
+    ensures size { unsigned_abs result ≤ 14 * 10 ^ 15 }
     ensures within { (gross : ℕ) → unsigned_abs q ≤ 1000000 * (gross * gross) → result ≤ℤ pos gross }
 {
     let square = div_up(q, 1_000_000);

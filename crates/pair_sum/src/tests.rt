@@ -40,7 +40,6 @@ fn sum_of<L: Ledger>(items: &[Item], rho: Corr6, blank: Blank) -> i128
     requires some { 0 < blank.parts }
     requires small { unsigned_abs rho.0 ≤ 1000000 }
     requires in_range { sum_by (λ item. unsigned_abs item.w) items.now < 84 * 10 ^ 14 }
-    ensures { unsigned_abs result ≤ 8 * 10 ^ 37 }
 {
     let corr = Alike {
         size: items.len(),
@@ -52,7 +51,6 @@ fn sum_of<L: Ledger>(items: &[Item], rho: Corr6, blank: Blank) -> i128
 fn sum(items: &[Item], rho: Corr6) -> i128
     requires small { unsigned_abs rho.0 ≤ 1000000 }
     requires in_range { sum_by (λ item. unsigned_abs item.w) items.now < 84 * 10 ^ 14 }
-    ensures { unsigned_abs result ≤ 8 * 10 ^ 37 }
 {
     sum_of::<Brand>(items, rho, Blank::new(1))
 }

@@ -1,7 +1,6 @@
 //! What a live margin makes of an event, each kind by a function of its own.
 ghost use Rattle.std.specs.Prelude.{◌≡◌, IfOk, OnErr};
 ghost use Rattle.simm_kinds.specs.Batch.{rows_of};
-ghost use Rattle.set_core.specs.Events.{IsFx};
 ghost use Rattle.set_core.specs.Live.{Does};
 ghost use Rattle.set_core.specs.declared.event.Event.TheVariants as events;
 
@@ -16,7 +15,6 @@ pub(crate) fn answer(
     live: &mut LiveMargin,
     event: &Event,
 ) -> Result<Reply, AllocError>
-    requires { IsFx event.now }
     ensures does { IfOk result (λ reply. Does live.old live.new event.now reply) }
     ensures unchanged { OnErr result (live.new ≡ live.old) }
 {
@@ -28,7 +26,6 @@ pub(crate) fn answer(
 }
 
 fn submit(alloc: Global, live: &mut LiveMargin, batch: &Batch) -> Result<Reply, AllocError>
-    requires { IsFx (events.Submit batch.now) }
     ensures does { IfOk result (λ reply. Does live.old live.new (events.Submit batch.now) reply) }
     ensures unchanged { OnErr result (live.new ≡ live.old) }
 {

@@ -3,7 +3,6 @@ ghost use Rattle.std.specs.Option.{option_copied};
 ghost use Rattle.bucket_cache.specs.Live.{Live};
 ghost use Rattle.set_core.specs.Book.{book};
 ghost use Rattle.set_core.specs.Room.{journal_rows, event_rows, is_full};
-ghost use Rattle.set_core.specs.Events.{IsFx};
 ghost use Rattle.set_core.specs.Set.{IsSet, IsAnswered, Explains, entry_at};
 
 use crate::answering::answer;
@@ -63,7 +62,6 @@ impl SetState {
     /// `JournalFull` exactly where the journal has 65,535 entries, or its rows and the event's are more than 500,000;
     /// this is tested first. `Memory` for want of memory. Then the set stands, and the event comes back.
     pub fn apply(&mut self, alloc: Global, caller: u32, event: Event) -> Result<Reply, ApplyFault>
-        requires { IsFx event }
         ensures answered { IfOk result (IsAnswered self.old self.new caller event) }
         ensures fault { IfErr result (Explains self.old event) }
         ensures unchanged { OnErr result (self.new ≡ self.old) }

@@ -1,8 +1,3 @@
-ghost use Rattle.std.specs.Prelude.{◌≡◌, IfOk, true};
-ghost use Rattle.simm_kinds.specs.Batch.{rows_of};
-ghost use Rattle.simm_rules.specs.Net.{all_fx};
-ghost use Rattle.set_core.specs.Events.{IsFx};
-
 use crate::{ApplyFault, Event, Refusal, Reply, SetState, reply_text};
 use csa_terms::{SetTerms, read_terms};
 use simm_kinds::{
@@ -95,7 +90,6 @@ fn read_name(alloc: Global, text: &str) -> Result<Name, Fail> {
 }
 
 fn trade(alloc: Global, name: &str, currency: &str, amount: i64) -> Result<TradeRows, Fail>
-    ensures { IfOk result (λ t. all_fx t.rows ≡ true) }
 {
     let key = FactorKey::make(
         ProductClass::RatesFX,
@@ -114,8 +108,6 @@ fn trade(alloc: Global, name: &str, currency: &str, amount: i64) -> Result<Trade
 }
 
 fn batch(alloc: Global, trade: TradeRows) -> Result<Batch, Fail>
-    requires { all_fx trade.rows ≡ true }
-    ensures { IfOk result (λ b. all_fx (rows_of b) ≡ true) }
 {
     let mut trades = Listed::new(alloc);
     trades.push(trade)?;
@@ -178,7 +170,6 @@ const STEPS: [(Step, Answer); 18] = [
 ];
 
 fn event_of(alloc: Global, step: Step) -> Result<Event, Fail>
-    ensures { IfOk result (λ event. IsFx event) }
 {
     match step {
         Step::Submit(name, currency, amount) => submit_of(alloc, name, currency, amount),
@@ -188,14 +179,12 @@ fn event_of(alloc: Global, step: Step) -> Result<Event, Fail>
 }
 
 fn submit_of(alloc: Global, name: &str, currency: &str, amount: i64) -> Result<Event, Fail>
-    ensures { IfOk result (λ event. IsFx event) }
 {
     let trade = trade(alloc, name, currency, amount)?;
     Ok(Event::Submit(batch(alloc, trade)?))
 }
 
 fn withdrawal_of(alloc: Global, first: &str, second: &str) -> Result<Event, Fail>
-    ensures { IfOk result (λ event. IsFx event) }
 {
     let mut names = Listed::new(alloc);
     names.push(read_name(alloc, first)?)?;

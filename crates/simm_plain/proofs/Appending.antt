@@ -4,7 +4,7 @@ use Rattle.std.specs.declared.cmp.Ordering.{Ordering}
 use Rattle.std.specs.declared.cmp.Ordering.TheVariants.{Less, Equal, Greater}
 use Rattle.std.specs.Ordering.{is_eq, ordering_reverse}
 use Rattle.std.specs.List.{filter, list_any, AllByRecursion}
-use Rattle.std.proofs.lemmas.Bool.{false≢true, and_parts, and_from}
+use Rattle.std.proofs.lemmas.Bool.{false≢true}
 use Rattle.std.specs.BTreeMap.{insert_entry}
 use Rattle.std.proofs.lemmas.Int.{ints}
 use Rattle.std.proofs.lemmas.Cmp.{alike_right}
@@ -14,13 +14,12 @@ use Rattle.simm_plain.proofs.Sizes.{total_size, sum_by-filter}
 use Rattle.std.proofs.lemmas.List.Elements.{filter-append, All-from_recursion}
 use Rattle.simm_kinds.specs.declared.row.CrifRow.{CrifRow}
 use Rattle.simm_kinds.specs.Key.{Key, is_key}
-use Rattle.simm_kinds.specs.Order.{same_key, same_kind, key_cmp}
-use Rattle.simm_kinds.specs.declared.kinds.RiskType.TheVariants as kind
+use Rattle.simm_kinds.specs.Order.{same_key, key_cmp}
 use Rattle.simm_plain.specs.declared.lent.LentRows.{LentRows}
 use Rattle.simm_plain.specs.Lent.{all_rows}
 use Rattle.simm_kinds.specs.contracts.key.FactorKeyOrd.TheImpl as key_order
 use Rattle.simm_rules.specs.Sums.{total_by}
-use Rattle.simm_rules.specs.Net.{net, keys_of, all_fx}
+use Rattle.simm_rules.specs.Net.{net, keys_of}
 use Rattle.simm_plain.specs.FxKeys.{IsFxKey, FxRows}
 use Rattle.simm_plain.specs.Nets.{nets_of, AreRows, IsRow, AreWithin}
 use Rattle.simm_plain.proofs.Filters.{each_weaker, total_by-append}
@@ -123,15 +122,6 @@ netted_more rows r old new k n put is key sum h f =
 
 -- ---- rows in front of others
 
-each_front : {X : Type 0} (P : X → Type 0) (xs ys : List X) → AllByRecursion P (xs ++ ys) → AllByRecursion P xs
-each_front P [] ys h = tt
-each_front P (x ∷ xs) ys h = (h.0, each_front P xs ys h.1)
-
-pub fx_front : (xs ys : List CrifRow) → all_fx (xs ++ ys) ≡ true → all_fx xs ≡ true
-fx_front [] ys h = refl
-fx_front (x ∷ xs) ys h =
-    let parts = and_parts (same_kind x.key.kind kind.Fx) (all_fx (xs ++ ys)) h in and_from (same_kind x.key.kind kind.Fx) (all_fx xs) parts.0 (fx_front xs ys parts.1)
-
 -- the rows of the trades so far, and of the trade at i the rows so far
 pub rows_front : (ts : List LentRows) (i j : ℕ) (t : LentRows) → i < length ts → t ≡ get_or ts i t → all_rows ts ≡ (all_rows (take i ts) ++ take j t.rows.now) ++ (drop j t.rows.now ++ all_rows (drop (suc i) ts))
 rows_front [] i j t h e = absurd (omega arith)
@@ -173,16 +163,12 @@ pub record Netted (rows : List CrifRow) (nets : List (Key × ℤ)) : Type 0 wher
   pub value : nets ≡ nets_of rows
   pub are : AreRows rows
 
-each_back : {X : Type 0} (P : X → Type 0) (xs ys : List X) → AllByRecursion P (xs ++ ys) → AllByRecursion P ys
-each_back P [] ys h = h
-each_back P (x ∷ xs) ys h = each_back P xs ys h.1
-
 are_push : (rows : List CrifRow) (r : CrifRow) → AreRows rows → IsRow r → AreRows (rows ++ r ∷ [])
 are_push [] r h is = (is, tt)
 are_push (s ∷ rows) r h is = (h.0, are_push rows r h.1 is)
 
-pub fx_of_rows : (rows : List CrifRow) → AreRows rows → all_fx rows ≡ true → FxRows rows
-fx_of_rows rows h fx = fx_rows_from rows (each_weaker IsRow (λ r. is_key r.key ≡ true) (λ r is. is.key) rows h) fx
+pub fx_of_rows : (rows : List CrifRow) → AreRows rows → FxRows rows
+fx_of_rows rows h = fx_rows_from rows (each_weaker IsRow (λ r. is_key r.key ≡ true) (λ r is. is.key) rows h)
 
 pub front_within : (ts : List LentRows) (i j : ℕ) (t : LentRows) (items : List CrifRow) (nets : List (Key × ℤ)) → i < length ts → t ≡ get_or ts i t → items ≡ t.rows.now → length (all_rows ts) ≤ 200000 → Netted (all_rows (take i ts) ++ take j items) nets → AreWithin (2 ^ 100) nets
 front_within ts i j t items nets h e is few n =
@@ -191,18 +177,9 @@ front_within ts i j t items nets h e is few n =
     let count = length-append (all_rows (take i ts) ++ take j items) (drop j t.rows.now ++ all_rows (drop (suc i) ts)) in
     subst (AreWithin (2 ^ 100)) (sym n.value) (nets_within (all_rows (take i ts) ++ take j items) n.are (omega (arith, count, ap length whole)))
 
-pub front_more : (ts : List LentRows) (i j : ℕ) (t : LentRows) (items : List CrifRow) (r : CrifRow) (old new : List (Key × ℤ)) → i < length ts → t ≡ get_or ts i t → items ≡ t.rows.now → j < length items → r ≡ get_or items j r → all_fx (all_rows ts) ≡ true → Netted (all_rows (take i ts) ++ take j items) old → IsRow r
-    → ((rows : List CrifRow) → old ≡ nets_of rows → FxRows rows → IsFxKey r.key → new ≡ nets_of (rows ++ r ∷ [])) → Netted (all_rows (take i ts) ++ take (j + 1) items) new
-front_more ts i j t items r old new h e is below at fx n row put =
-    let more : all_rows (take i ts) ++ take (j + 1) items ≡ (all_rows (take i ts) ++ take j items) ++ r ∷ [] =
-    ap (λ xs. all_rows (take i ts) ++ xs) (take_more items j r below ∙ ap (λ x. take j items ++ x ∷ []) (sym at)) ∙ sym (append_assoc (all_rows (take i ts)) (take j items) (r ∷ [])) in
-    let whole : all_rows ts ≡ (all_rows (take i ts) ++ take (j + 1) items) ++ (drop (j + 1) t.rows.now ++ all_rows (drop (suc i) ts)) =
-    rows_front ts i (j + 1) t h e ∙ ap (λ xs. (all_rows (take i ts) ++ take (j + 1) xs) ++ (drop (j + 1) t.rows.now ++ all_rows (drop (suc i) ts))) (sym is) in
-    let front_fx : all_fx (all_rows (take i ts) ++ take (j + 1) items) ≡ true = fx_front (all_rows (take i ts) ++ take (j + 1) items) (drop (j + 1) t.rows.now ++ all_rows (drop (suc i) ts)) (ap all_fx (sym whole) ∙ fx) in
-    let are : AreRows ((all_rows (take i ts) ++ take j items) ++ r ∷ []) = are_push (all_rows (take i ts) ++ take j items) r n.are row in
-    let fx_rows : FxRows ((all_rows (take i ts) ++ take j items) ++ r ∷ []) = fx_of_rows ((all_rows (take i ts) ++ take j items) ++ r ∷ []) are (ap all_fx (sym more) ∙ front_fx) in
-    subst (λ rows. Netted rows new) (sym more)
-    record {
-      value = put (all_rows (take i ts) ++ take j items) n.value (each_front (λ x. IsFxKey x.key) (all_rows (take i ts) ++ take j items) (r ∷ []) fx_rows) ((each_back (λ x. IsFxKey x.key) (all_rows (take i ts) ++ take j items) (r ∷ []) fx_rows).0);
-      are = are;
-    }
+pub front_more : (front items : List CrifRow) (j : ℕ) (r : CrifRow) (old new : List (Key × ℤ)) → j < length items → r ≡ get_or items j r → Netted (front ++ take j items) old → IsRow r
+    → ((rows : List CrifRow) → old ≡ nets_of rows → AreRows rows → new ≡ nets_of (rows ++ r ∷ [])) → Netted (front ++ take (j + 1) items) new
+front_more front items j r old new below at n row put =
+    let more : front ++ take (j + 1) items ≡ (front ++ take j items) ++ r ∷ [] =
+    ap (λ xs. front ++ xs) (take_more items j r below ∙ ap (λ x. take j items ++ x ∷ []) (sym at)) ∙ sym (append_assoc front (take j items) (r ∷ [])) in
+    subst (λ rows. Netted rows new) (sym more) (record { value = put (front ++ take j items) n.value n.are; are = are_push (front ++ take j items) r n.are row })

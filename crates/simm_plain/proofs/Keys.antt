@@ -21,13 +21,13 @@ use Rattle.simm_kinds.specs.declared.kinds.SubCurve.{SubCurve}
 use Rattle.simm_kinds.specs.declared.row.CrifRow.{CrifRow}
 use Rattle.simm_kinds.specs.Key.{Key, is_key, is_single, has_parts_of, has_fx_parts}
 use Rattle.simm_kinds.specs.NameText.{is_currency}
-use Rattle.simm_kinds.specs.Order.{same_kind, same_key, name_cmp, product_place, kind_place, key_cmp, bucket_cmp, bucket_place, bucket_number, bucket_currency, place_of_part, tenor_place, sub_place}
-use Rattle.simm_rules.specs.Net.{all_fx}
+use Rattle.simm_kinds.specs.Order.{same_key, name_cmp, product_place, kind_place, key_cmp, bucket_cmp, bucket_place, bucket_number, bucket_currency, place_of_part, tenor_place, sub_place}
 use Rattle.simm_plain.specs.FxKeys.{fx_key, IsFxKey, FxRows}
 
-kind_is_fx : (a : RiskType) → same_kind a kind.Fx ≡ true → a ≡ kind.Fx
-kind_is_fx kind.Fx h = refl
-kind_is_fx _ h = absurd (false≢true h)
+-- no other risk type has keys
+kind_is_fx : (a : RiskType) (k : Key) → has_parts_of a k ≡ true → a ≡ kind.Fx
+kind_is_fx kind.Fx k h = refl
+kind_is_fx _ k h = absurd (false≢true h)
 
 bucket_is_single : (b : BucketId) → is_single b ≡ true → b ≡ bucket.Single
 bucket_is_single bucket.Single h = refl
@@ -45,9 +45,9 @@ key_of_parts k a b t s l =
     ∙ ap (λ (x : Option SubCurve). record { product = k.product; kind = kind.Fx; qualifier = k.qualifier; bucket = bucket.Single; tenor = None; sub = x; label2 = k.label2 }) s
     ∙ ap (λ (x : List ℕ). record { product = k.product; kind = kind.Fx; qualifier = k.qualifier; bucket = bucket.Single; tenor = None; sub = None; label2 = x }) l
 
-pub fx_key_from : (k : Key) → is_key k ≡ true → same_kind k.kind kind.Fx ≡ true → IsFxKey k
-fx_key_from k h g =
-    let fx = kind_is_fx k.kind g in
+pub fx_key_from : (k : Key) → is_key k ≡ true → IsFxKey k
+fx_key_from k h =
+    let fx = kind_is_fx k.kind k h in
     let parts : has_fx_parts k ≡ true = subst (λ t. has_parts_of t k ≡ true) fx h in
     let a = and_parts (is_currency k.qualifier && is_single k.bucket && is_none k.tenor && is_none k.sub) (length k.label2 == 0) parts in
     let b = and_parts (is_currency k.qualifier && is_single k.bucket && is_none k.tenor) (is_none k.sub) a.0 in
@@ -55,11 +55,9 @@ fx_key_from k h g =
     let d = and_parts (is_currency k.qualifier) (is_single k.bucket) c.0 in
     key_of_parts k fx (bucket_is_single k.bucket d.1) (part_is_none k.tenor c.1) (part_is_none k.sub b.1) (nil_from_length k.label2 (eqb-true (length k.label2) 0 a.1))
 
-pub fx_rows_from : (rows : List CrifRow) → AllByRecursion (λ r. is_key r.key ≡ true) rows → all_fx rows ≡ true → FxRows rows
-fx_rows_from [] h g = tt
-fx_rows_from (r ∷ rs) h g =
-    let parts = and_parts (same_kind r.key.kind kind.Fx) (all_fx rs) g in
-    (fx_key_from r.key h.0 parts.0, fx_rows_from rs h.1 parts.1)
+pub fx_rows_from : (rows : List CrifRow) → AllByRecursion (λ r. is_key r.key ≡ true) rows → FxRows rows
+fx_rows_from [] h = tt
+fx_rows_from (r ∷ rs) h = (fx_key_from r.key h.0, fx_rows_from rs h.1)
 
 -- ---- the order of keys
 

@@ -1,9 +1,8 @@
-ghost use Rattle.std.specs.Prelude.{◌≡◌, ◌^◌, ◌<◌, ◌≤◌, List, None, Some, Err, IsTrue, IfOk, length};
+ghost use Rattle.std.specs.Prelude.{◌≡◌, ◌^◌, ◌<◌, ◌≤◌, List, None, Some, Err, IfOk, length};
 ghost use Rattle.simm_kinds.specs.declared.kinds.ProductClass.{ProductClass as Product};
 ghost use Rattle.simm_kinds.specs.declared.row.CrifRow.{CrifRow as Row};
 ghost use Rattle.simm_kinds.specs.Batch.{rows_of};
 ghost use Rattle.simm_rules.specs.declared.values.RangeFault.{RangeFault as Fault};
-ghost use Rattle.simm_rules.specs.Net.{all_fx};
 ghost use Rattle.simm_rules.specs.Simm.{simm};
 ghost use Rattle.simm_rules.specs.Range.{range};
 ghost use Rattle.simm_plain.specs.Bucket.{IsBucket, factors};
@@ -22,7 +21,7 @@ use simm_params::Params;
 use simm_rules::{Breakdown, RangeFault};
 use std::alloc::{AllocError, Global};
 
-/// The margin of rows that are all sensitivities to currencies.
+/// The margin of the rows of the trades.
 ///
 /// # Errors
 ///
@@ -32,8 +31,7 @@ pub fn margin(
     params: &Params,
     trades: &[TradeRows],
 ) -> Result<Breakdown, MarginFault>
-    requires fx { IsTrue (all_fx (rows_of trades.now)) }
-    requires few { length (rows_of trades.now) < 2 ^ 63 }
+    requires { length (rows_of trades.now) < 2 ^ 63 }
     ensures ok { IfOk result (λ b. (range params.now (rows_of trades.now) ≡ None) × (b ≡ simm params.now (rows_of trades.now))) }
     ensures range { (fault : Fault) → result ≡ Err (MarginFault.Range fault) → range params.now (rows_of trades.now) ≡ Some fault }
 {
@@ -41,15 +39,13 @@ pub fn margin(
     margin_of(alloc, params, lent.as_slice())
 }
 
-/// The first quantity of a book of lent rows, all of them sensitivities to currencies, that is above its limit; none
-/// for a book in range.
+/// The first quantity of a book of lent rows that is above its limit; none for a book in range.
 pub fn range_fault(
     alloc: Global,
     params: &Params,
     lent: &[LentRows],
 ) -> Result<Option<RangeFault>, AllocError>
-    requires fx { IsTrue (all_fx (all_rows lent.now)) }
-    requires few { length (all_rows lent.now) < 2 ^ 63 }
+    requires { length (all_rows lent.now) < 2 ^ 63 }
     ensures fault { IfOk result (λ fault. fault ≡ range params.now (all_rows lent.now)) }
     ensures rows { IfOk result (λ fault. fault ≡ None → AreRows (all_rows lent.now)) }
 {
@@ -60,14 +56,13 @@ pub fn range_fault(
     Ok(nets_fault(params, lent, &nets))
 }
 
-/// The margin of a book of lent rows, all of them sensitivities to currencies, which the caller knows to be in range.
+/// The margin of a book of lent rows, which the caller knows to be in range.
 pub fn margin_in_range(
     alloc: Global,
     params: &Params,
     lent: &[LentRows],
 ) -> Result<Breakdown, AllocError>
-    requires fx { IsTrue (all_fx (all_rows lent.now)) }
-    requires in_range { range params.now (all_rows lent.now) ≡ None }
+    requires { range params.now (all_rows lent.now) ≡ None }
     ensures { IfOk result (λ b. b ≡ simm params.now (all_rows lent.now)) }
 {
     let nets = Nets::of_rows(alloc, lent)?;
@@ -76,8 +71,7 @@ pub fn margin_in_range(
 }
 
 fn margin_of(alloc: Global, params: &Params, lent: &[LentRows]) -> Result<Breakdown, MarginFault>
-    requires fx { IsTrue (all_fx (all_rows lent.now)) }
-    requires few { length (all_rows lent.now) < 2 ^ 63 }
+    requires { length (all_rows lent.now) < 2 ^ 63 }
     ensures ok { IfOk result (λ b. (range params.now (all_rows lent.now) ≡ None) × (b ≡ simm params.now (all_rows lent.now))) }
     ensures range { (fault : Fault) → result ≡ Err (MarginFault.Range fault) → range params.now (all_rows lent.now) ≡ Some fault }
 {

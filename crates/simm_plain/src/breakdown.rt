@@ -5,10 +5,10 @@ use simm_rules::Breakdown;
 
 /// The margin of a book whose product classes have these foreign exchange margins, in their order, and nothing else.
 pub fn breakdown(rates_fx: i128, credit: i128, equity: i128, commodity: i128) -> Breakdown
-    requires rates_fx_in_range { unsigned_abs rates_fx ≤ 9 * 10 ^ 15 }
-    requires credit_in_range { unsigned_abs credit ≤ 9 * 10 ^ 15 }
-    requires equity_in_range { unsigned_abs equity ≤ 9 * 10 ^ 15 }
-    requires commodity_in_range { unsigned_abs commodity ≤ 9 * 10 ^ 15 }
+    requires rates_fx_in_range { unsigned_abs rates_fx ≤ 14 * 10 ^ 15 }
+    requires credit_in_range { unsigned_abs credit ≤ 14 * 10 ^ 15 }
+    requires equity_in_range { unsigned_abs equity ≤ 14 * 10 ^ 15 }
+    requires commodity_in_range { unsigned_abs commodity ≤ 14 * 10 ^ 15 }
     ensures { result ≡ breakdown_of (by_product rates_fx credit equity commodity) }
 {
     Breakdown {

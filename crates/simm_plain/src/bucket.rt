@@ -25,7 +25,7 @@ pub fn fx_margin(
     requires { IsBucket params.now (factors params.now product nets.now) }
     ensures value { IfOk result (λ m. m ≡ root_of (factor_sum params.now (factors params.now product nets.now))) }
     ensures low { IfOk result (λ m. pos 0 ≤ℤ m) }
-    ensures size { IfOk result (λ m. unsigned_abs m ≤ 9 * 10 ^ 15) }
+    ensures size { IfOk result (λ m. unsigned_abs m ≤ 14 * 10 ^ 15) }
 {
     let factors = nets.factors(alloc, params, product)?;
     let sum = bucket_sum::<Brand>(alloc, params, factors.as_slice(), Blank::new(1))?;

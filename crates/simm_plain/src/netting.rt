@@ -1,7 +1,7 @@
 ghost use Rattle.std.specs.Prelude.{◌≡◌, ◌∷◌, ◌++◌, ◌*◌, ◌^◌, ◌≤◌, List, [], true, map, count_by, IfOk, OnOk, length, not, unsigned_abs};
 ghost use Rattle.simm_kinds.specs.declared.row.CrifRow.{CrifRow as Row};
 ghost use Rattle.simm_kinds.specs.Order.{same_product, same_kind};
-ghost use Rattle.simm_rules.specs.Net.{net, all_fx, is_own_currency};
+ghost use Rattle.simm_rules.specs.Net.{net, is_own_currency};
 ghost use Rattle.simm_plain.specs.FxKeys.{IsFxKey, FxRows};
 ghost use Rattle.simm_plain.specs.Bucket.{factors};
 ghost use Rattle.simm_plain.specs.Entries.{entries};
@@ -34,8 +34,7 @@ impl Model for Nets {
 impl Nets {
     /// The nets of all rows.
     pub fn of_rows(alloc: Global, lent: &[LentRows]) -> Result<Nets, AllocError>
-        requires fx { all_fx (all_rows lent.now) ≡ true }
-        requires few { length (all_rows lent.now) ≤ 200000 }
+        requires { length (all_rows lent.now) ≤ 200000 }
         ensures value { IfOk result (λ nets. nets ≡ nets_of (all_rows lent.now)) }
         ensures rows { OnOk result (AreRows (all_rows lent.now)) }
     {
@@ -97,7 +96,7 @@ impl Nets {
     // Adds a row. For want of memory nothing changes.
     fn add(&mut self, alloc: Global, row: &CrifRow) -> Result<(), AllocError>
         requires { AreWithin (2 ^ 100) self.old }
-        ensures value { (rows : List Row) → self.old ≡ nets_of rows → FxRows rows → IsFxKey row.now.key →
+        ensures value { (rows : List Row) → self.old ≡ nets_of rows → AreRows rows →
             OnOk result (self.new ≡ nets_of (rows ++ row.now ∷ [])) }
         ensures row { IsRow row.now }
     {

@@ -1,7 +1,5 @@
 ghost use Rattle.std.specs.Prelude.{◌≡◌, ◌∷◌, [], ◌≤◌, IfOk, true, length};
 ghost use Rattle.simm_kinds.specs.Batch.{rows_of};
-ghost use Rattle.simm_kinds.specs.Order.{same_kind};
-ghost use Rattle.simm_rules.specs.Net.{all_fx};
 
 use crate::{MarginFault, margin};
 use simm_kinds::{BucketId, CrifRow, FactorKey, Listed, Name, ProductClass, RiskType, TradeRows};
@@ -44,7 +42,7 @@ fn params(alloc: Global) -> Result<Params, Fail> {
 }
 
 fn trade(alloc: Global, name: &str, currency: &str, amount: i64) -> Result<TradeRows, Fail>
-    ensures { IfOk result (λ t. (all_fx t.rows ≡ true) × (length t.rows ≡ 1)) }
+    ensures { IfOk result (λ t. length t.rows ≡ 1) }
 {
     let key = FactorKey::make(
         ProductClass::RatesFX,

@@ -1,7 +1,7 @@
 -- Rows, keys and netting.
 -- (ISDA SIMM methodology, structure: margins are per product class and risk class; sensitivities to one risk factor net.)
 use Rattle.std.specs.Prelude.{List, map, Option, Some, None, Bool, true, false, ◌&&◌, not, ℤ}
-use Rattle.std.specs.List.{filter, list_all}
+use Rattle.std.specs.List.{filter}
 use Rattle.simm_kinds.specs.declared.kinds.ProductClass.{ProductClass}
 use Rattle.simm_kinds.specs.declared.kinds.RiskClass.{RiskClass}
 use Rattle.simm_kinds.specs.declared.kinds.RiskType.{RiskType}
@@ -16,25 +16,40 @@ use Rattle.simm_kinds.specs.Order.{same_product, same_class, same_kind, same_nam
 use Rattle.simm_rules.specs.Params.{Params}
 use Rattle.simm_rules.specs.Sums.{total_by, different}
 
--- the rows of a type are sensitivities of the measure: volatilities are of vega, and curvature has no rows of its own
+-- the measure that the rows of a type are sensitivities of: curvature has no rows of its own, and add-ons have no measure
+abbrev pub measure_of : RiskType → Option Measure
+measure_of kind.IrCurve = Some measure.Delta
+measure_of kind.Inflation = Some measure.Delta
+measure_of kind.XccyBasis = Some measure.Delta
+measure_of kind.IrVol = Some measure.Vega
+measure_of kind.InflationVol = Some measure.Vega
+measure_of kind.CreditQ = Some measure.Delta
+measure_of kind.CreditVol = Some measure.Vega
+measure_of kind.CreditNonQ = Some measure.Delta
+measure_of kind.CreditVolNonQ = Some measure.Vega
+measure_of kind.BaseCorr = Some measure.BaseCorr
+measure_of kind.Equity = Some measure.Delta
+measure_of kind.EquityVol = Some measure.Vega
+measure_of kind.Commodity = Some measure.Delta
+measure_of kind.CommodityVol = Some measure.Vega
+measure_of kind.Fx = Some measure.Delta
+measure_of kind.FxVol = Some measure.Vega
+measure_of kind.Notional = None
+measure_of kind.AddOnNotionalFactor = None
+measure_of kind.AddOnFixedAmount = None
+measure_of kind.ProductClassMultiplier = None
+measure_of kind.Pv = None
+
+abbrev pub is_measure : Measure → Option Measure → Bool
+is_measure measure.Delta (Some measure.Delta) = true
+is_measure measure.Vega (Some measure.Vega) = true
+is_measure measure.Curvature (Some measure.Curvature) = true
+is_measure measure.BaseCorr (Some measure.BaseCorr) = true
+is_measure _ _ = false
+
+-- the rows of a type are sensitivities of the measure
 abbrev pub is_of : Measure → RiskType → Bool
-is_of measure.Delta kind.IrCurve = true
-is_of measure.Delta kind.Inflation = true
-is_of measure.Delta kind.XccyBasis = true
-is_of measure.Delta kind.CreditQ = true
-is_of measure.Delta kind.CreditNonQ = true
-is_of measure.Delta kind.Equity = true
-is_of measure.Delta kind.Commodity = true
-is_of measure.Delta kind.Fx = true
-is_of measure.Vega kind.IrVol = true
-is_of measure.Vega kind.InflationVol = true
-is_of measure.Vega kind.CreditVol = true
-is_of measure.Vega kind.CreditVolNonQ = true
-is_of measure.Vega kind.EquityVol = true
-is_of measure.Vega kind.CommodityVol = true
-is_of measure.Vega kind.FxVol = true
-is_of measure.BaseCorr kind.BaseCorr = true
-is_of _ _ = false
+is_of measure kind = is_measure measure (measure_of kind)
 
 abbrev pub is_in_class : RiskClass → RiskType → Bool
 is_in_class class kind = in_class_at class (class_of kind)
@@ -70,7 +85,3 @@ keys_of rows = different key_cmp (map (λ r. r.key) rows)
 -- the different buckets of the rows, in order
 abbrev pub buckets_of : List CrifRow → List BucketId
 buckets_of rows = different bucket_cmp (map (λ r. r.key.bucket) rows)
-
--- each row is a sensitivity to a currency
-abbrev pub all_fx : List CrifRow → Bool
-all_fx rows = list_all (λ r. same_kind r.key.kind kind.Fx) rows

@@ -14,16 +14,16 @@ pub returns-in_default-2-clause-refused : goal.returns-in_default-2-clause-refus
 returns-in_default-2-clause-refused c =
     sym (refusal_none c.args.fed c.args.sets.now c.in-Some.place
     (ap (λ name. place_of name c.args.sets.now) (sym c.set_of.ensures) ∙ sym c.find_set.ensures ∙ c.in-Some.is)
-    (sym c.in_ok-event.ensures.event ∙ c.in_default-2.is))
+    (sym c.in_ok-event.ensures ∙ c.in_default-2.is))
 
 pub returns-in_default-2-clause-sets : goal.returns-in_default-2-clause-sets
-returns-in_default-2-clause-sets c = sym (no_batch_stays c.args.fed c.args.sets.now (sym c.in_ok-event.ensures.event ∙ c.in_default-2.is))
+returns-in_default-2-clause-sets c = sym (no_batch_stays c.args.fed c.args.sets.now (sym c.in_ok-event.ensures ∙ c.in_default-2.is))
 
 at : (c : goal.After-call) → place_of (set_of c.args.fed.message) c.args.sets.now ≡ Some c.in-Some.place
 at c = ap (λ name. place_of name c.args.sets.now) (sym c.set_of.ensures) ∙ sym c.find_set.ensures ∙ c.in-Some.is
 
 is : (c : goal.After-call) → event_of c.args.fed.message ≡ Some c.in-Some-2.event
-is c = sym c.in_ok-event.ensures.event ∙ c.in-Some-2.is
+is c = sym c.in_ok-event.ensures ∙ c.in-Some-2.is
 
 pub returns-clause-refused : goal.returns-clause-refused
 returns-clause-refused c =

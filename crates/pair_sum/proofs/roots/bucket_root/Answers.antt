@@ -3,7 +3,7 @@ use Rattle.std.proofs.lemmas.Int.{ints, to_z-of_z}
 use Rattle.std.specs.Int.{w128}
 use Rattle.mh_units.specs.Rounding.{up, root}
 use Rattle.simm_rules.specs.Concentration.{one}
-use Rattle.pair_sum.proofs.RootBounds.{root_none, within_from}
+use Rattle.pair_sum.proofs.RootBounds.{root_none, within_from, bits_within}
 use Rattle.pair_sum.proofs.roots.bucket_root.Goals as goal
 
 pub returns-then-square-le0-clause-value : goal.returns-then-square-le0-clause-value
@@ -15,7 +15,7 @@ returns-then-square-le0-clause-value c =
 pub returns-else-square-le0-clause-size : goal.returns-else-square-le0-clause-size
 unfolding root
 returns-else-square-le0-clause-size c =
-    let bound = within_from c.args.q (pos c.least_root.result) 9000000000000000 (search rules) (omega (arith, c.requires)) in omega (arith, ints)
+    let bound = within_from c.args.q (pos c.least_root.result) 14000000000000000 (search rules) (bits_within c.args.q c.ranges.q) in omega (arith, ints)
 
 pub returns-else-square-le0-clause-within : goal.returns-else-square-le0-clause-within
 unfolding root

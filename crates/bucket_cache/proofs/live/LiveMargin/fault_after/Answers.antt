@@ -5,13 +5,12 @@ use Rattle.simm_kinds.specs.Batch.{rows_of}
 use Rattle.simm_kinds.specs.Key.{is_key}
 use Rattle.simm_rules.specs.declared.values.RangeFault.{RangeFault}
 use Rattle.simm_rules.specs.Params.{Params}
-use Rattle.simm_rules.specs.Net.{all_fx}
 use Rattle.simm_rules.specs.Range.{range}
 use Rattle.simm_plain.specs.Lent.{all_rows}
 use Rattle.simm_plain.specs.Nets.{AreRows}
 use Rattle.bucket_cache.specs.Live.{Live, put_trades}
 use Rattle.bucket_cache.specs.Entries.{trades_of}
-use Rattle.bucket_cache.proofs.Lives.{batch_facts, few_in_batch, fx_after, few_after, keys_pass}
+use Rattle.bucket_cache.proofs.Lives.{batch_facts, few_in_batch, few_after, keys_pass}
 use Rattle.bucket_cache.proofs.live.LiveMargin.fault_after.Goals as goal
 
 same_fault : {E : Type 0} (p q : Params) (xs ys : List CrifRow) (r : Result (Option RangeFault) E) → p ≡ q → xs ≡ ys → IfOk r (λ f. f ≡ range p xs) → IfOk r (λ f. f ≡ range q ys)
@@ -23,18 +22,14 @@ same_keys xs ys (Ok f) d h = λ none. keys_pass ys (subst AreRows d (h none))
 same_keys xs ys (Err f) d h = h
 
 pub lend_after-requires-clause-few : goal.lend_after-requires-clause-few
-lend_after-requires-clause-few c = omega (arith, few_in_batch c.args.trades.now c.requires.batch)
+lend_after-requires-clause-few c = omega (arith, few_in_batch c.args.trades.now c.requires)
 
 pub lend_after-requires-clause-once : goal.lend_after-requires-clause-once
-lend_after-requires-clause-once c = (batch_facts c.args.trades.now c.requires.batch).once
+lend_after-requires-clause-once c = (batch_facts c.args.trades.now c.requires).once
 
-pub range_fault-requires-clause-fx : goal.range_fault-requires-clause-fx
-range_fault-requires-clause-fx c =
-    ap all_fx (ap all_rows c.as_slice.ensures.value ∙ c.in_ok-lent.ensures) ∙ fx_after c.self.inside.params c.args.trades.now (trades_of c.self.inside.trades.entries) c.requires.fx c.self.invariant
-
-pub range_fault-requires-clause-few : goal.range_fault-requires-clause-few
-range_fault-requires-clause-few c =
-    omega (arith, ap length (ap all_rows c.as_slice.ensures.value ∙ c.in_ok-lent.ensures), few_after c.self.inside.params c.args.trades.now (trades_of c.self.inside.trades.entries) c.requires.batch c.self.invariant)
+pub range_fault-requires : goal.range_fault-requires
+range_fault-requires c =
+    omega (arith, ap length (ap all_rows c.as_slice.ensures.value ∙ c.in_ok-lent.ensures), few_after c.self.inside.params c.args.trades.now (trades_of c.self.inside.trades.entries) c.requires c.self.invariant)
 
 pub returns-clause-fault : goal.returns-clause-fault
 returns-clause-fault c =

@@ -3,7 +3,6 @@ use Rattle.simm_kinds.specs.declared.row.CrifRow.{CrifRow}
 use Rattle.simm_kinds.specs.Batch.{rows_of}
 use Rattle.simm_rules.specs.declared.values.Breakdown.{Breakdown}
 use Rattle.simm_rules.specs.Params.{Params}
-use Rattle.simm_rules.specs.Net.{all_fx}
 use Rattle.simm_rules.specs.Range.{range}
 use Rattle.simm_rules.specs.Simm.{simm}
 use Rattle.simm_plain.specs.Lent.{all_rows}
@@ -16,12 +15,8 @@ same_margin : {E : Type 0} (p q : Params) (xs ys : List CrifRow) (r : Result Bre
 same_margin p q xs ys (Ok b) e d h = h ∙ ap (λ x. simm x xs) e ∙ ap (simm q) d
 same_margin p q xs ys (Err f) e d h = h
 
-pub margin_in_range-requires-clause-fx : goal.margin_in_range-requires-clause-fx
-margin_in_range-requires-clause-fx c =
-    ap all_fx (ap all_rows c.as_slice.ensures.value ∙ lent_rows c.in_ok-lent.lent.items (trades_of c.self.inside.trades.entries) c.in_ok-lent.ensures) ∙ c.self.invariant.fx
-
-pub margin_in_range-requires-clause-in_range : goal.margin_in_range-requires-clause-in_range
-margin_in_range-requires-clause-in_range c =
+pub margin_in_range-requires : goal.margin_in_range-requires
+margin_in_range-requires c =
     ap (range c.self.inside.params) (ap all_rows c.as_slice.ensures.value ∙ lent_rows c.in_ok-lent.lent.items (trades_of c.self.inside.trades.entries) c.in_ok-lent.ensures) ∙ c.self.invariant.in_range
 
 pub returns-clause-value : goal.returns-clause-value
