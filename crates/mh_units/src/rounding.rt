@@ -3,7 +3,7 @@ ghost use Rattle.mh_units.specs.Rounding.{up, down, away, trunc, root, clamp, Is
 
 use crate::quantities::Corr6;
 
-/// `a / b` rounded upwards: the least `x` with `x * b >= a`.
+/// `a / b` for `b > 0`, rounded upwards: the least `x` with `x * b >= a`.
 pub fn div_up(a: i128, b: i128) -> i128
     requires { pos 0 <ℤ b }
     ensures value { result ≡ up a b }
@@ -13,7 +13,7 @@ pub fn div_up(a: i128, b: i128) -> i128
     if a > 0 { (a - 1) / b + 1 } else { a / b }
 }
 
-/// `a / b` rounded downwards: the greatest `x` with `x * b <= a`.
+/// `a / b` for `b > 0`, rounded downwards: the greatest `x` with `x * b <= a`.
 pub fn div_down(a: i128, b: i128) -> i128
     requires { pos 0 <ℤ b }
     ensures value { result ≡ down a b }
@@ -23,7 +23,7 @@ pub fn div_down(a: i128, b: i128) -> i128
     a.div_euclid(b)
 }
 
-/// `a / b` rounded away from zero.
+/// `a / b` for `b > 0`, rounded away from zero.
 pub fn div_away(a: i128, b: i128) -> i128
     requires { pos 0 <ℤ b }
     ensures value { result ≡ away a b }
@@ -33,7 +33,7 @@ pub fn div_away(a: i128, b: i128) -> i128
     if a < 0 { div_down(a, b) } else { div_up(a, b) }
 }
 
-/// `a / b` rounded towards zero.
+/// `a / b` for `b > 0`, rounded towards zero.
 pub fn div_trunc(a: i128, b: i128) -> i128
     requires { pos 0 <ℤ b }
     ensures value { result ≡ trunc a b }
@@ -43,8 +43,18 @@ pub fn div_trunc(a: i128, b: i128) -> i128
     a / b
 }
 
-/// The product of two correlations, rounded towards zero. It is a correlation again.
+/// The product of two correlations of -1,000,000 to 1,000,000 each, rounded towards zero. It is a correlation again.
 pub fn mul_corr(a: Corr6, b: Corr6) -> Corr6
+    requires first { unsigned_abs a.0 ≤ 1000000 }
+    requires second { unsigned_abs b.0 ≤ 1000000 }
+    ensures value { result.0 ≡ trunc (a.0 *ℤ b.0) (pos 1000000) }
+    ensures rule { IsTrunc (a.0 *ℤ b.0) (pos 1000000) result.0 }
+    ensures size { unsigned_abs result.0 ≤ 1000000 }
+{
+    product(a, b)
+}
+
+fn product(a: Corr6, b: Corr6) -> Corr6
     requires first { unsigned_abs a.0 ≤ 1000000 }
     requires second { unsigned_abs b.0 ≤ 1000000 }
     ensures value { result.0 ≡ trunc (a.0 *ℤ b.0) (pos 1000000) }
@@ -53,7 +63,7 @@ pub fn mul_corr(a: Corr6, b: Corr6) -> Corr6
     Corr6(a.0 * b.0 / 1_000_000)
 }
 
-/// `x` held between `-k` and `k`.
+/// `x` held between `-k` and `k`, for `k >= 0`.
 pub fn clamp_to(x: i128, k: i128) -> i128
     requires { pos 0 ≤ℤ k }
     ensures value { result ≡ clamp x k }
@@ -63,7 +73,7 @@ pub fn clamp_to(x: i128, k: i128) -> i128
     x.min(k).max(-k)
 }
 
-/// The square root of `n` rounded upwards: the least `x` with `x * x >= n`.
+/// The square root of an `n` of at most 10^38, rounded upwards: the least `x` with `x * x >= n`.
 pub fn least_root(n: u128) -> u128
     requires { n ≤ 10 ^ 38 }
     ensures value { pos result ≡ root (pos n) }
