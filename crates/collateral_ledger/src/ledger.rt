@@ -21,7 +21,8 @@ const MOST_LOTS: u32 = 4096;
 const GREATEST_VALUE: i64 = 1_000_000_000_000_000;
 
 /// The collateral ledger of a netting set: the lots that are held under its terms, in the order in which they were put, and
-/// the calls that are outstanding, in the order of their numbers. Contracts see the plain record.
+/// the calls that are outstanding, in the order of their numbers. There are 0 to 4,096 lots of different names, each of a class
+/// that the terms have a haircut for and with a value of 0 to 10^15 cents. Contracts see the plain record.
 ///
 /// A lot is found by its name in O(1) steps, as a hash table is; to take one out moves those after it. A call is found in
 /// O(log n) steps for n calls.
@@ -50,7 +51,7 @@ impl Ledger {
         }
     }
 
-    /// Lends the terms.
+    /// Lends the terms, which stay those that the ledger was made with.
     pub fn terms(&self) -> &SetTerms
         ensures { result.now ≡ self.now.terms }
     {
@@ -124,8 +125,8 @@ impl Ledger {
         Ok(())
     }
 
-    /// Adds a call for a delivery, or else for a return, of so many cents, and answers its number: how many calls were ever
-    /// added, with this one. For want of memory nothing changes.
+    /// Adds a call for a delivery, or else for a return, of 1 to 10^18 cents, and answers its number: how many calls were ever
+    /// added, with this one, which are 4,294,967,295 at most. For want of memory nothing changes.
     pub fn add_call(&mut self, delivery: bool, amount: i64) -> Result<u32, AllocError>
         requires few { self.old.added < 4294967295 }
         requires amount_from { pos 1 ≤ℤ amount }
@@ -155,8 +156,8 @@ impl Ledger {
         }
     }
 
-    /// What is booked, in cents: what the lots count for, with the outstanding deliveries, less the outstanding returns. It costs a
-    /// step for each lot and each outstanding call, and takes no memory.
+    /// What is booked, in cents: what the lots count for, with the outstanding deliveries, less the outstanding returns; so it may be
+    /// below 0. It costs a step for each lot and each outstanding call, and takes no memory.
     pub fn booked(&self) -> i128
         ensures { result ≡ booked_of self.now }
     {

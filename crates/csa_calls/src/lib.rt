@@ -12,18 +12,18 @@ ghost use Rattle.csa_calls.specs.CallRule.{excess as excess_of};
 use csa_terms::SetTerms;
 use mh_units::{div_down, div_up};
 
-/// What is called for.
+/// What is called for. Amounts are in cents, and those of a call are multiples of the agreement's rounding.
 #[derive(Clone, Copy, Debug, PartialEq, Eq)]
 pub enum CallAmount {
-    /// So many cents are to be delivered.
+    /// So many cents, above 0, are to be delivered.
     Delivery(i64),
-    /// So many cents are to be returned.
+    /// So many cents, above 0, are to be returned.
     Return(i64),
     /// Nothing is called: the excess, in cents, is too small, or there is none. It is below zero where too much is booked.
     Nothing(i128),
 }
 
-/// What is called for on a margin where so much is booked, both in cents.
+/// What is called for on a margin of 0 to 5 * 10^17 cents where so much is booked, at most 5 * 10^17 cents in size.
 ///
 /// The excess is the margin above the threshold, less what is booked. One above zero that reaches the minimum of a delivery calls
 /// for a delivery, rounded up to a multiple of the rounding. One below zero that reaches the minimum of a return calls for a

@@ -6,7 +6,7 @@ ghost use Rattle.csa_terms.specs.Calendar.{is_business_day, wait, IsDueAfter, Is
 use crate::moment::Moment;
 use crate::set_terms::SetTerms;
 
-/// A demand's day is not in the years 1 to 9000.
+/// A demand's day, counted from 1970-01-01, is not in the years 1 to 9000.
 #[derive(Clone, Copy, Debug, PartialEq, Eq)]
 pub struct DayRange {
     pub day: i32,

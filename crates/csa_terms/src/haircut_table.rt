@@ -39,7 +39,7 @@ impl HaircutTable {
         }
     }
 
-    /// Sets the haircut of a class. For want of memory nothing changes.
+    /// Sets the haircut of a class, 0 to 10,000 ten-thousandths. For want of memory nothing changes.
     pub fn put(&mut self, class: Name, rate: Rate4) -> Result<(), AllocError>
         requires few { length self.old < 256 }
         requires share { IsShare rate.0 }
@@ -50,7 +50,7 @@ impl HaircutTable {
         Ok(())
     }
 
-    /// The haircut of a class, if it has one.
+    /// The haircut of a class in ten-thousandths, or `None` where it has none.
     pub fn get(&self, class: &Name) -> Option<Rate4>
         ensures { option_map (λ r. r.0) result ≡ haircut_in self.now class.now }
     {
@@ -66,7 +66,7 @@ impl HaircutTable {
         let _count = self.rates.len();
     }
 
-    /// Equal haircuts once more.
+    /// Equal haircuts once more. The only error is want of memory.
     pub fn copy(&self, alloc: Global) -> Result<HaircutTable, AllocError>
         ensures { IfOk result (λ t. t ≡ self.now) }
     {

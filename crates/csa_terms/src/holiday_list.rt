@@ -35,7 +35,17 @@ impl HolidayList {
         }
     }
 
-    /// Adds a day at the end. For want of memory nothing changes.
+    /// No holiday, with room for so many in the list.
+    pub fn with_capacity(alloc: Global, count: usize) -> Result<Self, AllocError>
+        ensures { IfOk result (λ l. l ≡ []) }
+    {
+        Ok(HolidayList {
+            listed: Vec::with_capacity(alloc, count)?,
+            different: BTreeSet::new(alloc),
+        })
+    }
+
+    /// Adds a day at the end, counted from 1970-01-01. For want of memory nothing changes.
     pub fn push(&mut self, day: i32) -> Result<(), AllocError>
         requires few { length self.old < 4096 }
         requires calendar { IsCalendarDay day }
@@ -48,7 +58,7 @@ impl HolidayList {
         Ok(())
     }
 
-    /// Whether the day is one of them.
+    /// Whether the day, counted from 1970-01-01, is one of them.
     pub fn has(&self, day: i32) -> bool
         ensures { result ≡ is_among self.now day }
     {
@@ -62,11 +72,11 @@ impl HolidayList {
         let _listed = &self.listed;
     }
 
-    /// The same days once more.
+    /// The same days once more. The only error is want of memory.
     pub fn copy(&self, alloc: Global) -> Result<HolidayList, AllocError>
         ensures { IfOk result (λ l. l ≡ self.now) }
     {
-        let mut copy = HolidayList::new(alloc);
+        let mut copy = HolidayList::with_capacity(alloc, self.listed.len())?;
         for day in &self.listed {
             copy.push(*day)?;
         }

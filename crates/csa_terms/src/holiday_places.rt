@@ -32,7 +32,7 @@ fn read_places(alloc: Global, set: usize, places: &[Value]) -> Result<HolidayLis
     requires { items_count (items_view places.now) ≤ 4096 }
     ensures { Gives (λ l. l) result (holidays_of set 1 (items_view places.now)) }
 {
-    let mut list = HolidayList::new(alloc);
+    let mut list = HolidayList::with_capacity(alloc, places.len())?;
     for (index, value) in places.iter().enumerate() {
         list.push(read_place(alloc, set, index + 1, value)?)?;
     }

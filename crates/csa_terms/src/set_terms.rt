@@ -49,7 +49,7 @@ impl Model for SetTerms {
 impl SetTerms {
     ghost use Rattle.csa_terms.specs.SetView.{set_view};
 
-    /// The terms of these parts. The notification is in minutes from midnight.
+    /// The terms of these parts, each in its range. The notification is in minutes from midnight.
     pub fn of_parts(
         name: Name,
         amounts: Amounts,
@@ -80,7 +80,7 @@ impl SetTerms {
         self.holidays.facts();
     }
 
-    /// Equal terms once more.
+    /// Equal terms once more. The only error is want of memory.
     pub fn copy(&self, alloc: Global) -> Result<SetTerms, AllocError>
         ensures { IfOk result (λ t. t ≡ self.now) }
     {
@@ -94,56 +94,57 @@ impl SetTerms {
         })
     }
 
-    /// The name of the netting set; it isn't empty.
+    /// Lends the name of the netting set; it isn't empty.
     pub fn name(&self) -> &Name
         ensures { result.now ≡ self.now.name }
     {
         &self.name
     }
 
-    /// What stays uncovered.
+    /// What stays uncovered: 0 to 10^15 cents.
     pub fn threshold(&self) -> Cents
         ensures { result.0 ≡ self.now.threshold }
     {
         self.amounts.threshold
     }
 
-    /// The least amount of a delivery.
+    /// The least amount of a delivery: 0 to 10^15 cents.
     pub fn mta_delivery(&self) -> Cents
         ensures { result.0 ≡ self.now.mta_delivery }
     {
         self.amounts.mta_delivery
     }
 
-    /// The least amount of a return.
+    /// The least amount of a return: 0 to 10^15 cents.
     pub fn mta_return(&self) -> Cents
         ensures { result.0 ≡ self.now.mta_return }
     {
         self.amounts.mta_return
     }
 
-    /// The unit to which calls are rounded.
+    /// The unit to which calls are rounded: 1 to 10^12 cents.
     pub fn rounding(&self) -> Cents
         ensures { result.0 ≡ self.now.rounding }
     {
         self.amounts.rounding
     }
 
-    /// The last minute of a demand in time, from midnight.
+    /// The last minute of a demand in time: 0 to 1,439 from midnight.
     pub fn notification(&self) -> u16
         ensures { result ≡ self.now.notification }
     {
         self.notification
     }
 
-    /// What is taken off, beside the class's haircut, where the currency is another.
+    /// What is taken off, beside the class's haircut, where the currency is another: 0 to 10,000 ten-thousandths of the value.
     pub fn fx_haircut(&self) -> Rate4
         ensures { result.0 ≡ self.now.fx_haircut }
     {
         self.fx_haircut
     }
 
-    /// The haircut of a class of collateral, if it has one. It is found in O(log n) steps for n haircuts.
+    /// The haircut of a class of collateral, 0 to 10,000 ten-thousandths of the value, or `None` where the agreement has none for it.
+    /// It is found in O(log n) steps for n haircuts.
     pub fn haircut(&self, class: &Name) -> Option<Rate4>
         ensures { option_map (λ r. r.0) result ≡ haircut_of self.now class.now }
     {

@@ -188,7 +188,7 @@ fn value_of(fault: &TermsFault) -> i128 {
 }
 
 #[test]
-fn reads_each_value(rt: HostRuntime) -> Result<(), Fail> {
+fn each_value_stands_in_its_own_set(rt: HostRuntime) -> Result<(), Fail> {
     let alloc = rt.alloc();
     let terms = read(alloc, file(alloc, 9, "")?.as_bytes())?;
     assert_eq!(rt; terms.sets().len(), 2);
@@ -205,7 +205,7 @@ fn reads_each_value(rt: HostRuntime) -> Result<(), Fail> {
 }
 
 #[test]
-fn finds_haircuts_and_holidays(rt: HostRuntime) -> Result<(), Fail> {
+fn haircuts_are_found_by_class_and_holidays_by_day(rt: HostRuntime) -> Result<(), Fail> {
     let alloc = rt.alloc();
     let terms = read(alloc, file(alloc, 9, "")?.as_bytes())?;
     let set = set(&terms, 1)?.copy(alloc)?;
@@ -222,7 +222,7 @@ fn finds_haircuts_and_holidays(rt: HostRuntime) -> Result<(), Fail> {
 }
 
 #[test]
-fn refuses_a_key(rt: HostRuntime) -> Result<(), Fail> {
+fn the_first_wrong_key_is_told_with_its_path(rt: HostRuntime) -> Result<(), Fail> {
     let alloc = rt.alloc();
     for (place, line, number, path, value) in REFUSED.iter() {
         let text = file(alloc, *place, line)?;
@@ -235,7 +235,7 @@ fn refuses_a_key(rt: HostRuntime) -> Result<(), Fail> {
 }
 
 #[test]
-fn refuses_a_file(rt: HostRuntime) -> Result<(), Fail> {
+fn a_file_that_has_no_terms_is_refused(rt: HostRuntime) -> Result<(), Fail> {
     let alloc = rt.alloc();
     for (text, number, path, value) in FILES.iter() {
         let fault = read_terms(alloc, text.as_bytes()).err().ok_or("a fault")?;
@@ -264,7 +264,7 @@ fn repeated(alloc: Global, before: &str, count: u32, after: &str) -> Result<Stri
 }
 
 #[test]
-fn refuses_too_many(rt: HostRuntime) -> Result<(), Fail> {
+fn too_many_of_a_kind_are_refused_with_their_count(rt: HostRuntime) -> Result<(), Fail> {
     let alloc = rt.alloc();
     let most = repeated(alloc, "haircuts = { ", 255, "L = \"0\" }\n")?;
     read(alloc, file(alloc, 7, most.as_str())?.as_bytes())?;
@@ -285,7 +285,7 @@ fn refuses_too_many(rt: HostRuntime) -> Result<(), Fail> {
 }
 
 #[test]
-fn falls_due(rt: HostRuntime) -> Result<(), Fail> {
+fn a_late_demand_waits_one_business_day_more(rt: HostRuntime) -> Result<(), Fail> {
     let alloc = rt.alloc();
     let terms = read(alloc, file(alloc, 9, "")?.as_bytes())?;
     for (day, minute, due) in DUE.iter() {
@@ -305,7 +305,7 @@ fn falls_due(rt: HostRuntime) -> Result<(), Fail> {
 }
 
 #[test]
-fn falls_due_after_a_holiday(rt: HostRuntime) -> Result<(), Fail> {
+fn a_holiday_is_waited_for(rt: HostRuntime) -> Result<(), Fail> {
     let alloc = rt.alloc();
     let terms = read(alloc, file(alloc, 9, "")?.as_bytes())?;
     let moment = Moment::new(19_783, 1_439).ok_or("a minute of the day")?;

@@ -6,11 +6,11 @@ use Rattle.csa_terms.proofs.Loops.{items_count-view, holidays_read, begins, goes
 use Rattle.csa_terms.proofs.holiday_places.read_places.Goals as goal
 
 pub loop-index-init : goal.loop-index-init
-loop-index-init c = rw c.new-list.ensures (begins (holidays_of c.args.set) c.args.places.now)
+loop-index-init c = rw c.in_ok-list.ensures (begins (holidays_of c.args.set) c.args.places.now)
 
 pub returns-in_err-read_place : goal.returns-in_err-read_place
 returns-in_err-read_place c =
-    let p = err_from_is_err_and c.from_residual.result c.from_residual.ensures.1 in
+    let p = err_from_is_err_and c.from_residual-in_err-read_place.result c.from_residual-in_err-read_place.ensures.1 in
     rw (p.1, p.2)
     (ends (holidays_read c.args.set) c.loop-index.list c.loop-index.index c.args.places.now _ c.in_err-read_place.field-0.0 c.index-places-index.result c.loop-index-test.true c.index-places-index.is c.in_err-read_place.ensures.value c.loop-index.invariant)
 
