@@ -1,11 +1,12 @@
 -- The order of rows does not matter to their nets, so that a row may be added at the end.
-use Rattle.std.proofs.Common.{◌≡◌, ℕ, List, [], ◌∷◌, ◌++◌, map, length, Bool, true, false, ◌||◌, refl, sym, ap, ◌∙◌, subst, ℤ, ◌+ℤ◌, arith, suc, ◌+◌, ◌*◌, ◌^◌, ◌<◌, ◌≤◌, unsigned_abs, take, drop, get_or, zero, append_assoc, append-nil, mul-le-mul_right}
+use Rattle.std.proofs.Common.{◌≡◌, ℕ, List, [], ◌∷◌, ◌++◌, map, length, Bool, true, false, ◌||◌, refl, sym, ap, ◌∙◌, subst, ℤ, ◌+ℤ◌, arith, suc, ◌+◌, ◌*◌, ◌^◌, ◌<◌, ◌≤◌, unsigned_abs, take, drop, get_or, zero, append_assoc, append-nil, mul-le-mul_right, cond, pos, Option, Some, None, unwrap_or}
 use Rattle.std.specs.declared.cmp.Ordering.{Ordering}
 use Rattle.std.specs.declared.cmp.Ordering.TheVariants.{Less, Equal, Greater}
-use Rattle.std.specs.Ordering.{is_eq, ordering_reverse}
+use Rattle.std.specs.Ordering.{is_eq, ordering_reverse, match_ordering}
 use Rattle.std.specs.List.{filter, list_any, AllByRecursion}
 use Rattle.std.proofs.lemmas.Bool.{false≢true}
-use Rattle.std.specs.BTreeMap.{insert_entry}
+use Rattle.std.specs.BTreeMap.{insert_entry, is_at}
+use Rattle.std.specs.Map.{lookup, set_value}
 use Rattle.std.proofs.lemmas.Int.{ints}
 use Rattle.std.proofs.lemmas.Cmp.{alike_right}
 use Rattle.std.proofs.lemmas.List.{map-append, take-append-drop, take_more, length-append}
@@ -26,7 +27,7 @@ use Rattle.simm_plain.proofs.Filters.{each_weaker, total_by-append}
 use Rattle.simm_plain.proofs.Keys.{fx_rows_from, key_total, tied_keys, same_key_refl, is_equal}
 use Rattle.simm_plain.specs.Bucket.{Ascends}
 use Rattle.simm_plain.proofs.Nets.{keys_each, keys_ascend}
-use Rattle.simm_plain.proofs.NetMaps.{any_different, nets_of-cons}
+use Rattle.simm_plain.proofs.NetMaps.{any_different, nets_of-cons, net_at-nets_of, lookup_size, entry, valued}
 
 -- ---- two ascending lists with the same keys are one
 
@@ -114,11 +115,61 @@ fx_push : (rows : List CrifRow) (r : CrifRow) → FxRows rows → IsFxKey r.key 
 fx_push [] r h f = (f, tt)
 fx_push (s ∷ rows) r h f = (h.0, fx_push rows r h.1 f)
 
--- what putting a net into a map leaves
-pub netted_more : (rows : List CrifRow) (r : CrifRow) (old new : List (Key × ℤ)) (k : Key) (n : ℤ) → new ≡ insert_entry (key_order.cmp-value).it old k n → old ≡ nets_of rows → k ≡ r.key → n ≡ net rows r.key +ℤ r.amount → FxRows rows → IsFxKey r.key → new ≡ nets_of (rows ++ r ∷ [])
-netted_more rows r old new k n put is key sum h f =
+-- ---- a net that is put into the map
+
+-- where the key is there, putting a value writes it through
+set_is_insert : (v : Key → ℤ) (q : Key) (n : ℤ) (ks : List Key) → Ascends key_cmp ks → list_any (same_key q) ks ≡ true → set_value (same_key q) (valued v ks) n ≡ insert_entry key_cmp (valued v ks) q n
+set_is_insert v q n [] s there = absurd (false≢true there)
+set_is_insert v q n (k ∷ ks) s there = at (key_cmp q k) refl (set_is_insert v q n ks s.1)
+  where
+    at : (o : Ordering) → key_cmp q k ≡ o → (list_any (same_key q) ks ≡ true → set_value (same_key q) (valued v ks) n ≡ insert_entry key_cmp (valued v ks) q n)
+        → cond (is_eq o) ((k, n) ∷ valued v ks) ((k, v k) ∷ set_value (same_key q) (valued v ks) n) ≡ match_ordering o ((q, n) ∷ (k, v k) ∷ valued v ks) ((k, n) ∷ valued v ks) ((k, v k) ∷ insert_entry key_cmp (valued v ks) q n)
+    at Less e deeper = absurd (false≢true (sym (past q k ks e s.0) ∙ there))
+    at Equal e deeper = refl
+    at Greater e deeper = ap (λ es. entry k (v k) ∷ es) (deeper (sym (ap (λ o. is_eq o || list_any (same_key q) ks) e) ∙ there))
+
+is_there : (v : Key → ℤ) (q : Key) (n : ℤ) (ks : List Key) → Some n ≡ lookup (same_key q) (valued v ks) → list_any (same_key q) ks ≡ true
+is_there v q n [] h = absurd (cc)
+is_there v q n (k ∷ ks) h = at (same_key q k) h (is_there v q n ks)
+  where
+    at : (t : Bool) → Some n ≡ cond t (Some (v k)) (lookup (same_key q) (valued v ks)) → (Some n ≡ lookup (same_key q) (valued v ks) → list_any (same_key q) ks ≡ true) → (t || list_any (same_key q) ks) ≡ true
+    at true e deeper = refl
+    at false e deeper = deeper e
+
+abbrev KeyOrder : Type 0
+KeyOrder = (k l : Key) → (key_order.cmp-value).it k l ≡ key_cmp k l
+
+one_order : KeyOrder → (key_order.cmp-value).it ≡ key_cmp
+one_order order = λ i k l. order k l i
+
+found_is : KeyOrder → (q : Key) (o : Option ℤ) (es : List (Key × ℤ)) → o ≡ lookup (is_at ((key_order.cmp-value).it q)) es → o ≡ lookup (same_key q) es
+found_is order q o es h = h ∙ ap (λ (R : Key → Key → Ordering). lookup (is_at (R q)) es) (one_order order)
+
+pub found_size : (q : Key) (n : ℤ) (most : ℕ) (es seen : List (Key × ℤ)) → Some n ≡ lookup (is_at ((key_order.cmp-value).it q)) es → es ≡ seen → AreWithin most seen → unsigned_abs n ≤ most
+found_size q n most es seen h is within =
+    subst (λ o. unsigned_abs (unwrap_or o (pos 0)) ≤ most) (sym h) (lookup_size q most es (subst (AreWithin most) (sym is) within))
+
+inserted : (rows : List CrifRow) (r : CrifRow) (n : ℤ) → n ≡ net rows r.key +ℤ r.amount → FxRows rows → IsFxKey r.key → insert_entry key_cmp (nets_of rows) r.key n ≡ nets_of (rows ++ r ∷ [])
+inserted rows r n sum h f = nets_of-cons r rows n (f, h) sum ∙ sym (nets_of-push rows r (fx_push rows r h f) (f, h))
+
+-- what writing a row's amount to a net that is there leaves
+pub netted_there : (rows : List CrifRow) (r : CrifRow) (old new : List (Key × ℤ)) (had n : ℤ) → KeyOrder → Some had ≡ lookup (is_at ((key_order.cmp-value).it r.key)) old → new ≡ set_value (is_at ((key_order.cmp-value).it r.key)) old n → old ≡ nets_of rows → n ≡ had +ℤ r.amount → FxRows rows → IsFxKey r.key → new ≡ nets_of (rows ++ r ∷ [])
+netted_there rows r old new had n order found set is sum h f =
+    let there : Some had ≡ lookup (same_key r.key) (nets_of rows) = found_is order r.key (Some had) old found ∙ ap (lookup (same_key r.key)) is in
+    let was : had ≡ net rows r.key = ap (λ o. unwrap_or o (pos 0)) there ∙ net_at-nets_of rows r.key h f in
+    set ∙ ap (λ es. set_value (is_at ((key_order.cmp-value).it r.key)) es n) is
+    ∙ ap (λ (R : Key → Key → Ordering). set_value (is_at (R r.key)) (nets_of rows) n) (one_order order)
+    ∙ set_is_insert (net rows) r.key n (keys_of rows) (keys_ascend rows) (is_there (net rows) r.key had (keys_of rows) there)
+    ∙ inserted rows r n (omega (arith, ints, sum, was)) h f
+
+-- what putting a new key's net into the map leaves
+pub netted_new : (rows : List CrifRow) (r : CrifRow) (old new : List (Key × ℤ)) (k : Key) (n : ℤ) → KeyOrder → None ≡ lookup (is_at ((key_order.cmp-value).it r.key)) old → new ≡ insert_entry (key_order.cmp-value).it old k n → old ≡ nets_of rows → k ≡ r.key → n ≡ r.amount → FxRows rows → IsFxKey r.key → new ≡ nets_of (rows ++ r ∷ [])
+netted_new rows r old new k n order found put is key sum h f =
+    let gone : None ≡ lookup (same_key r.key) (nets_of rows) = found_is order r.key None old found ∙ ap (lookup (same_key r.key)) is in
+    let was : pos 0 ≡ net rows r.key = ap (λ o. unwrap_or o (pos 0)) gone ∙ net_at-nets_of rows r.key h f in
     put ∙ ap (λ es. insert_entry (key_order.cmp-value).it es k n) is ∙ ap (λ l. insert_entry (key_order.cmp-value).it (nets_of rows) l n) key
-    ∙ nets_of-cons r rows n (f, h) sum ∙ sym (nets_of-push rows r (fx_push rows r h f) (f, h))
+    ∙ ap (λ (R : Key → Key → Ordering). insert_entry R (nets_of rows) r.key n) (one_order order)
+    ∙ inserted rows r n (omega (arith, ints, sum, was)) h f
 
 -- ---- rows in front of others
 

@@ -9,54 +9,26 @@ use Rattle.std.specs.BTreeMap.{insert_entry}
 use Rattle.std.proofs.lemmas.Bool.{or_parts}
 use Rattle.std.proofs.lemmas.Int.{ints}
 use Rattle.std.proofs.lemmas.Cmp.{alike_right}
-use Rattle.simm_kinds.specs.declared.kinds.ProductClass.{ProductClass}
-use Rattle.simm_kinds.specs.declared.kinds.ProductClass.TheVariants as product
 use Rattle.simm_kinds.specs.declared.row.CrifRow.{CrifRow}
 use Rattle.simm_kinds.specs.Key.{Key}
 use Rattle.simm_kinds.specs.Order.{same_key, key_cmp}
 use Rattle.simm_kinds.specs.contracts.key.FactorKeyOrd.TheImpl as key_order
 use Rattle.simm_rules.specs.Sums.{total_by, put_in, placed, different}
 use Rattle.simm_rules.specs.Net.{net, keys_of}
-use Rattle.simm_plain.specs.FxKeys.{fx_key, IsFxKey, FxRows}
+use Rattle.simm_plain.specs.FxKeys.{IsFxKey, FxRows}
 use Rattle.simm_plain.specs.Nets.{nets_of, net_at, AreWithin}
 use Rattle.simm_plain.proofs.Filters.{filter_none, each_weaker}
 use Rattle.simm_plain.proofs.Keys.{key_total, same_keys, same_key_refl, same_key_sym}
 use Rattle.simm_plain.specs.Bucket.{Ascends}
 use Rattle.simm_plain.proofs.Nets.{keys_each, keys_ascend}
 
--- ---- the order of a map's keys is that of the rule
+-- ---- entries
 
-fx_order : (p q : ProductClass) (a b : List ℕ) → (key_order.cmp-value).it (fx_key p a) (fx_key q b) ≡ key_cmp (fx_key p a) (fx_key q b)
-fx_order product.RatesFX product.RatesFX a b = refl
-fx_order product.Credit product.Credit a b = refl
-fx_order product.Equity product.Equity a b = refl
-fx_order product.Commodity product.Commodity a b = refl
-fx_order _ _ a b = refl
-
-pub same_order : (k l : Key) → IsFxKey k → IsFxKey l → (key_order.cmp-value).it k l ≡ key_cmp k l
-same_order k l f g =
-    ap (λ x. (key_order.cmp-value).it x l) f ∙ ap (λ y. (key_order.cmp-value).it (fx_key k.product k.qualifier) y) g
-    ∙ fx_order k.product l.product k.qualifier l.qualifier
-    ∙ ap (λ x. key_cmp x (fx_key l.product l.qualifier)) (sym f) ∙ ap (λ y. key_cmp k y) (sym g)
-
-abbrev entry : Key → ℤ → Key × ℤ
+abbrev pub entry : Key → ℤ → Key × ℤ
 entry k n = (k, n)
 
-abbrev valued : (Key → ℤ) → List Key → List (Key × ℤ)
+abbrev pub valued : (Key → ℤ) → List Key → List (Key × ℤ)
 valued v ks = map (λ k. (k, v k)) ks
-
-module _ (cmp : Key → Key → Ordering) where
-  lookup-order : (v : Key → ℤ) (q : Key) (ks : List Key) → AllByRecursion (λ k. cmp q k ≡ key_cmp q k) ks → lookup (λ k. is_eq (cmp q k)) (valued v ks) ≡ lookup (same_key q) (valued v ks)
-  lookup-order v q [] h = refl
-  lookup-order v q (k ∷ ks) h =
-      ap (λ o. cond (is_eq o) (Some (v k)) (lookup (λ k. is_eq (cmp q k)) (valued v ks))) h.0
-      ∙ ap (λ o. cond (same_key q k) (Some (v k)) o) (lookup-order v q ks h.1)
-
-  insert-order : (v : Key → ℤ) (x : Key) (n : ℤ) (ks : List Key) → AllByRecursion (λ k. cmp x k ≡ key_cmp x k) ks → insert_entry cmp (valued v ks) x n ≡ insert_entry key_cmp (valued v ks) x n
-  insert-order v x n [] h = refl
-  insert-order v x n (k ∷ ks) h =
-      ap (λ o. match_ordering o ((x, n) ∷ (k, v k) ∷ valued v ks) ((k, n) ∷ valued v ks) ((k, v k) ∷ insert_entry cmp (valued v ks) x n)) h.0
-      ∙ ap (λ es. match_ordering (key_cmp x k) ((x, n) ∷ (k, v k) ∷ valued v ks) ((k, n) ∷ valued v ks) ((k, v k) ∷ es)) (insert-order v x n ks h.1)
 
 -- ---- which keys there are
 
@@ -133,10 +105,9 @@ module _ (v w : Key → ℤ) (x : Key) (n : ℤ) where
   insert-entries apart alike f [] g s = ap (λ z. entry x z ∷ []) (sym (alike x f (same_key_refl x)))
   insert-entries apart alike f (y ∷ ys) g s = insert_placed apart alike f (key_cmp x y) y ys g.0 s.0 refl (insert-entries apart alike f ys g.1 s.1)
 
-pub nets_of-cons : (r : CrifRow) (rows : List CrifRow) (n : ℤ) → FxRows (r ∷ rows) → n ≡ net rows r.key +ℤ r.amount → insert_entry (key_order.cmp-value).it (nets_of rows) r.key n ≡ nets_of (r ∷ rows)
+pub nets_of-cons : (r : CrifRow) (rows : List CrifRow) (n : ℤ) → FxRows (r ∷ rows) → n ≡ net rows r.key +ℤ r.amount → insert_entry key_cmp (nets_of rows) r.key n ≡ nets_of (r ∷ rows)
 nets_of-cons r rows n h e =
-    insert-order (key_order.cmp-value).it (net rows) r.key n (keys_of rows) (each_weaker IsFxKey (λ k. (key_order.cmp-value).it r.key k ≡ key_cmp r.key k) (λ k g. same_order r.key k h.0 g) (keys_of rows) (keys_each rows h.1))
-    ∙ insert-entries (net rows) (net (r ∷ rows)) r.key n apart alike h.0 (keys_of rows) (keys_each rows h.1) (keys_ascend rows)
+    insert-entries (net rows) (net (r ∷ rows)) r.key n apart alike h.0 (keys_of rows) (keys_each rows h.1) (keys_ascend rows)
   where
     apart : (k : Key) → same_key r.key k ≡ false → net (r ∷ rows) k ≡ net rows k
     apart k f = ap (λ t. total_by (λ r. r.amount) (cond t (r ∷ filter (λ r. same_key r.key k) rows) (filter (λ r. same_key r.key k) rows))) f
@@ -145,11 +116,6 @@ nets_of-cons r rows n h e =
     alike k g t =
         ap (λ s. total_by (λ r. r.amount) (cond s (r ∷ filter (λ r. same_key r.key k) rows) (filter (λ r. same_key r.key k) rows))) t
         ∙ ap (λ l. r.amount +ℤ net rows l) (sym (same_keys r.key k h.0 g t)) ∙ omega (arith, ints, e)
-
-pub lookup-nets_of : (rows : List CrifRow) (q : Key) → FxRows rows → IsFxKey q → unwrap_or (lookup (λ k. is_eq ((key_order.cmp-value).it q k)) (nets_of rows)) (pos 0) ≡ net rows q
-lookup-nets_of rows q h f =
-    ap (λ o. unwrap_or o (pos 0)) (lookup-order (key_order.cmp-value).it (net rows) q (keys_of rows) (each_weaker IsFxKey (λ k. (key_order.cmp-value).it q k ≡ key_cmp q k) (λ k g. same_order q k f g) (keys_of rows) (keys_each rows h)))
-    ∙ net_at-nets_of rows q h f
 
 -- ---- sizes
 

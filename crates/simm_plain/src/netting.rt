@@ -1,8 +1,7 @@
-ghost use Rattle.std.specs.Prelude.{◌≡◌, ◌∷◌, ◌++◌, ◌*◌, ◌^◌, ◌≤◌, List, [], true, map, count_by, IfOk, OnOk, length, not, unsigned_abs};
+ghost use Rattle.std.specs.Prelude.{◌≡◌, ◌∷◌, ◌++◌, ◌*◌, ◌^◌, ◌≤◌, List, [], true, map, count_by, IfOk, OnOk, length, not};
 ghost use Rattle.simm_kinds.specs.declared.row.CrifRow.{CrifRow as Row};
 ghost use Rattle.simm_kinds.specs.Order.{same_product, same_kind};
-ghost use Rattle.simm_rules.specs.Net.{net, is_own_currency};
-ghost use Rattle.simm_plain.specs.FxKeys.{IsFxKey, FxRows};
+ghost use Rattle.simm_rules.specs.Net.{is_own_currency};
 ghost use Rattle.simm_plain.specs.Bucket.{factors};
 ghost use Rattle.simm_plain.specs.Entries.{entries};
 ghost use Rattle.simm_plain.specs.Lent.{all_rows};
@@ -10,7 +9,7 @@ ghost use Rattle.simm_plain.specs.Nets.{nets_of, IsRow, AreRows, AreWithin};
 
 use crate::lent::LentRows;
 use crate::net::Net;
-use simm_kinds::{CrifRow, FactorKey, ProductClass, RiskType};
+use simm_kinds::{CrifRow, FactorKey, ProductClass, RiskType, orders_are_defined};
 use simm_params::Params;
 use std::alloc::{AllocError, Global};
 use std::collections::BTreeMap;
@@ -73,7 +72,7 @@ impl Nets {
     ) -> Result<Vec<Net<'a>>, AllocError>
         ensures { IfOk result (λ found. entries found.items ≡ factors params.now product self.now) }
     {
-        let mut found = Vec::new(alloc);
+        let mut found = Vec::with_capacity(alloc, self.by_key.len())?;
         for (key, amount) in &self.by_key {
             if has_product(key, product) && is_risky(key, params) {
                 found.push(Net {
@@ -93,7 +92,7 @@ impl Nets {
         }
     }
 
-    // Adds a row. For want of memory nothing changes.
+    // Adds a row. Its key is copied where it is new.
     fn add(&mut self, alloc: Global, row: &CrifRow) -> Result<(), AllocError>
         requires { AreWithin (2 ^ 100) self.old }
         ensures value { (rows : List Row) → self.old ≡ nets_of rows → AreRows rows →
@@ -101,19 +100,19 @@ impl Nets {
         ensures row { IsRow row.now }
     {
         row.key.facts();
-        let net = self.net(&row.key) + i128::from(row.amount);
-        let key = row.key.copy(alloc)?;
-        self.by_key.insert(key, net)?;
-        Ok(())
-    }
-
-    // The net sensitivity to a key, 0 where it has none.
-    fn net(&self, key: &FactorKey) -> i128
-        ensures value { (rows : List Row) → self.now ≡ nets_of rows → FxRows rows → IsFxKey key.now →
-            result ≡ net rows key.now }
-        ensures size { AreWithin (2 ^ 100) self.now → unsigned_abs result ≤ 2 ^ 100 }
-    {
-        self.by_key.get(key).copied().unwrap_or(0)
+        orders_are_defined();
+        let amount = i128::from(row.amount);
+        match self.by_key.get_mut(&row.key) {
+            Some(net) => {
+                *net += amount;
+                Ok(())
+            }
+            None => {
+                let key = row.key.copy(alloc)?;
+                self.by_key.insert(key, amount)?;
+                Ok(())
+            }
+        }
     }
 }
 

@@ -22,7 +22,7 @@ one = pos 1000000
 abbrev pub cr : ℤ → ℤ → ℤ
 cr x T = int_max one (root (up (pos (unsigned_abs x) *ℤ pos (10 ^ 12)) T))
 
--- the least number from 0 on that is so: c * c * T is at least |x| * 10^12
+-- the least number from 1 on with c * c * T at least |x| * 10^12
 pub record IsConcentration (x T c : ℤ) : Type 0 where
   pub not_below_one : one ≤ℤ c
   pub enough : (pos (unsigned_abs x) *ℤ pos (10 ^ 12)) ≤ℤ (c *ℤ c *ℤ T)
