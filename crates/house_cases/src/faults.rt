@@ -190,6 +190,29 @@ fn cut_text(rt: HostRuntime) -> Result<(), Fail> {
     Ok(())
 }
 
+// The same with a fault's line, of which the status stays.
+#[test]
+fn cut_fault_line(rt: HostRuntime) -> Result<(), Fail> {
+    let alloc = rt.alloc();
+    let line = "FAULT\tFIND\tabsent\n";
+    for (put, _) in line.bytes().enumerate() {
+        let setup = Setup {
+            sink_most: 1,
+            failing_put: put as u64 + 1,
+            ..WELL
+        };
+        let words = ["calc", "params", "absent"];
+        let outcome = run(alloc, &words, PARAMS.as_bytes(), HEADER.as_bytes(), setup)?;
+        assert_eq!(rt; outcome.status, Status::Find, "at {put}");
+        assert_eq!(rt; outcome.text.len(), put);
+        assert!(rt;
+            line.as_bytes().starts_with(outcome.text.as_slice()),
+            "at {put}"
+        );
+    }
+    Ok(())
+}
+
 // A file of one byte more than is read, in either place.
 #[test]
 fn too_long(rt: HostRuntime) -> Result<(), Fail> {

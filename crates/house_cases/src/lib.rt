@@ -4,6 +4,8 @@
 #[cfg(test)]
 mod calculations;
 #[cfg(test)]
+mod example;
+#[cfg(test)]
 mod faults;
 #[cfg(test)]
 mod house;

@@ -1,3 +1,4 @@
+use crate::example;
 use crate::house::{Outcome, PARAMS, one, strings};
 use margin_top::{Status, margin_house};
 use mh_io::{MemFolder, MemSink};
@@ -30,15 +31,22 @@ haircuts = {}
 holidays = []
 "#;
 
-/// The call at which the feed fails, the most bytes that the sink takes at once, and its call that fails; 0 for none.
+/// What fails: a find, and a call of each file's source and of the sink, 0 for none; and the most bytes that the sink
+/// takes at once.
 #[derive(Clone, Copy)]
 struct Trouble {
+    find: u64,
+    params: u64,
+    terms: u64,
     feed: u64,
     sink_most: usize,
     put: u64,
 }
 
 const NONE: Trouble = Trouble {
+    find: 0,
+    params: 0,
+    terms: 0,
     feed: 0,
     sink_most: 65_536,
     put: 0,
@@ -52,11 +60,23 @@ fn run(
     feed: &str,
     trouble: Trouble,
 ) -> Result<Outcome, Fail> {
-    let mut folder = MemFolder::new(Vec::new(alloc));
-    let params = Bytes::from_vec(PARAMS.as_bytes().to_vec(alloc)?);
-    folder.add(alloc, "params", params, 7, Vec::new(alloc))?;
+    run_with(alloc, words, PARAMS, terms, feed, trouble)
+}
+
+/// The same with these parameters.
+fn run_with(
+    alloc: Global,
+    words: &[&str],
+    params: &str,
+    terms: &str,
+    feed: &str,
+    trouble: Trouble,
+) -> Result<Outcome, Fail> {
+    let mut folder = MemFolder::new(one(alloc, trouble.find)?);
+    let params = Bytes::from_vec(params.as_bytes().to_vec(alloc)?);
+    folder.add(alloc, "params", params, 7, one(alloc, trouble.params)?)?;
     let terms = Bytes::from_vec(terms.as_bytes().to_vec(alloc)?);
-    folder.add(alloc, "terms", terms, 7, Vec::new(alloc))?;
+    folder.add(alloc, "terms", terms, 7, one(alloc, trouble.terms)?)?;
     let feed = Bytes::from_vec(feed.as_bytes().to_vec(alloc)?);
     folder.add(alloc, "feed", feed, 65_536, one(alloc, trouble.feed)?)?;
     let mut out = MemSink::new(alloc, 4096, trouble.sink_most, one(alloc, trouble.put)?)?;
@@ -66,6 +86,22 @@ fn run(
         status,
         text: out.bytes().to_vec(alloc)?,
     })
+}
+
+// The files in `examples/` print just what docs/FORMATS.md shows.
+#[test]
+fn a_trade_that_comes_is_asked_about_and_goes(rt: HostRuntime) -> Result<(), Fail> {
+    let outcome = run_with(
+        rt.alloc(),
+        &RUN,
+        example::PARAMS,
+        example::TERMS,
+        example::FEED,
+        NONE,
+    )?;
+    assert_eq!(rt; outcome.status, Status::Done);
+    assert_eq!(rt; outcome.text.as_slice(), example::PRINTED.as_bytes());
+    Ok(())
 }
 
 /// One trade of one euro row, in the first four lines of a feed.
@@ -176,6 +212,28 @@ fn faults_before_the_feed(rt: HostRuntime) -> Result<(), Fail> {
     let alloc = rt.alloc();
     for (words, terms, status, text) in FAULTS {
         let outcome = run(alloc, words, terms, BLOCK, NONE)?;
+        assert_eq!(rt; outcome.status, status, "at {text}");
+        assert_eq!(rt; outcome.text.as_slice(), text.as_bytes(), "at {text}");
+    }
+    Ok(())
+}
+
+/// Finds and reads that fail before the feed runs, each with the line of the file.
+const FAILING: [(Trouble, Status, &str); 7] = [
+    (Trouble { find: 1, ..NONE }, Status::Find, "FAULT\tFIND\tparams\n"),
+    (Trouble { find: 2, ..NONE }, Status::Find, "FAULT\tFIND\tterms\n"),
+    (Trouble { find: 3, ..NONE }, Status::Find, "FAULT\tFIND\tfeed\n"),
+    (Trouble { params: 1, ..NONE }, Status::Read, "FAULT\tREAD\tparams\n"),
+    (Trouble { params: 2, ..NONE }, Status::Read, "FAULT\tREAD\tparams\n"),
+    (Trouble { terms: 1, ..NONE }, Status::Read, "FAULT\tREAD\tterms\n"),
+    (Trouble { terms: 2, ..NONE }, Status::Read, "FAULT\tREAD\tterms\n"),
+];
+
+#[test]
+fn files_that_fail(rt: HostRuntime) -> Result<(), Fail> {
+    let alloc = rt.alloc();
+    for (trouble, status, text) in FAILING {
+        let outcome = run(alloc, &RUN, TERMS, BLOCK, trouble)?;
         assert_eq!(rt; outcome.status, status, "at {text}");
         assert_eq!(rt; outcome.text.as_slice(), text.as_bytes(), "at {text}");
     }

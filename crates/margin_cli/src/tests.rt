@@ -2,12 +2,13 @@ use margin_top::Status;
 use simm_rules::RangeKind;
 
 // The exit status of each way to end.
-const CODES: [(Status, u8); 8] = [
+const CODES: [(Status, u8); 9] = [
     (Status::Done, 0),
     (Status::Words, 2),
     (Status::Params, 3),
     (Status::Terms, 4),
     (Status::Find, 5),
+    (Status::Feed, 6),
     (Status::Read, 7),
     (Status::Write, 8),
     (Status::Memory, 9),
