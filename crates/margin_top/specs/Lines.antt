@@ -1,8 +1,9 @@
 -- The one line that is printed where a command ends with a fault.
-use Rattle.std.specs.Prelude.{ℕ, List, [], ◌++◌, codes, decimal}
+use Rattle.std.specs.Prelude.{ℕ, List, [], ◌∷◌, ◌++◌, Option, Some, None, codes, decimal}
 use Rattle.std.specs.Fmt.{signed_decimal}
 use Rattle.csa_terms.specs.declared.fault.TermsFault.{TermsFault}
 use Rattle.csa_terms.specs.declared.fault.TermsFault.TheVariants as terms
+use Rattle.csa_terms.specs.Faults.{terms_fault_number}
 use Rattle.margin_text.specs.Fields.{field, last_field}
 
 abbrev pub words_fault : List ℕ
@@ -27,14 +28,21 @@ read_fault name = codes "FAULT\tREAD\t" ++ last_field name
 abbrev pub long_fault : List ℕ → List ℕ
 long_fault name = codes "FAULT\tLONG\t" ++ last_field name
 
--- a fault of the terms file with its number, and its path, value, name or count
+-- what stands behind a terms fault's number: its path, value, name or count
+abbrev pub terms_fields : TermsFault → List ℕ
+terms_fields (terms.Missing path) = 9 ∷ last_field path
+terms_fields (terms.BadNumber path) = 9 ∷ last_field path
+terms_fields (terms.OutOfRange path value) = 9 ∷ field path ++ last_field (signed_decimal value)
+terms_fields (terms.DuplicateSet name) = 9 ∷ last_field name
+terms_fields (terms.BadDate path) = 9 ∷ last_field path
+terms_fields (terms.TooManySets count) = 9 ∷ last_field (decimal count)
+terms_fields (terms.BadName path) = 9 ∷ last_field path
+terms_fields _ = last_field []
+
+-- a fault of the terms file with its number; for want of memory there is no line
+abbrev pub numbered_fault : Option ℕ → List ℕ → List ℕ
+numbered_fault None fields = []
+numbered_fault (Some number) fields = codes "FAULT\tTERMS\t" ++ decimal number ++ fields
+
 abbrev pub terms_fault : TermsFault → List ℕ
-terms_fault terms.Toml = codes "FAULT\tTERMS\t1\n"
-terms_fault (terms.Missing path) = codes "FAULT\tTERMS\t2\t" ++ last_field path
-terms_fault (terms.BadNumber path) = codes "FAULT\tTERMS\t3\t" ++ last_field path
-terms_fault (terms.OutOfRange path value) = codes "FAULT\tTERMS\t4\t" ++ field path ++ last_field (signed_decimal value)
-terms_fault (terms.DuplicateSet name) = codes "FAULT\tTERMS\t5\t" ++ last_field name
-terms_fault (terms.BadDate path) = codes "FAULT\tTERMS\t6\t" ++ last_field path
-terms_fault (terms.TooManySets count) = codes "FAULT\tTERMS\t7\t" ++ last_field (decimal count)
-terms_fault (terms.BadName path) = codes "FAULT\tTERMS\t8\t" ++ last_field path
-terms_fault terms.Memory = []
+terms_fault e = numbered_fault (terms_fault_number e) (terms_fields e)

@@ -1,6 +1,6 @@
-ghost use Rattle.std.specs.Prelude.{◌≡◌, ◌≢◌, ◌++◌, IfOk, OnOk};
+ghost use Rattle.std.specs.Prelude.{◌≡◌, ◌≢◌, ◌∷◌, ◌++◌, IfOk, OnOk};
 ghost use Rattle.margin_text.specs.Fields.{last_field};
-ghost use Rattle.margin_top.specs.Lines.{terms_fault};
+ghost use Rattle.margin_top.specs.Lines.{terms_fields, terms_fault};
 ghost use Rattle.csa_terms.specs.declared.fault.TermsFault.TheVariants as terms;
 
 use csa_terms::TermsFault;
@@ -16,50 +16,49 @@ pub(crate) fn terms_line(alloc: Global, fault: &TermsFault) -> Result<Text, Allo
     ensures line { IfOk result (λ line. line ≡ terms_fault fault.now) }
     ensures refused { OnOk result (fault.now ≢ terms.Memory) }
 {
+    let Some(number) = fault.number() else {
+        return Err(AllocError);
+    };
+    let head = format!(in alloc; "FAULT\tTERMS\t{number}")?;
+    let mut line = Text::from_vec(head.into_bytes());
+    push_fields(alloc, &mut line, fault)?;
+    Ok(line)
+}
+
+/// Adds what stands behind a fault's number, up to the end of the line.
+fn push_fields(alloc: Global, line: &mut Text, fault: &TermsFault) -> Result<(), AllocError>
+    ensures { OnOk result (line.new ≡ line.old ++ terms_fields fault.now) }
+{
     match fault {
-        TermsFault::Toml => line_of(alloc, b"FAULT\tTERMS\t1\n"),
-        TermsFault::Missing(path) => named_line(alloc, b"FAULT\tTERMS\t2\t", path.as_slice()),
-        TermsFault::BadNumber(path) => named_line(alloc, b"FAULT\tTERMS\t3\t", path.as_slice()),
-        TermsFault::OutOfRange(path, value) => range_line(alloc, path, *value),
-        TermsFault::DuplicateSet(name) => named_line(alloc, b"FAULT\tTERMS\t5\t", name.bytes()),
-        TermsFault::BadDate(path) => named_line(alloc, b"FAULT\tTERMS\t6\t", path.as_slice()),
-        TermsFault::TooManySets(count) => count_line(alloc, *count),
-        TermsFault::BadName(path) => named_line(alloc, b"FAULT\tTERMS\t8\t", path.as_slice()),
-        TermsFault::Memory => Err(AllocError),
+        TermsFault::Missing(path)
+        | TermsFault::BadNumber(path)
+        | TermsFault::BadDate(path)
+        | TermsFault::BadName(path) => push_last(line, path.as_slice()),
+        TermsFault::DuplicateSet(name) => push_last(line, name.bytes()),
+        TermsFault::OutOfRange(path, value) => push_range(alloc, line, path, *value),
+        TermsFault::TooManySets(count) => {
+            let number = format!(in alloc; "{count}")?;
+            push_last(line, number.as_bytes())
+        }
+        TermsFault::Toml | TermsFault::Memory => line.push(b'\n'),
     }
 }
 
-fn line_of(alloc: Global, bytes: &[u8]) -> Result<Text, AllocError>
-    ensures { IfOk result (λ line. line ≡ bytes.now) }
+/// Adds a tab and the last field of the line.
+fn push_last(line: &mut Text, bytes: &[u8]) -> Result<(), AllocError>
+    ensures { OnOk result (line.new ≡ line.old ++ 9 ∷ last_field bytes.now) }
 {
-    let mut line = Text::new(alloc);
-    line.extend(bytes)?;
-    Ok(line)
-}
-
-fn named_line(alloc: Global, fields: &[u8], name: &[u8]) -> Result<Text, AllocError>
-    ensures { IfOk result (λ line. line ≡ fields.now ++ last_field name.now) }
-{
-    let mut line = line_of(alloc, fields)?;
-    line.extend(name)?;
-    line.push(b'\n')?;
-    Ok(line)
-}
-
-fn range_line(alloc: Global, path: &Text, value: i128) -> Result<Text, AllocError>
-    ensures { IfOk result (λ line. line ≡ terms_fault (terms.OutOfRange path.now value)) }
-{
-    let mut line = line_of(alloc, b"FAULT\tTERMS\t4\t")?;
-    line.extend(path.as_slice())?;
     line.push(b'\t')?;
-    let number = format!(in alloc; "{value}\n")?;
-    line.extend(number.as_bytes())?;
-    Ok(line)
+    line.extend(bytes)?;
+    line.push(b'\n')
 }
 
-fn count_line(alloc: Global, count: usize) -> Result<Text, AllocError>
-    ensures { IfOk result (λ line. line ≡ terms_fault (terms.TooManySets count)) }
+/// Adds the fields of a number that is out of its range.
+fn push_range(alloc: Global, line: &mut Text, path: &Text, value: i128) -> Result<(), AllocError>
+    ensures { OnOk result (line.new ≡ line.old ++ terms_fields (terms.OutOfRange path.now value)) }
 {
-    let line = format!(in alloc; "FAULT\tTERMS\t7\t{count}\n")?;
-    Ok(Text::from_vec(line.into_bytes()))
+    line.push(b'\t')?;
+    line.extend(path.as_slice())?;
+    let number = format!(in alloc; "{value}")?;
+    push_last(line, number.as_bytes())
 }
