@@ -1,5 +1,5 @@
 -- The book of a live margin stays one: after a batch that is in range, and without some of its trades.
-use Rattle.std.proofs.Common.{◌≡◌, ℕ, ◌≤◌, List, [], ◌∷◌, ◌++◌, length, Option, Some, None, Bool, true, false, not, ◌||◌, ◌==◌, cond, if◌then◌else◌, nat_lt, refl, ap, arith}
+use Rattle.std.proofs.Common.{◌≡◌, ℕ, ◌≤◌, List, [], ◌∷◌, length, Option, Some, None, Bool, true, false, not, ◌||◌, ◌==◌, cond, if◌then◌else◌, nat_lt, refl, ap, sym, ◌∙◌, arith}
 use Rattle.std.specs.List.{list_all, list_any, filter}
 use Rattle.std.proofs.lemmas.Bool.{or_parts, and_parts, and_from, ltb-false}
 use Rattle.simm_kinds.specs.declared.fault.MakeFault.TheVariants as fault
@@ -11,15 +11,10 @@ use Rattle.simm_kinds.specs.Order.{same_name, same_key}
 use Rattle.simm_kinds.specs.Repeats.{repeats}
 use Rattle.simm_rules.specs.Params.{Params}
 use Rattle.simm_rules.specs.Range.{range}
-use Rattle.simm_params.specs.Facts.{IsParams}
-use Rattle.simm_plain.specs.FxKeys.{FxRows}
 use Rattle.simm_plain.specs.Nets.{AreRows}
-use Rattle.simm_plain.proofs.Filters.{each_passes}
-use Rattle.simm_plain.proofs.Fewer.{IsPart, done, skip, keep, no_part, front_part, range-part}
-use Rattle.simm_plain.proofs.Keys.{fx_rows_from}
 use Rattle.bucket_cache.specs.Live.{put_trades, without, IsLive}
 use Rattle.bucket_cache.specs.Entries.{names_of, trade_of, trades_of}
-use Rattle.bucket_cache.proofs.Puts.{all_puts, count_puts}
+use Rattle.bucket_cache.proofs.Puts.{all_rows_of, all_puts, count_puts}
 use Rattle.bucket_cache.proofs.Sizes.{few_rows, trades_within}
 
 -- ---- batches
@@ -74,37 +69,26 @@ keys_pass (r ∷ rows) h = and_from (is_key r.key) (list_all (λ x. is_key x.key
 
 -- ---- without some trades
 
-all-part : {X : Type 0} (test : X → Bool) (xs ys : List X) → IsPart xs ys → list_all test ys ≡ true → list_all test xs ≡ true
-all-part test _ _ done h = h
-all-part test _ _ (skip y xs ys s) h = all-part test xs ys s (and_parts (test y) (list_all test ys) h).1
-all-part test _ _ (keep x xs ys s) h =
-    let parts = and_parts (test x) (list_all test ys) h in and_from (test x) (list_all test xs) parts.0 (all-part test xs ys s parts.1)
+all_kept : {X : Type 0} (test keep : X → Bool) (xs : List X) → list_all test xs ≡ true → list_all test (filter keep xs) ≡ true
+all_kept test keep [] h = h
+all_kept test keep (x ∷ xs) h =
+    let parts = and_parts (test x) (list_all test xs) h in at (keep x) parts.0 (all_kept test keep xs parts.1)
+  where
+    at : (b : Bool) → test x ≡ true → list_all test (filter keep xs) ≡ true → list_all test (cond b (x ∷ filter keep xs) (filter keep xs)) ≡ true
+    at true passes rest = and_from (test x) (list_all test (filter keep xs)) passes rest
+    at false passes rest = rest
 
-kept_part : {X : Type 0} (b : Bool) (x : X) (xs ys : List X) → IsPart xs ys → IsPart (cond b (x ∷ xs) xs) (x ∷ ys)
-kept_part true x xs ys h = keep x xs ys h
-kept_part false x xs ys h = skip x xs ys h
+-- some trades of a book in range are in range
+abbrev FewerInRange : Params → Type 0
+FewerInRange p = (test : TradeRows → Bool) (ts : List TradeRows) → list_all (λ r. is_key r.key) (rows_of ts) ≡ true → range p (rows_of ts) ≡ None → range p (rows_of (filter test ts)) ≡ None
 
-filter_part : {X : Type 0} (test : X → Bool) (xs : List X) → IsPart (filter test xs) xs
-filter_part test [] = done
-filter_part test (x ∷ xs) = kept_part (test x) x (filter test xs) xs (filter_part test xs)
-
-kept_rows : (b : Bool) (t : TradeRows) (ts us : List TradeRows) → IsPart (rows_of ts) (rows_of us) → IsPart (rows_of (cond b (t ∷ ts) ts)) (t.rows ++ rows_of us)
-kept_rows true t ts us h = front_part t.rows (rows_of ts) (rows_of us) h
-kept_rows false t ts us h = no_part t.rows (rows_of ts) (rows_of us) h
-
-rows_part : (test : TradeRows → Bool) (ts : List TradeRows) → IsPart (rows_of (filter test ts)) (rows_of ts)
-rows_part test [] = done
-rows_part test (t ∷ ts) = kept_rows (test t) t (filter test ts) ts (rows_part test ts)
-
-pub live_without : (p : Params) (names : List (List ℕ)) (us : List TradeRows) → IsParams p → IsLive p us → IsLive p (without names us)
-live_without p names us facts live =
+pub live_without : (p : Params) (names : List (List ℕ)) (us : List TradeRows) → FewerInRange p → IsLive p us → IsLive p (without names us)
+live_without p names us fewer live =
     let kept : TradeRows → Bool = λ t. not (list_any (same_name t.trade) names) in
-    let part : IsPart (rows_of (filter kept us)) (rows_of us) = rows_part kept us in
-    let fx : FxRows (rows_of us) = fx_rows_from (rows_of us) (each_passes (λ (r : CrifRow). is_key r.key) (λ r. is_key r.key ≡ true) (λ r h. h) (rows_of us) live.keys) in
     record {
-      keys = all-part (λ (r : CrifRow). is_key r.key) (rows_of (filter kept us)) (rows_of us) part live.keys;
-      filled = all-part (λ (t : TradeRows). not (length t.rows == 0)) (filter kept us) us (filter_part kept us) live.filled;
-      in_range = range-part p (rows_of (filter kept us)) (rows_of us) facts part fx live.in_range;
+      keys = all_rows_of (λ (r : CrifRow). is_key r.key) (filter kept us) ∙ all_kept (λ t. list_all (λ r. is_key r.key) t.rows) kept us (sym (all_rows_of (λ (r : CrifRow). is_key r.key) us) ∙ live.keys);
+      filled = all_kept (λ (t : TradeRows). not (length t.rows == 0)) kept us live.filled;
+      in_range = fewer kept us live.keys live.in_range;
     }
 
 kept_entry : (s b : Bool) (e : List ℕ × List CrifRow) (es : List (List ℕ × List CrifRow)) (us : List TradeRows) → s ≡ b → trades_of es ≡ us → trades_of (cond (not s) (e ∷ es) es) ≡ cond (not b) (trade_of e ∷ us) us

@@ -11,10 +11,10 @@ use Rattle.std.proofs.lemmas.List.Folds.{list_any-append}
 use Rattle.indexmap.specs.IndexSet.{insert_key}
 use Rattle.std.proofs.lemmas.Cmp.{nat_list_cmp_total, tied_itself}
 use Rattle.std.proofs.lemmas.Map.Lookups.{exact_bytes}
+use Rattle.std.proofs.lemmas.Map.Views.{tells_apart}
 use Rattle.simm_kinds.specs.declared.row.CrifRow.{CrifRow}
 use Rattle.simm_kinds.specs.declared.row.TradeRows.{TradeRows}
-use Rattle.simm_kinds.specs.Order.{same_name, name_cmp}
-use Rattle.simm_plain.proofs.Keys.{is_equal}
+use Rattle.simm_kinds.specs.Order.{same_name}
 use Rattle.bucket_cache.specs.Live.{name_at, rows_named, is_current}
 use Rattle.bucket_cache.specs.Entries.{trade_of, trades_of, row_lists, is_among}
 
@@ -22,7 +22,11 @@ pub same_name-refl : (a : List ℕ) → same_name a a ≡ true
 same_name-refl a = ap is_eq (tied_itself nat_list_cmp_total a)
 
 pub same_name-equal : (a b : List ℕ) → same_name a b ≡ true → a ≡ b
-same_name-equal a b h = exact_bytes a b (is_equal (name_cmp a b) h)
+same_name-equal a b h = tells_apart exact_bytes a b h
+
+pub none_found : {A : Type 0} (o : Option A) → is_some o ≡ false → o ≡ None
+none_found None h = refl
+none_found (Some x) h = absurd (cc)
 
 -- the test of a map's keys
 pub key_test : (a b : List ℕ) → pointwise ◌==◌ a b ≡ same_name a b

@@ -184,11 +184,6 @@ pub all_rows_of : (test : CrifRow → Bool) (ts : List TradeRows) → list_all t
 all_rows_of test [] = refl
 all_rows_of test (t ∷ ts) = list_all-append test t.rows (rows_of ts) ∙ ap (λ b. list_all test t.rows && b) (all_rows_of test ts)
 
--- each row of the batch and of the book passes, so each afterwards does
-pub rows_pass : (test : CrifRow → Bool) (ts us : List TradeRows) → list_all test (rows_of ts) ≡ true → list_all test (rows_of us) ≡ true → list_all test (rows_of (put_trades ts us)) ≡ true
-rows_pass test ts us a h =
-    all_rows_of test (put_trades ts us) ∙ all_puts (list_all test) ts us (sym (all_rows_of test ts) ∙ a) (sym (all_rows_of test us) ∙ h)
-
 -- ---- how many rows
 
 count_head : (b : Bool) (t u : TradeRows) (us rest : List TradeRows) → length (rows_of rest) ≤ length t.rows + length (rows_of us) → length (rows_of (if b then record u { rows = t.rows } ∷ us else u ∷ rest)) ≤ length t.rows + length (rows_of (u ∷ us))

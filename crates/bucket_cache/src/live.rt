@@ -14,7 +14,7 @@ use crate::lending::{lend_after, lend_current};
 use indexmap::IndexMap;
 use simm_kinds::{CrifRow, Listed, Name, TradeRows};
 use simm_params::Params;
-use simm_plain::{margin_in_range, range_fault};
+use simm_plain::{fewer_are_in_range, margin_in_range, range_fault};
 use simm_rules::{Breakdown, RangeFault};
 use std::alloc::{AllocError, Global};
 use std::marker::Model;
@@ -91,7 +91,7 @@ impl LiveMargin {
             return Err(WithdrawFault::UnknownTrade { place });
         }
         let named = set_of(alloc, names)?;
-        self.params.facts();
+        fewer_are_in_range(&self.params);
         keep_others(&mut self.trades, &named);
         Ok(())
     }

@@ -4,7 +4,7 @@ use Rattle.std.specs.List.{filter, AllByRecursion}
 use Rattle.std.proofs.lemmas.Bool.{true≢false, false≢true, or_parts, or_from}
 use Rattle.std.proofs.lemmas.List.{map-append}
 use Rattle.std.proofs.lemmas.List.Folds.{list_any-append}
-use Rattle.simm_plain.proofs.Filters.{filter_agrees, filter_every, each_always, each_weaker, each_kept}
+use Rattle.set_core.proofs.Filters.{filter_agrees, filter_every, each_always, each_weaker, each_kept}
 use Rattle.simm_kinds.specs.declared.row.TradeRows.{TradeRows}
 use Rattle.simm_kinds.specs.Order.{same_name}
 use Rattle.held_cell.specs.declared.entry.Entry.{Entry}

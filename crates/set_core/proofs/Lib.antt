@@ -1,3 +1,4 @@
+pub mod Filters
 pub mod Names
 pub mod Words
 pub mod Puts

@@ -4,7 +4,7 @@ use Rattle.std.specs.Prelude.{sum_by}
 use Rattle.std.specs.declared.cmp.Ordering.{Ordering}
 use Rattle.std.specs.declared.cmp.Ordering.TheVariants.{Less, Equal, Greater}
 use Rattle.std.specs.Ordering.{is_eq, ordering_reverse}
-use Rattle.std.specs.List.{filter, list_any, AllByRecursion}
+use Rattle.std.specs.List.{filter, list_any, list_all, AllByRecursion}
 use Rattle.std.proofs.lemmas.Bool.{false≢true}
 use Rattle.std.proofs.lemmas.Int.{ints}
 use Rattle.std.proofs.lemmas.Cmp.{alike_right}
@@ -15,7 +15,9 @@ use Rattle.simm_kinds.specs.declared.kinds.ProductClass.TheVariants as product
 use Rattle.simm_kinds.specs.declared.kinds.RiskClass.TheVariants as class
 use Rattle.simm_kinds.specs.declared.kinds.Measure.TheVariants as measure
 use Rattle.simm_kinds.specs.declared.row.CrifRow.{CrifRow}
-use Rattle.simm_kinds.specs.Key.{Key}
+use Rattle.simm_kinds.specs.declared.row.TradeRows.{TradeRows}
+use Rattle.simm_kinds.specs.Batch.{rows_of}
+use Rattle.simm_kinds.specs.Key.{Key, is_key}
 use Rattle.simm_kinds.specs.Order.{same_product, same_key, key_cmp}
 use Rattle.simm_rules.specs.declared.values.RangeFault.{RangeFault}
 use Rattle.simm_rules.specs.declared.values.RangeKind.{RangeKind}
@@ -30,8 +32,8 @@ use Rattle.simm_params.specs.Facts.{IsParams}
 use Rattle.simm_plain.specs.FxKeys.{IsFxKey, FxRows}
 use Rattle.simm_plain.specs.Bucket.{Ascends}
 use Rattle.simm_plain.specs.Faults.{either_first}
-use Rattle.simm_plain.proofs.Filters.{each_weaker}
-use Rattle.simm_plain.proofs.Keys.{key_total, tied_keys, same_key_refl, is_equal}
+use Rattle.simm_plain.proofs.Filters.{each_weaker, each_passes}
+use Rattle.simm_plain.proofs.Keys.{key_total, tied_keys, same_key_refl, is_equal, fx_rows_from}
 use Rattle.simm_plain.proofs.Nets.{keys_each, keys_ascend}
 use Rattle.simm_plain.proofs.NetMaps.{any_different}
 use Rattle.simm_plain.proofs.Appending.{no_key, past}
@@ -42,20 +44,16 @@ use Rattle.simm_plain.proofs.Whole.{none_first, none_each}
 
 -- ---- a list without some items of another
 
-pub data IsPart {X : Type 0} : List X → List X → Type 0 where
+data IsPart {X : Type 0} : List X → List X → Type 0 where
   done : IsPart [] []
   skip : (y : X) (xs ys : List X) → IsPart xs ys → IsPart xs (y ∷ ys)
   keep : (x : X) (xs ys : List X) → IsPart xs ys → IsPart (x ∷ xs) (x ∷ ys)
 
-pub whole_part : {X : Type 0} (xs : List X) → IsPart xs xs
-whole_part [] = done
-whole_part (x ∷ xs) = keep x xs xs (whole_part xs)
-
-pub no_part : {X : Type 0} (xs ys zs : List X) → IsPart ys zs → IsPart ys (xs ++ zs)
+no_part : {X : Type 0} (xs ys zs : List X) → IsPart ys zs → IsPart ys (xs ++ zs)
 no_part [] ys zs h = h
 no_part (x ∷ xs) ys zs h = skip x ys (xs ++ zs) (no_part xs ys zs h)
 
-pub front_part : {X : Type 0} (xs ys zs : List X) → IsPart ys zs → IsPart (xs ++ ys) (xs ++ zs)
+front_part : {X : Type 0} (xs ys zs : List X) → IsPart ys zs → IsPart (xs ++ ys) (xs ++ zs)
 front_part [] ys zs h = h
 front_part (x ∷ xs) ys zs h = keep x (xs ++ ys) (xs ++ zs) (front_part xs ys zs h)
 
@@ -185,7 +183,7 @@ four_none : {A : Type 0} (a b c d : Option A) → a ≡ None → b ≡ None → 
 four_none a b c d ea eb ec ed =
     ap (λ o. either_first o (either_first b (either_first c d))) ea ∙ ap (λ o. either_first o (either_first c d)) eb ∙ ap (λ o. either_first o d) ec ∙ ed
 
-pub range-part : (p : Params) (xs ys : List CrifRow) → IsParams p → IsPart xs ys → FxRows ys → range p ys ≡ None → range p xs ≡ None
+range-part : (p : Params) (xs ys : List CrifRow) → IsParams p → IsPart xs ys → FxRows ys → range p ys ≡ None → range p xs ≡ None
 range-part p xs ys facts h fx none =
     let one = none_first (row_fault ys) (either_first (key_fault ys) (either_first (first_some (map (bucket_fault ys) products)) (first_some (map (gross_fault p ys) products)))) (sym (range_is p ys fx) ∙ none) in
     let two = none_first (key_fault ys) (either_first (first_some (map (bucket_fault ys) products)) (first_some (map (gross_fault p ys) products))) one.1 in
@@ -203,3 +201,17 @@ range-part p xs ys facts h fx none =
   where
     in_bucket : (c : ProductClass) → key_count (rows_in c class.FX measure.Delta xs) ≤ℤ key_count (rows_in c class.FX measure.Delta ys)
     in_bucket c = omega (arith, ints, keys-part (rows_in c class.FX measure.Delta xs) (rows_in c class.FX measure.Delta ys) (rows_in-part c xs ys h) (fx_in c ys fx))
+
+-- ---- some trades of a book
+
+kept_rows : (b : Bool) (t : TradeRows) (ts us : List TradeRows) → IsPart (rows_of ts) (rows_of us) → IsPart (rows_of (cond b (t ∷ ts) ts)) (t.rows ++ rows_of us)
+kept_rows true t ts us h = front_part t.rows (rows_of ts) (rows_of us) h
+kept_rows false t ts us h = no_part t.rows (rows_of ts) (rows_of us) h
+
+rows_part : (test : TradeRows → Bool) (ts : List TradeRows) → IsPart (rows_of (filter test ts)) (rows_of ts)
+rows_part test [] = done
+rows_part test (t ∷ ts) = kept_rows (test t) t (filter test ts) ts (rows_part test ts)
+
+pub range-fewer : (p : Params) (test : TradeRows → Bool) (ts : List TradeRows) → IsParams p → list_all (λ r. is_key r.key) (rows_of ts) ≡ true → range p (rows_of ts) ≡ None → range p (rows_of (filter test ts)) ≡ None
+range-fewer p test ts facts keys none =
+    range-part p (rows_of (filter test ts)) (rows_of ts) facts (rows_part test ts) (fx_rows_from (rows_of ts) (each_passes (λ (r : CrifRow). is_key r.key) (λ r. is_key r.key ≡ true) (λ r h. h) (rows_of ts) keys)) none

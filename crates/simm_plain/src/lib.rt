@@ -7,6 +7,7 @@ mod bucket;
 mod correlation;
 mod fault;
 mod gross;
+mod laws;
 mod lent;
 mod net;
 mod netting;
@@ -17,6 +18,7 @@ mod weighing;
 
 pub use book::{margin, margin_in_range, range_fault};
 pub use fault::MarginFault;
+pub use laws::fewer_are_in_range;
 pub use lent::LentRows;
 
 #[cfg(test)]
