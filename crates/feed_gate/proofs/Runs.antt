@@ -1,6 +1,6 @@
 -- Messages one after another: what one makes of the sets and the report, and what all of them do.
 use Rattle.std.proofs.Common.{◌≡◌, ℕ, ◌+◌, ◌≤◌, arith, List, [], ◌∷◌, ◌++◌, Bool, true, false, cond, map, Option, Some, None, refl, sym, ap, ◌∙◌, subst, append_assoc, append-nil}
-use Rattle.std.specs.List.{AllByRecursion, IsDistinct, filter_map, count_by}
+use Rattle.std.specs.List.{IsDistinct, filter_map, count_by}
 use Rattle.std.specs.Option.{is_none}
 use Rattle.std.proofs.lemmas.List.{length-map}
 use Rattle.std.proofs.lemmas.List.Elements.{filter_map-append}
@@ -11,7 +11,6 @@ use Rattle.set_core.specs.declared.event.Event.{Event}
 use Rattle.set_core.specs.Room.{is_full}
 use Rattle.set_core.specs.Answer.{answer}
 use Rattle.set_core.specs.Set.{Set, with_entry}
-use Rattle.set_core.proofs.Puts.{map_agrees, map-map, map_same}
 use Rattle.feed_gate.specs.declared.report.RefusedMessage.{RefusedMessage}
 use Rattle.feed_gate.specs.declared.report.RefusedMessage.TheVariants as refused
 use Rattle.feed_gate.specs.declared.report.FeedEnd.{FeedEnd}
@@ -20,10 +19,6 @@ use Rattle.feed_gate.specs.Calls.{call_on, calls, called, after_calls, after_fee
 use Rattle.feed_gate.specs.Refused.{refusal, refusals_from, refused_of, done_of}
 use Rattle.feed_gate.specs.Sets.{AreApart}
 use Rattle.feed_gate.specs.Run.{with_answer, Reports, Meets}
-
-each_always : {X : Type 0} (P : X → Type 0) → ((x : X) → P x) → (xs : List X) → AllByRecursion P xs
-each_always P f [] = tt
-each_always P f (x ∷ xs) = (f x, each_always P f xs)
 
 -- ---- the sets after some items, and then one
 
@@ -49,15 +44,18 @@ after_items xs ys s =
     ∙ ap (after_calls s) (sym (filter_map-append (call_on s.terms.name) xs ys))
 
 pub sets_after : (xs ys : List Item) (sets : List Set) → map (after_feed ys) (map (after_feed xs) sets) ≡ map (after_feed (xs ++ ys)) sets
-sets_after xs ys sets =
-    map-map (after_feed xs) (after_feed ys) sets
-    ∙ map_agrees (λ s. after_feed ys (after_feed xs s)) (after_feed (xs ++ ys)) sets (each_always (λ s. after_feed ys (after_feed xs s) ≡ after_feed (xs ++ ys) s) (after_items xs ys) sets)
+sets_after xs ys [] = refl
+sets_after xs ys (s ∷ sets) =
+    ap (λ t. t ∷ map (after_feed ys) (map (after_feed xs) sets)) (after_items xs ys s)
+    ∙ ap (λ ts. after_feed (xs ++ ys) s ∷ ts) (sets_after xs ys sets)
 
 pub nothing_after : (sets : List Set) → map (after_feed []) sets ≡ sets
-nothing_after sets = map_same (after_feed []) sets (each_always (λ s. after_feed [] s ≡ s) (λ s. refl) sets)
+nothing_after [] = refl
+nothing_after (s ∷ sets) = ap (λ ts. s ∷ ts) (nothing_after sets)
 
 bad_line_stays : (line : ℕ) (sets : List Set) → map (after_feed (BadAt line ∷ [])) sets ≡ sets
-bad_line_stays line sets = map_same (after_feed (BadAt line ∷ [])) sets (each_always (λ s. after_feed (BadAt line ∷ []) s ≡ s) (λ s. refl) sets)
+bad_line_stays line [] = refl
+bad_line_stays line (s ∷ sets) = ap (λ ts. s ∷ ts) (bad_line_stays line sets)
 
 -- ---- the report after some items, and then one
 

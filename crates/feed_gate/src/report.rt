@@ -56,7 +56,7 @@ pub enum FeedEnd {
     TooLong { taken: u64 },
     /// It couldn't be read to its end.
     ReadFault,
-    /// Memory ran out.
+    /// Memory ran out in the message that begins in this line, or at this line, which would have been given next.
     Memory { line: u32 },
 }
 

@@ -13,7 +13,7 @@ use Rattle.feed_reader.specs.declared.message.Fed.{Fed}
 use Rattle.feed_reader.specs.declared.fault.FeedFault.{FeedFault}
 use Rattle.feed_reader.specs.declared.fault.FeedFault.TheVariants as fault
 use Rattle.feed_reader.specs.Feed.{Item, Sent, BadAt, FeedStop, FeedRun, Whole, Cut, LineLong, TooLong, Open, AreItems, line_of, no_items, with_items, items_of, items_from}
-use Rattle.feed_reader.specs.Answers.{feed_with, TellsItems, ComesTo, TellsItem, BreaksOff, TellsStop, ReadsFeed, Follows, Answers, StopsLines, IsPlaced, answer_at}
+use Rattle.feed_reader.specs.Answers.{feed_with, TellsItems, ComesTo, TellsItem, TellsStop, ReadsFeed, Follows, Answers, StopsLines, IsPlaced, answer_at}
 use Rattle.feed_reader.specs.Steps.{ArePassed, Means, feed_fault}
 use Rattle.feed_reader.proofs.FeedTakings.{can_stop, then_took, then_gave}
 use Rattle.feed_reader.proofs.FeedItems.{passed_over, passed_items, items_then, nothing_further, items_behind, items_at}
@@ -53,9 +53,9 @@ module _ {S : Type 0} (faults : S → ℕ) (name gave left : S → Option (List 
         let run = lines_with b later ended in (
           (items_of (a.given + 1 + length before) 0 (its ++ run.lines) run.stop).items,
           ap (λ r. r.items)
-          (ap (items_from (a.given + 1)) (given.lines later ended can)
-          ∙ (ap (λ ls. items_of (a.given + 1) 0 ls run.stop) (append_assoc before its run.lines)
-          ∙ items.told (its ++ run.lines) run.stop)),
+              (ap (items_from (a.given + 1)) (given.lines later ended can)
+              ∙ (ap (λ ls. items_of (a.given + 1) 0 ls run.stop) (append_assoc before its run.lines)
+              ∙ items.told (its ++ run.lines) run.stop)),
           items_behind line (a.given + 1 + length before) 0 (its ++ run.lines) run.stop (omega arith),
         );
   }

@@ -1,13 +1,10 @@
 -- Calls in a row: the items that they tell, and then the way in which the feed stops, are the feed of all taken bytes.
-use Rattle.std.proofs.Common.{◌≡◌, ℕ, ◌+◌, false, List, [], ◌∷◌, ◌++◌, Option, Result, Ok, Err, OnOk, is_err, refl, sym, ap, ◌∙◌, subst, append_assoc}
-use Rattle.std.proofs.lemmas.List.{append-nil}
-use Rattle.mh_io.specs.Lined.{Lined, CanCome, is_ended}
-use Rattle.mh_io.specs.declared.lines_answer.Supply.{Supply}
-use Rattle.mh_io.specs.declared.lines_answer.Supply.TheVariants as supply
+use Rattle.std.proofs.Common.{◌≡◌, ℕ, ◌+◌, true, false, List, [], ◌∷◌, ◌++◌, Option, Result, Ok, Err, OnOk, OnErr, is_err, refl, ap}
+use Rattle.mh_io.specs.Lined.{Lined, is_ended}
 use Rattle.feed_reader.proofs.FeedTakings.{gave_none}
 use Rattle.feed_reader.proofs.FeedItems.{no_lines}
 use Rattle.feed_reader.specs.declared.message.Fed.{Fed}
-use Rattle.feed_reader.specs.Feed.{Item, Sent, BadAt, FeedStop, FeedRun, with_items, feed, messages_of, bad_lines_of}
+use Rattle.feed_reader.specs.Feed.{Item, Sent, BadAt, FeedStop, feed, messages_of, bad_lines_of}
 use Rattle.feed_reader.specs.declared.fault.FeedFault.{FeedFault}
 use Rattle.feed_reader.specs.declared.fault.FeedFault.TheVariants as fault
 use Rattle.feed_reader.specs.Answers.{fresh, TellsItems, ReadsFeed, Follows, ReadsTo}
@@ -46,6 +43,11 @@ pub kept : {U E : Type 0} (r : Result U E) (Q : Type 0) → is_err r ≡ false �
 kept (Ok u) Q none h = h
 kept (Err e) Q none h = absurd (cc none)
 
+-- or wasn't
+pub not_kept : {U E : Type 0} (r : Result U E) (Q : Type 0) → is_err r ≡ true → OnErr r Q → Q
+not_kept (Ok u) Q none h = absurd (cc none)
+not_kept (Err e) Q none h = h
+
 module _ {S : Type 0} (faults : S → ℕ) (name gave left : S → Option (List ℕ)) where
   -- a fault that ends the feed
   pub reads_to_fault : (a c : Lined S) (f : FeedFault) (fed : List Fed) (bad : List ℕ) (items : List Item) → ((line : ℕ) → f ≡ fault.BadLine line → ⊥) → fed ≡ messages_of items → bad ≡ bad_lines_of items → Follows faults name gave left a c items (Err f) → ReadsTo faults name gave left a c fed bad f
@@ -54,4 +56,4 @@ module _ {S : Type 0} (faults : S → ℕ) (name gave left : S → Option (List 
   reads_to_fault a c (fault.LineLong line) fed bad items other messages lines follows = record { items = items; reads = follows; messages = messages; bad_lines = lines }
   reads_to_fault a c (fault.TooLong taken) fed bad items other messages lines follows = record { items = items; reads = follows; messages = messages; bad_lines = lines }
   reads_to_fault a c fault.ReadFault fed bad items other messages lines follows = record { items = items; reads = follows; messages = messages; bad_lines = lines }
-  reads_to_fault a c (fault.Memory line) fed bad items other messages lines follows = tt
+  reads_to_fault a c (fault.Memory line) fed bad items other messages lines follows = record { items = items; comes = follows; messages = messages; bad_lines = lines }

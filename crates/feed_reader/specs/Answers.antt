@@ -83,6 +83,13 @@ module _ {S : Type 0} (faults : S → ℕ) (name gave left : S → Option (List 
     pub messages : fed ≡ messages_of items
     pub bad_lines : bad ≡ bad_lines_of items
 
+  -- these messages and bad lines are the items before this line, at which memory ran out
+  pub record ReadsUpTo (old new : Lined S) (fed : List Fed) (bad : List ℕ) (line : ℕ) : Type 0 where
+    pub items : List Item
+    pub comes : ComesTo old new items line
+    pub messages : fed ≡ messages_of items
+    pub bad_lines : bad ≡ bad_lines_of items
+
   -- what reading a feed up to a fault that ends it answers
   abbrev pub ReadsTo : Lined S → Lined S → List Fed → List ℕ → FeedFault → Type 0
   ReadsTo old new fed bad (fault.BadLine line) = ⊥
@@ -90,7 +97,7 @@ module _ {S : Type 0} (faults : S → ℕ) (name gave left : S → Option (List 
   ReadsTo old new fed bad (fault.LineLong line) = Reads old new fed bad (LineLong line)
   ReadsTo old new fed bad (fault.TooLong taken) = Reads old new fed bad TooLong
   ReadsTo old new fed bad fault.ReadFault = Reads old new fed bad Open
-  ReadsTo old new fed bad (fault.Memory line) = Unit {0}
+  ReadsTo old new fed bad (fault.Memory line) = ReadsUpTo old new fed bad line
 
   -- the next item, or the way in which the feed stops
   abbrev pub Answers : Lined S → Lined S → Result (Option Fed) FeedFault → Type 0

@@ -12,7 +12,7 @@ use Rattle.feed_reader.specs.declared.message.Fed.{Fed}
 use Rattle.feed_reader.specs.declared.fault.FeedFault.{FeedFault}
 use Rattle.feed_reader.specs.declared.fault.FeedFault.TheVariants as fault
 use Rattle.feed_reader.specs.Line.{is_passed_over, is_end, IsBegun}
-use Rattle.feed_reader.specs.Feed.{Item, Sent, BadAt, Cut, LineLong, TooLong, Open, AreItems, no_items, items_of, block_of}
+use Rattle.feed_reader.specs.Feed.{Sent, BadAt, Cut, LineLong, TooLong, Open, AreItems, no_items, items_of, block_of}
 
 abbrev pub ArePassed : List (List ℕ) → Type 0
 ArePassed lines = All (λ line. is_passed_over line ≡ true) lines
