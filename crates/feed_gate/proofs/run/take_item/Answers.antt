@@ -1,4 +1,4 @@
-use Rattle.std.proofs.Common.{arith, Some, Ok, Err, refl, subst}
+use Rattle.std.proofs.Common.{Some, Ok, Err, refl, subst}
 use Rattle.feed_reader.specs.Feed.{Sent, BadAt}
 use Rattle.feed_reader.specs.Answers.{Answers, Follows, StopsLines}
 use Rattle.feed_gate.specs.declared.report.RefusedMessage.TheVariants as refused
