@@ -1,14 +1,20 @@
-use crate::push_report;
+use crate::{journal_text, push_report};
 use csa_terms::{SetTerms, read_terms};
 use feed_gate::{FeedEnd, FeedReport, RefusedMessage};
 use mh_units::Text;
+use set_core::{Event, SetState};
 use simm_kinds::Listed;
+use simm_params::read_params;
 use std::alloc::Global;
 use std::test::Fail;
 
 const TERMS: &str =
     "[[set]]\nname = \"ALPHA\"\nthreshold = \"5000.00\"\nmta_delivery = \"500.00\"\nmta_return = \"500.00\"\n\
 rounding = \"100.00\"\nnotification = \"13:00\"\nfx_haircut = \"0.08\"\nholidays = []\n[set.haircuts]\nCASH-USD = \"0\"\n";
+
+const PARAMS: &str =
+    "calculation_currency = \"USD\"\n[fx]\nhigh = [\"BRL\"]\nweight = [\"7.4\", \"10\"]\n\
+rho = [\"0.5\", \"0.5\", \"0.5\"]\nfirst = []\nsecond = []\nthreshold = [100000000, 100000000, 100000000]\n";
 
 const REPORT: &str = "REFUSED\t7\t1\t1\n\
 REFUSED\t7\t2\t2\n\
@@ -20,6 +26,27 @@ fn terms(alloc: Global) -> Result<SetTerms, Fail> {
     let terms = read_terms(alloc, TERMS.as_bytes()).ok().ok_or("terms")?;
     let first = terms.sets().first().ok_or("a set")?;
     Ok(first.copy(alloc)?)
+}
+
+// Each entry has its caller; a withdrawal of no names has only their number.
+#[test]
+fn a_journal_is_printed(rt: HostRuntime) -> Result<(), Fail> {
+    let alloc = rt.alloc();
+    let params = read_params(alloc, PARAMS.as_bytes())
+        .ok()
+        .ok_or("parameters")?;
+    let mut set = SetState::new(alloc, params, terms(alloc)?)?;
+    assert!(rt; set.apply(alloc, 7, Event::AskMargin).is_ok());
+    assert!(rt;
+        set.apply(alloc, 3, Event::Withdraw(Listed::new(alloc)))
+            .is_ok()
+    );
+    let text = journal_text(alloc, &set, set.terms().name())?;
+    assert_eq!(rt;
+        text.as_slice(),
+        "SET\tALPHA\t2\n1\t7\tASK\t=\tMARGIN\t0.00\n2\t3\tWITHDRAW\t0\t=\tOK\n".as_bytes()
+    );
+    Ok(())
 }
 
 #[test]
