@@ -220,13 +220,41 @@ fn faults_before_the_feed(rt: HostRuntime) -> Result<(), Fail> {
 
 /// Finds and reads that fail before the feed runs, each with the line of the file.
 const FAILING: [(Trouble, Status, &str); 7] = [
-    (Trouble { find: 1, ..NONE }, Status::Find, "FAULT\tFIND\tparams\n"),
-    (Trouble { find: 2, ..NONE }, Status::Find, "FAULT\tFIND\tterms\n"),
-    (Trouble { find: 3, ..NONE }, Status::Find, "FAULT\tFIND\tfeed\n"),
-    (Trouble { params: 1, ..NONE }, Status::Read, "FAULT\tREAD\tparams\n"),
-    (Trouble { params: 2, ..NONE }, Status::Read, "FAULT\tREAD\tparams\n"),
-    (Trouble { terms: 1, ..NONE }, Status::Read, "FAULT\tREAD\tterms\n"),
-    (Trouble { terms: 2, ..NONE }, Status::Read, "FAULT\tREAD\tterms\n"),
+    (
+        Trouble { find: 1, ..NONE },
+        Status::Find,
+        "FAULT\tFIND\tparams\n",
+    ),
+    (
+        Trouble { find: 2, ..NONE },
+        Status::Find,
+        "FAULT\tFIND\tterms\n",
+    ),
+    (
+        Trouble { find: 3, ..NONE },
+        Status::Find,
+        "FAULT\tFIND\tfeed\n",
+    ),
+    (
+        Trouble { params: 1, ..NONE },
+        Status::Read,
+        "FAULT\tREAD\tparams\n",
+    ),
+    (
+        Trouble { params: 2, ..NONE },
+        Status::Read,
+        "FAULT\tREAD\tparams\n",
+    ),
+    (
+        Trouble { terms: 1, ..NONE },
+        Status::Read,
+        "FAULT\tREAD\tterms\n",
+    ),
+    (
+        Trouble { terms: 2, ..NONE },
+        Status::Read,
+        "FAULT\tREAD\tterms\n",
+    ),
 ];
 
 #[test]
