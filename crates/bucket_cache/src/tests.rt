@@ -22,8 +22,7 @@ fn read_name(alloc: Global, text: &str) -> Result<Name, Fail> {
     Ok(Name::read(alloc, text.as_bytes()).ok().ok_or("a name")?)
 }
 
-fn trade(alloc: Global, name: &str, currency: &str, amount: i64) -> Result<TradeRows, Fail>
-{
+fn trade(alloc: Global, name: &str, currency: &str, amount: i64) -> Result<TradeRows, Fail> {
     let key = FactorKey::make(
         ProductClass::RatesFX,
         RiskType::Fx,
@@ -40,8 +39,7 @@ fn trade(alloc: Global, name: &str, currency: &str, amount: i64) -> Result<Trade
     Ok(TradeRows { trade, rows })
 }
 
-fn batch(alloc: Global, trade: TradeRows) -> Result<Batch, Fail>
-{
+fn batch(alloc: Global, trade: TradeRows) -> Result<Batch, Fail> {
     let mut trades = Listed::new(alloc);
     trades.push(trade)?;
     Ok(Batch::make(alloc, trades).ok().ok_or("a batch")?)

@@ -34,9 +34,14 @@ pub record IsFull (old : Set) (e : Event) (shown_entries shown_rows : ℕ) (back
   pub rows : shown_rows ≡ journal_rows old.journal
   pub event : back ≡ e
 
+-- a full journal is answered as such, whatever memory there is
+pub record HasRoom (old : Set) (e back : Event) : Type 0 where
+  pub room : is_full old.journal e ≡ false
+  pub event : back ≡ e
+
 abbrev pub Explains : Set → Event → ApplyFault → Type 0
 Explains old event (fault.JournalFull entries rows back) = IsFull old event entries rows back
-Explains old event (fault.Memory back) = back ≡ event
+Explains old event (fault.Memory back) = HasRoom old event back
 
 -- what each set keeps
 pub record IsSet (p : Params) (log : List (Entry Event Reply)) : Type 0 where

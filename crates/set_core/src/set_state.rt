@@ -60,7 +60,7 @@ impl SetState {
     /// # Errors
     ///
     /// `JournalFull` exactly where the journal has 65,535 entries, or its rows and the event's are more than 500,000;
-    /// this is tested first. `Memory` for want of memory. Then the set stands, and the event comes back.
+    /// this is tested first, and takes no memory. `Memory` for want of memory. Then the set stands, and the event comes back.
     pub fn apply(&mut self, alloc: Global, caller: u32, event: Event) -> Result<Reply, ApplyFault>
         ensures answered { IfOk result (IsAnswered self.old self.new caller event) }
         ensures fault { IfErr result (Explains self.old event) }

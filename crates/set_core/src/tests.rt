@@ -89,8 +89,7 @@ fn read_name(alloc: Global, text: &str) -> Result<Name, Fail> {
     Ok(Name::read(alloc, text.as_bytes()).ok().ok_or("a name")?)
 }
 
-fn trade(alloc: Global, name: &str, currency: &str, amount: i64) -> Result<TradeRows, Fail>
-{
+fn trade(alloc: Global, name: &str, currency: &str, amount: i64) -> Result<TradeRows, Fail> {
     let key = FactorKey::make(
         ProductClass::RatesFX,
         RiskType::Fx,
@@ -107,8 +106,7 @@ fn trade(alloc: Global, name: &str, currency: &str, amount: i64) -> Result<Trade
     Ok(TradeRows { trade, rows })
 }
 
-fn batch(alloc: Global, trade: TradeRows) -> Result<Batch, Fail>
-{
+fn batch(alloc: Global, trade: TradeRows) -> Result<Batch, Fail> {
     let mut trades = Listed::new(alloc);
     trades.push(trade)?;
     Ok(Batch::make(alloc, trades).ok().ok_or("a batch")?)
@@ -169,8 +167,7 @@ const STEPS: [(Step, Answer); 18] = [
     (Step::Withdraw("T1", "T1"), Answer::Unknown(1)),
 ];
 
-fn event_of(alloc: Global, step: Step) -> Result<Event, Fail>
-{
+fn event_of(alloc: Global, step: Step) -> Result<Event, Fail> {
     match step {
         Step::Submit(name, currency, amount) => submit_of(alloc, name, currency, amount),
         Step::Withdraw(first, second) => withdrawal_of(alloc, first, second),
@@ -178,14 +175,12 @@ fn event_of(alloc: Global, step: Step) -> Result<Event, Fail>
     }
 }
 
-fn submit_of(alloc: Global, name: &str, currency: &str, amount: i64) -> Result<Event, Fail>
-{
+fn submit_of(alloc: Global, name: &str, currency: &str, amount: i64) -> Result<Event, Fail> {
     let trade = trade(alloc, name, currency, amount)?;
     Ok(Event::Submit(batch(alloc, trade)?))
 }
 
-fn withdrawal_of(alloc: Global, first: &str, second: &str) -> Result<Event, Fail>
-{
+fn withdrawal_of(alloc: Global, first: &str, second: &str) -> Result<Event, Fail> {
     let mut names = Listed::new(alloc);
     names.push(read_name(alloc, first)?)?;
     names.push(read_name(alloc, second)?)?;
