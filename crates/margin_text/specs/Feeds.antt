@@ -5,6 +5,7 @@ use Rattle.feed_gate.specs.declared.report.RefusedMessage.{RefusedMessage}
 use Rattle.feed_gate.specs.declared.report.RefusedMessage.TheVariants as refused
 use Rattle.feed_gate.specs.declared.report.FeedEnd.{FeedEnd}
 use Rattle.feed_gate.specs.declared.report.FeedEnd.TheVariants as end
+use Rattle.feed_gate.specs.Numbers.{refused_number}
 use Rattle.margin_text.specs.Fields.{field, last_field}
 
 abbrev pub if_named : Option (List ℕ) → List ℕ
@@ -19,13 +20,14 @@ name_at names place = if_named (slice_get names place)
 abbrev pub refused_fields : ℕ → ℕ → List ℕ
 refused_fields feed line = field (codes "REFUSED") ++ field (decimal feed) ++ field (decimal line)
 
--- the code of a refused message; where the journal was full, the set's name and the journal's entries and rows
+-- the number of a refused message; where the journal was full, the set's name and the journal's entries and rows
 abbrev pub refused_line : ℕ → List (List ℕ) → RefusedMessage → List ℕ
-refused_line feed names (refused.BadLine line) = refused_fields feed line ++ last_field (codes "1")
-refused_line feed names (refused.UnknownSet line) = refused_fields feed line ++ last_field (codes "2")
-refused_line feed names (refused.BadBatch line) = refused_fields feed line ++ last_field (codes "3")
+refused_line feed names (refused.BadLine line) = refused_fields feed line ++ last_field (decimal (refused_number (refused.BadLine line)))
+refused_line feed names (refused.UnknownSet line) = refused_fields feed line ++ last_field (decimal (refused_number (refused.UnknownSet line)))
+refused_line feed names (refused.BadBatch line) = refused_fields feed line ++ last_field (decimal (refused_number (refused.BadBatch line)))
 refused_line feed names (refused.Full line set entries rows) =
-    refused_fields feed line ++ field (codes "4") ++ field (name_at names set) ++ field (decimal entries) ++ last_field (decimal rows)
+    refused_fields feed line ++ field (decimal (refused_number (refused.Full line set entries rows)))
+    ++ field (name_at names set) ++ field (decimal entries) ++ last_field (decimal rows)
 
 -- how a feed ended, with the line, or the bytes that were taken of one that is too long
 abbrev pub end_field : FeedEnd → List ℕ

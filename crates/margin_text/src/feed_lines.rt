@@ -18,12 +18,12 @@ fn push_refused_fields(text: &mut Text, feed: u32, line: u32) -> Result<(), Allo
     push_number(text, u64::from(line))
 }
 
-/// Adds the line of a message that was refused with this code alone.
-fn push_refused_code(text: &mut Text, feed: u32, line: u32, code: &[u8]) -> Result<(), AllocError>
-    ensures { OnOk result (text.new ≡ text.old ++ (refused_fields feed line ++ last_field code.now)) }
+/// Adds the line of a message that was refused with this number alone.
+fn push_refused_number(text: &mut Text, feed: u32, line: u32, number: u8) -> Result<(), AllocError>
+    ensures { OnOk result (text.new ≡ text.old ++ (refused_fields feed line ++ last_field (decimal number))) }
 {
     push_refused_fields(text, feed, line)?;
-    push_last(text, code)
+    push_last_number(text, u64::from(number))
 }
 
 /// Adds the field of the name of the set at a place, from 0.
@@ -45,10 +45,11 @@ fn push_refused(
 ) -> Result<(), AllocError>
     ensures { OnOk result (text.new ≡ text.old ++ refused_line feed (map (λ s. s.name) sets.now) message.now) }
 {
+    let number = message.number();
     match *message {
-        RefusedMessage::BadLine { line } => push_refused_code(text, feed, line, b"1"),
-        RefusedMessage::UnknownSet { line } => push_refused_code(text, feed, line, b"2"),
-        RefusedMessage::BadBatch { line } => push_refused_code(text, feed, line, b"3"),
+        RefusedMessage::BadLine { line }
+        | RefusedMessage::UnknownSet { line }
+        | RefusedMessage::BadBatch { line } => push_refused_number(text, feed, line, number),
         RefusedMessage::Full {
             line,
             set,
@@ -56,7 +57,7 @@ fn push_refused(
             rows,
         } => {
             push_refused_fields(text, feed, line)?;
-            push_field(text, b"4")?;
+            push_number(text, u64::from(number))?;
             push_set_name(text, sets, set)?;
             push_number(text, u64::from(entries))?;
             push_last_number(text, u64::from(rows))

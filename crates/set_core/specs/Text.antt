@@ -15,9 +15,11 @@ refusal_number (refusal.Range f) = 3
 
 -- a refusal's number, and its place, or its kind, value and limit as whole numbers
 abbrev pub refusal_text : Refusal → List ℕ
-refusal_text (refusal.UnknownTrade place) = codes "REFUSED\t1\t" ++ decimal place
+refusal_text (refusal.UnknownTrade place) =
+    codes "REFUSED\t" ++ decimal (refusal_number (refusal.UnknownTrade place)) ++ codes "\t" ++ decimal place
 refusal_text (refusal.Range f) =
-    codes "REFUSED\t3\t" ++ decimal (range_number f.which) ++ codes "\t" ++ signed_decimal f.value ++ codes "\t" ++ signed_decimal f.limit
+    codes "REFUSED\t" ++ decimal (refusal_number (refusal.Range f)) ++ codes "\t" ++ decimal (range_number f.which)
+    ++ codes "\t" ++ signed_decimal f.value ++ codes "\t" ++ signed_decimal f.limit
 
 -- of a margin its total alone
 abbrev pub reply_text : Reply → List ℕ

@@ -1,7 +1,7 @@
 ghost use Rattle.std.specs.Prelude.{◌≡◌, ◌++◌, codes, IfOk, OnOk};
 ghost use Rattle.mh_units.specs.Money.{money_text};
 ghost use Rattle.set_core.specs.declared.refusal.Refusal.TheVariants as refusal;
-ghost use Rattle.set_core.specs.Text.{refusal_text, reply_text};
+ghost use Rattle.set_core.specs.Text.{refusal_number, refusal_text, reply_text};
 
 use crate::{Refusal, Reply};
 use mh_units::{Cents, Text, write_cents};
@@ -27,25 +27,27 @@ fn refusal_text(alloc: Global, refusal: Refusal) -> Result<Text, AllocError>
     ensures { IfOk result (λ text. text ≡ refusal_text refusal) }
 {
     match refusal {
-        Refusal::UnknownTrade { place } => unknown_text(alloc, place),
-        Refusal::Range(fault) => range_text(alloc, fault),
+        Refusal::UnknownTrade { place } => unknown_text(alloc, refusal.number(), place),
+        Refusal::Range(fault) => range_text(alloc, refusal.number(), fault),
     }
 }
 
-fn unknown_text(alloc: Global, place: u64) -> Result<Text, AllocError>
+fn unknown_text(alloc: Global, number: u8, place: u64) -> Result<Text, AllocError>
+    requires { number ≡ refusal_number (refusal.UnknownTrade place) }
     ensures { IfOk result (λ text. text ≡ refusal_text (refusal.UnknownTrade place)) }
 {
-    let text = format!(in alloc; "REFUSED\t1\t{place}")?;
+    let text = format!(in alloc; "REFUSED\t{number}\t{place}")?;
     Ok(Text::from_vec(text.into_bytes()))
 }
 
-fn range_text(alloc: Global, fault: RangeFault) -> Result<Text, AllocError>
+fn range_text(alloc: Global, number: u8, fault: RangeFault) -> Result<Text, AllocError>
+    requires { number ≡ refusal_number (refusal.Range fault) }
     ensures { IfOk result (λ text. text ≡ refusal_text (refusal.Range fault)) }
 {
-    let number = fault.which.number();
+    let kind = fault.which.number();
     let value = fault.value;
     let limit = fault.limit;
-    let text = format!(in alloc; "REFUSED\t3\t{number}\t{value}\t{limit}")?;
+    let text = format!(in alloc; "REFUSED\t{number}\t{kind}\t{value}\t{limit}")?;
     Ok(Text::from_vec(text.into_bytes()))
 }
 
