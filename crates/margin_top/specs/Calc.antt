@@ -29,6 +29,10 @@ pub record SinkSeen : Type 0 where
   pub holds : Option (List ℕ)
   pub faults : ℕ
 
+-- what is seen of this sink, by what its kind tells and counts
+abbrev pub sink_seen : {K : Type 0} → (K → Option (List ℕ)) → (K → ℕ) → K → SinkSeen
+sink_seen holds faults sink = record { holds = holds sink; faults = faults sink }
+
 -- the sink got the whole text
 abbrev pub Got : SinkSeen → SinkSeen → List ℕ → Type 0
 Got old new text = new.holds ≡ append_known old.holds text

@@ -14,6 +14,10 @@ pub record FolderSeen : Type 0 where
   pub finds : ℕ
   pub reads : ℕ
 
+-- what is seen of this folder, by what its kind tells and counts
+abbrev pub folder_seen : {F : Type 0} → (F → Option Telling) → (F → ℕ) → (F → ℕ) → F → FolderSeen
+folder_seen told find_faults read_faults folder = record { told = told folder; finds = find_faults folder; reads = read_faults folder }
+
 -- names that a folder was asked for, and readings of its files
 pub record Deeds : Type 0 where
   pub names : List (List ℕ)

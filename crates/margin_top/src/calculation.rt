@@ -1,6 +1,6 @@
 ghost use Rattle.std.specs.Prelude.{◌≡◌, ◌≤◌};
-ghost use Rattle.margin_top.specs.Files.{FolderSeen};
-ghost use Rattle.margin_top.specs.Calc.{SinkSeen, CalcEnds};
+ghost use Rattle.margin_top.specs.Files.{folder_seen};
+ghost use Rattle.margin_top.specs.Calc.{sink_seen, CalcEnds};
 ghost use Rattle.margin_top.specs.Complete.{IsWell, EndsWell};
 
 use crate::margin_of::margin_of_files;
@@ -28,16 +28,16 @@ pub fn calc<F: Folder, K: Sink>(
     ensures due { F.due folder.new ≡ F.due folder.old }
     ensures count { K.faults out.old ≤ K.faults out.new }
     ensures ends { CalcEnds params.now crif.now
-        (record { told = F.told folder.old; finds = F.find_faults folder.old; reads = F.read_faults folder.old })
-        (record { told = F.told folder.new; finds = F.find_faults folder.new; reads = F.read_faults folder.new })
-        (record { holds = K.holds out.old; faults = K.faults out.old })
-        (record { holds = K.holds out.new; faults = K.faults out.new }) result }
+        (folder_seen F.told F.find_faults F.read_faults folder.old)
+        (folder_seen F.told F.find_faults F.read_faults folder.new)
+        (sink_seen K.holds K.faults out.old)
+        (sink_seen K.holds K.faults out.new) result }
     // Where all is well the margin is printed, or memory ran out.
     ensures complete { IsWell params.now crif.now
-        (record { told = F.told folder.old; finds = F.find_faults folder.old; reads = F.read_faults folder.old })
-        (record { told = F.told folder.new; finds = F.find_faults folder.new; reads = F.read_faults folder.new })
-        (record { holds = K.holds out.old; faults = K.faults out.old })
-        (record { holds = K.holds out.new; faults = K.faults out.new }) → EndsWell result }
+        (folder_seen F.told F.find_faults F.read_faults folder.old)
+        (folder_seen F.told F.find_faults F.read_faults folder.new)
+        (sink_seen K.holds K.faults out.old)
+        (sink_seen K.holds K.faults out.new) → EndsWell result }
 {
     match margin_of_files(alloc, params, crif, folder) {
         Ok(margin) => print_margin(alloc, out, &margin),

@@ -1,5 +1,5 @@
 ghost use Rattle.std.specs.Prelude.{◌≡◌, ◌≤◌};
-ghost use Rattle.margin_top.specs.Files.{FolderSeen, FileEnds};
+ghost use Rattle.margin_top.specs.Files.{folder_seen, FileEnds};
 
 use crate::fault::FileFault;
 use mh_io::{Folder, read_all};
@@ -20,8 +20,8 @@ pub(crate) fn read_file<F: Folder>(
     ensures reads { F.read_faults folder.old ≤ F.read_faults folder.new }
     ensures due { F.due folder.new ≡ F.due folder.old }
     ensures ends { FileEnds
-        (record { told = F.told folder.old; finds = F.find_faults folder.old; reads = F.read_faults folder.old })
-        (record { told = F.told folder.new; finds = F.find_faults folder.new; reads = F.read_faults folder.new })
+        (folder_seen F.told F.find_faults F.read_faults folder.old)
+        (folder_seen F.told F.find_faults F.read_faults folder.new)
         name.now result }
 {
     let mut source = folder.find(alloc, name)?;

@@ -1,7 +1,7 @@
 ghost use Rattle.std.specs.Prelude.{◌≡◌, ◌≤◌, map};
 ghost use Rattle.std.specs.String.{string_bytes};
-ghost use Rattle.margin_top.specs.Files.{FolderSeen};
-ghost use Rattle.margin_top.specs.Calc.{SinkSeen};
+ghost use Rattle.margin_top.specs.Files.{folder_seen};
+ghost use Rattle.margin_top.specs.Calc.{sink_seen};
 ghost use Rattle.margin_top.specs.Complete.{IsWellHouse, EndsWell};
 ghost use Rattle.margin_top.specs.House.{HouseEnds};
 
@@ -28,16 +28,16 @@ pub fn margin_house<F: Folder, K: Sink>(
     ensures due { F.due folder.new ≡ F.due folder.old }
     ensures count { K.faults out.old ≤ K.faults out.new }
     ensures ends { HouseEnds (map string_bytes words.now)
-        (record { told = F.told folder.old; finds = F.find_faults folder.old; reads = F.read_faults folder.old })
-        (record { told = F.told folder.new; finds = F.find_faults folder.new; reads = F.read_faults folder.new })
-        (record { holds = K.holds out.old; faults = K.faults out.old })
-        (record { holds = K.holds out.new; faults = K.faults out.new }) result }
+        (folder_seen F.told F.find_faults F.read_faults folder.old)
+        (folder_seen F.told F.find_faults F.read_faults folder.new)
+        (sink_seen K.holds K.faults out.old)
+        (sink_seen K.holds K.faults out.new) result }
     // Where the words are a command for which all is well it is done and printed whole, or memory ran out.
     ensures complete { IsWellHouse (map string_bytes words.now)
-        (record { told = F.told folder.old; finds = F.find_faults folder.old; reads = F.read_faults folder.old })
-        (record { told = F.told folder.new; finds = F.find_faults folder.new; reads = F.read_faults folder.new })
-        (record { holds = K.holds out.old; faults = K.faults out.old })
-        (record { holds = K.holds out.new; faults = K.faults out.new }) → EndsWell result }
+        (folder_seen F.told F.find_faults F.read_faults folder.old)
+        (folder_seen F.told F.find_faults F.read_faults folder.new)
+        (sink_seen K.holds K.faults out.old)
+        (sink_seen K.holds K.faults out.new) → EndsWell result }
 {
     match command_of(words) {
         Some(Command::Calc(files)) => calc(alloc, files.params, files.crif, folder, out),

@@ -6,7 +6,7 @@ ghost use Rattle.simm_rules.specs.declared.values.RangeFault.{RangeFault as Faul
 ghost use Rattle.simm_rules.specs.Range.{range};
 ghost use Rattle.simm_rules.specs.Simm.{simm};
 ghost use Rattle.bucket_cache.specs.declared.fault.SubmitFault.TheVariants as submit;
-ghost use Rattle.margin_top.specs.Files.{FolderSeen, ValueEnds};
+ghost use Rattle.margin_top.specs.Files.{folder_seen, ValueEnds};
 ghost use Rattle.margin_top.specs.Calc.{MarginEnds};
 
 use crate::fault::{CalcFault, FileFault, ValueFault};
@@ -29,8 +29,8 @@ pub(crate) fn read_param_file<F: Folder>(
     ensures reads { F.read_faults folder.old ≤ F.read_faults folder.new }
     ensures due { F.due folder.new ≡ F.due folder.old }
     ensures ends { ValueEnds params_of
-        (record { told = F.told folder.old; finds = F.find_faults folder.old; reads = F.read_faults folder.old })
-        (record { told = F.told folder.new; finds = F.find_faults folder.new; reads = F.read_faults folder.new })
+        (folder_seen F.told F.find_faults F.read_faults folder.old)
+        (folder_seen F.told F.find_faults F.read_faults folder.new)
         name.now result }
 {
     let bytes = match read_file(alloc, folder, name) {
@@ -50,8 +50,8 @@ fn read_crif_file<F: Folder>(alloc: Global, folder: &mut F, name: &str) -> Resul
     ensures reads { F.read_faults folder.old ≤ F.read_faults folder.new }
     ensures due { F.due folder.new ≡ F.due folder.old }
     ensures ends { ValueEnds crif_of
-        (record { told = F.told folder.old; finds = F.find_faults folder.old; reads = F.read_faults folder.old })
-        (record { told = F.told folder.new; finds = F.find_faults folder.new; reads = F.read_faults folder.new })
+        (folder_seen F.told F.find_faults F.read_faults folder.old)
+        (folder_seen F.told F.find_faults F.read_faults folder.new)
         name.now result }
 {
     let bytes = match read_file(alloc, folder, name) {
@@ -87,8 +87,8 @@ pub(crate) fn margin_of_files<F: Folder>(
     ensures reads { F.read_faults folder.old ≤ F.read_faults folder.new }
     ensures due { F.due folder.new ≡ F.due folder.old }
     ensures ends { MarginEnds params.now crif.now
-        (record { told = F.told folder.old; finds = F.find_faults folder.old; reads = F.read_faults folder.old })
-        (record { told = F.told folder.new; finds = F.find_faults folder.new; reads = F.read_faults folder.new })
+        (folder_seen F.told F.find_faults F.read_faults folder.old)
+        (folder_seen F.told F.find_faults F.read_faults folder.new)
         result }
 {
     let values = match read_param_file(alloc, folder, params) {

@@ -1,7 +1,7 @@
 ghost use Rattle.std.specs.Prelude.{◌≡◌, ◌≤◌, ◌++◌};
 ghost use Rattle.margin_text.specs.Fields.{last_field};
 ghost use Rattle.margin_top.specs.FaultLine.{line_text};
-ghost use Rattle.margin_top.specs.Calc.{SinkSeen, GotLine, MarginPrints};
+ghost use Rattle.margin_top.specs.Calc.{sink_seen, GotLine, MarginPrints};
 
 use crate::fault_line::FaultLine;
 use crate::status::Status;
@@ -14,8 +14,8 @@ use std::alloc::Global;
 pub(crate) fn print_margin<K: Sink>(alloc: Global, out: &mut K, margin: &Breakdown) -> Status
     ensures count { K.faults out.old ≤ K.faults out.new }
     ensures printed { MarginPrints margin.now
-        (record { holds = K.holds out.old; faults = K.faults out.old })
-        (record { holds = K.holds out.new; faults = K.faults out.new }) result }
+        (sink_seen K.holds K.faults out.old)
+        (sink_seen K.holds K.faults out.new) result }
 {
     let Ok(text) = margin_lines(alloc, margin) else {
         return Status::Memory;
@@ -30,8 +30,8 @@ pub(crate) fn print_margin<K: Sink>(alloc: Global, out: &mut K, margin: &Breakdo
 pub(crate) fn print_line<K: Sink>(out: &mut K, line: FaultLine)
     ensures count { K.faults out.old ≤ K.faults out.new }
     ensures printed { GotLine
-        (record { holds = K.holds out.old; faults = K.faults out.old })
-        (record { holds = K.holds out.new; faults = K.faults out.new }) (line_text line.entry) }
+        (sink_seen K.holds K.faults out.old)
+        (sink_seen K.holds K.faults out.new) (line_text line.entry) }
 {
     match line {
         FaultLine::Whole(bytes) => print_front(out, bytes),
@@ -43,8 +43,8 @@ pub(crate) fn print_line<K: Sink>(out: &mut K, line: FaultLine)
 fn print_front<K: Sink>(out: &mut K, bytes: &[u8])
     ensures count { K.faults out.old ≤ K.faults out.new }
     ensures printed { GotLine
-        (record { holds = K.holds out.old; faults = K.faults out.old })
-        (record { holds = K.holds out.new; faults = K.faults out.new }) bytes.now }
+        (sink_seen K.holds K.faults out.old)
+        (sink_seen K.holds K.faults out.new) bytes.now }
 {
     let _ = put_all(out, bytes);
 }
@@ -53,8 +53,8 @@ fn print_front<K: Sink>(out: &mut K, bytes: &[u8])
 fn print_named<K: Sink>(out: &mut K, fields: &[u8], name: &str)
     ensures count { K.faults out.old ≤ K.faults out.new }
     ensures printed { GotLine
-        (record { holds = K.holds out.old; faults = K.faults out.old })
-        (record { holds = K.holds out.new; faults = K.faults out.new }) (fields.now ++ last_field name.now) }
+        (sink_seen K.holds K.faults out.old)
+        (sink_seen K.holds K.faults out.new) (fields.now ++ last_field name.now) }
 {
     if put_all(out, fields).is_err() {
         return;

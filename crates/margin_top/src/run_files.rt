@@ -2,7 +2,7 @@
 ghost use Rattle.std.specs.Prelude.{◌≡◌, ◌≤◌, map, IfOk};
 ghost use Rattle.csa_terms.specs.Grammar.{terms_of};
 ghost use Rattle.feed_gate.specs.Sets.{AreApart};
-ghost use Rattle.margin_top.specs.Files.{FolderSeen};
+ghost use Rattle.margin_top.specs.Files.{folder_seen};
 ghost use Rattle.margin_top.specs.Run.{start};
 ghost use Rattle.margin_top.specs.RunStages.{TermsEnds, FeedEnds, RunFilesEnd, IsTermsFault};
 
@@ -36,8 +36,8 @@ fn read_terms_file<F: Folder>(
     ensures reads { F.read_faults folder.old ≤ F.read_faults folder.new }
     ensures due { F.due folder.new ≡ F.due folder.old }
     ensures ends { TermsEnds
-        (record { told = F.told folder.old; finds = F.find_faults folder.old; reads = F.read_faults folder.old })
-        (record { told = F.told folder.new; finds = F.find_faults folder.new; reads = F.read_faults folder.new })
+        (folder_seen F.told F.find_faults F.read_faults folder.old)
+        (folder_seen F.told F.find_faults F.read_faults folder.new)
         name.now result }
 {
     let bytes = match read_file(alloc, folder, name) {
@@ -85,8 +85,8 @@ fn run_feed_file<F: Folder>(
     ensures reads { F.read_faults folder.old ≤ F.read_faults folder.new }
     ensures due { F.due folder.new ≡ F.due folder.old }
     ensures ends { FeedEnds
-        (record { told = F.told folder.old; finds = F.find_faults folder.old; reads = F.read_faults folder.old })
-        (record { told = F.told folder.new; finds = F.find_faults folder.new; reads = F.read_faults folder.new })
+        (folder_seen F.told F.find_faults F.read_faults folder.old)
+        (folder_seen F.told F.find_faults F.read_faults folder.new)
         name.now sets.old sets.new result }
 {
     let source = match folder.find(alloc, name) {
@@ -110,8 +110,8 @@ pub(crate) fn run_files<F: Folder>(
     ensures reads { F.read_faults folder.old ≤ F.read_faults folder.new }
     ensures due { F.due folder.new ≡ F.due folder.old }
     ensures ends { RunFilesEnd params.now terms.now feed.now
-        (record { told = F.told folder.old; finds = F.find_faults folder.old; reads = F.read_faults folder.old })
-        (record { told = F.told folder.new; finds = F.find_faults folder.new; reads = F.read_faults folder.new })
+        (folder_seen F.told F.find_faults F.read_faults folder.old)
+        (folder_seen F.told F.find_faults F.read_faults folder.new)
         result }
 {
     let values = match read_param_file(alloc, folder, params) {

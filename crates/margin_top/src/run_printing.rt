@@ -3,7 +3,7 @@ ghost use Rattle.std.specs.Prelude.{◌≡◌, ◌≤◌, ◌++◌, [], map, IfO
 ghost use Rattle.std.specs.List.{flat_map};
 ghost use Rattle.set_core.specs.Set.{Set};
 ghost use Rattle.margin_text.specs.Journal.{journal_text};
-ghost use Rattle.margin_top.specs.Calc.{SinkSeen};
+ghost use Rattle.margin_top.specs.Calc.{sink_seen};
 ghost use Rattle.margin_top.specs.Run.{RunPrints, run_text, status_of_end};
 
 use crate::run_files::Outcome;
@@ -53,8 +53,8 @@ pub(crate) fn print_run<K: Sink>(alloc: Global, out: &mut K, run: &Outcome) -> S
     requires { run.now.terms ≡ map (λ s. s.terms) run.now.sets.items }
     ensures count { K.faults out.old ≤ K.faults out.new }
     ensures printed { RunPrints run.now.sets.items run.now.report
-        (record { holds = K.holds out.old; faults = K.faults out.old })
-        (record { holds = K.holds out.new; faults = K.faults out.new }) result }
+        (sink_seen K.holds K.faults out.old)
+        (sink_seen K.holds K.faults out.new) result }
 {
     let Ok(text) = outcome_text(alloc, run) else {
         return Status::Memory;

@@ -1,6 +1,6 @@
 ghost use Rattle.std.specs.Prelude.{◌≡◌, ◌≤◌};
-ghost use Rattle.margin_top.specs.Files.{FolderSeen};
-ghost use Rattle.margin_top.specs.Calc.{SinkSeen};
+ghost use Rattle.margin_top.specs.Files.{folder_seen};
+ghost use Rattle.margin_top.specs.Calc.{sink_seen};
 ghost use Rattle.margin_top.specs.Run.{RunEnds};
 ghost use Rattle.margin_top.specs.Complete.{IsWellRun, EndsWell};
 
@@ -29,16 +29,16 @@ pub(crate) fn run<F: Folder, K: Sink>(
     ensures due { F.due folder.new ≡ F.due folder.old }
     ensures count { K.faults out.old ≤ K.faults out.new }
     ensures ends { RunEnds params.now terms.now feed.now
-        (record { told = F.told folder.old; finds = F.find_faults folder.old; reads = F.read_faults folder.old })
-        (record { told = F.told folder.new; finds = F.find_faults folder.new; reads = F.read_faults folder.new })
-        (record { holds = K.holds out.old; faults = K.faults out.old })
-        (record { holds = K.holds out.new; faults = K.faults out.new }) result }
+        (folder_seen F.told F.find_faults F.read_faults folder.old)
+        (folder_seen F.told F.find_faults F.read_faults folder.new)
+        (sink_seen K.holds K.faults out.old)
+        (sink_seen K.holds K.faults out.new) result }
     // Where all is well the run is done and printed whole, or memory ran out.
     ensures complete { IsWellRun params.now terms.now feed.now
-        (record { told = F.told folder.old; finds = F.find_faults folder.old; reads = F.read_faults folder.old })
-        (record { told = F.told folder.new; finds = F.find_faults folder.new; reads = F.read_faults folder.new })
-        (record { holds = K.holds out.old; faults = K.faults out.old })
-        (record { holds = K.holds out.new; faults = K.faults out.new }) → EndsWell result }
+        (folder_seen F.told F.find_faults F.read_faults folder.old)
+        (folder_seen F.told F.find_faults F.read_faults folder.new)
+        (sink_seen K.holds K.faults out.old)
+        (sink_seen K.holds K.faults out.new) → EndsWell result }
 {
     match run_files(alloc, params, terms, feed, folder) {
         Ok(run) => print_run(alloc, out, &run),
