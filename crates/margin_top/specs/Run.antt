@@ -1,8 +1,9 @@
 -- What a run of a feed does: for each status what happened, and what was printed.
-use Rattle.std.specs.Prelude.{ℕ, ◌≡◌, ◌<◌, ◌≤◌, List, [], ◌++◌, map, Bool, true, Some, None, IfSome, Ok, Err, ◌⊎◌}
+use Rattle.std.specs.Prelude.{ℕ, ◌≡◌, ◌+◌, ◌<◌, ◌≤◌, List, [], ◌++◌, length, map, Bool, true, Some, None, IfSome, Ok, Err, ◌⊎◌}
 use Rattle.std.specs.List.{AllByRecursion, flat_map}
 use Rattle.mh_io.specs.Faults.{Rises}
 use Rattle.mh_io.specs.Folder.{file_of}
+use Rattle.mh_io.specs.declared.reading.TheConstants.{MOST_BYTES}
 use Rattle.mh_io.specs.declared.folder.FindRefused.{FindRefused}
 use Rattle.mh_io.specs.declared.folder.FindRefused.TheVariants as find
 use Rattle.simm_rules.specs.Params.{Params}
@@ -45,13 +46,15 @@ pub record HasInputs (params_name terms_name : List ℕ) (old new : FolderSeen) 
 abbrev pub start : Params → Agreement → Set
 start p agreement = record { params = p; terms = agreement; journal = [] }
 
--- The feed was run: so much of it was taken, all of it where it ended. What became of its items is the written rule
--- (*RanOver*): each set has one journal, which holds the answers to the feed's calls on it, in the feed's order.
+-- The feed was run: so much of it was taken, at most 33,554,433 bytes, and all of it where it ended. What became of its
+-- items is the written rule (*RanOver*): each set has one journal, which holds the answers to the feed's calls on it, in
+-- the feed's order.
 pub record IsFed (name : List ℕ) (old new : FolderSeen) (old_sets new_sets : List Set) (r : FeedReport) : Type 0 where
   pub taken : List ℕ
   pub ended : Bool
   pub faults : ℕ
   pub did : Did old new (with_reading no_deeds name taken faults)
+  pub few : length taken ≤ MOST_BYTES + 1
   pub front : IfSome old.told (λ t. (rest : List ℕ) × (file_of t.files name ≡ Some (taken ++ rest)))
   pub all : ended ≡ true → IfSome old.told (λ t. file_of t.files name ≡ Some taken)
   pub ran : RanOver taken ended old_sets new_sets r

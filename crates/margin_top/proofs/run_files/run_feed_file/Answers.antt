@@ -18,6 +18,7 @@ returns-clause-ends g c =
       ended = ran.ended;
       faults = faults;
       did = told_read _ _ _ c.args.name.now ran.taken faults _ _ _ _ _ _ c.in-Ok.ensures.told found ran.named ran.takes c.done.ensures.told;
+      few = ran.few;
       front = file_front _ c.args.name.now ran.taken _ _ _ _ _ found ran.takes;
       all = λ e. whole_file _ c.args.name.now ran.taken _ _ _ _ _ found ran.takes (ran.at_end e);
       ran = ran.ran;
