@@ -65,7 +65,7 @@ const MARGINS: [(&str, &str, &str); 10] = [
 ];
 
 #[test]
-fn margins(rt: HostRuntime) -> Result<(), Fail> {
+fn a_calculation_prints_the_margin_with_its_parts(rt: HostRuntime) -> Result<(), Fail> {
     let alloc = rt.alloc();
     for (rows, margin, product) in MARGINS {
         let crif = format!(in alloc; "{HEADER}{rows}")?;
@@ -95,7 +95,7 @@ const NO_MARGIN: [&str; 3] = [
 ];
 
 #[test]
-fn no_margin(rt: HostRuntime) -> Result<(), Fail> {
+fn a_margin_of_zero_is_printed_alone(rt: HostRuntime) -> Result<(), Fail> {
     let alloc = rt.alloc();
     for rows in NO_MARGIN {
         let crif = format!(in alloc; "{HEADER}{rows}")?;

@@ -31,7 +31,7 @@ const WORDS: [(&[&str], Status, &str); 8] = [
 ];
 
 #[test]
-fn words(rt: HostRuntime) -> Result<(), Fail> {
+fn words_of_no_form_and_absent_files_have_their_line(rt: HostRuntime) -> Result<(), Fail> {
     let alloc = rt.alloc();
     for (words, status, text) in WORDS {
         let outcome = run(alloc, words, PARAMS.as_bytes(), HEADER.as_bytes(), WELL)?;
@@ -74,7 +74,7 @@ const REFUSED: [(&str, &str, Status, &str); 7] = [
 ];
 
 #[test]
-fn refused(rt: HostRuntime) -> Result<(), Fail> {
+fn a_refused_file_has_its_line(rt: HostRuntime) -> Result<(), Fail> {
     let alloc = rt.alloc();
     for (params, rows, status, text) in REFUSED {
         let crif = format!(in alloc; "{HEADER}{rows}")?;
@@ -157,7 +157,7 @@ const FAILING: [(Setup, Status, &str); 8] = [
 ];
 
 #[test]
-fn failing(rt: HostRuntime) -> Result<(), Fail> {
+fn a_find_or_read_that_fails_has_its_line(rt: HostRuntime) -> Result<(), Fail> {
     let alloc = rt.alloc();
     let crif = format!(in alloc; "{HEADER}{ROW}")?;
     for (setup, status, text) in FAILING {
@@ -170,7 +170,7 @@ fn failing(rt: HostRuntime) -> Result<(), Fail> {
 
 // A sink that takes a byte at a time and fails at each of its calls in turn holds the bytes before that call.
 #[test]
-fn cut_text(rt: HostRuntime) -> Result<(), Fail> {
+fn a_sink_that_fails_holds_a_front_of_the_margin(rt: HostRuntime) -> Result<(), Fail> {
     let alloc = rt.alloc();
     let crif = format!(in alloc; "{HEADER}{ROW}")?;
     for (put, _) in MARGIN.bytes().enumerate() {
@@ -192,7 +192,7 @@ fn cut_text(rt: HostRuntime) -> Result<(), Fail> {
 
 // The same with a fault's line, of which the status stays.
 #[test]
-fn cut_fault_line(rt: HostRuntime) -> Result<(), Fail> {
+fn a_sink_that_fails_holds_a_front_of_the_fault_line(rt: HostRuntime) -> Result<(), Fail> {
     let alloc = rt.alloc();
     let line = "FAULT\tFIND\tabsent\n";
     for (put, _) in line.bytes().enumerate() {
@@ -215,7 +215,7 @@ fn cut_fault_line(rt: HostRuntime) -> Result<(), Fail> {
 
 // A file of one byte more than is read, in either place.
 #[test]
-fn too_long(rt: HostRuntime) -> Result<(), Fail> {
+fn a_file_with_a_byte_too_many_is_too_long(rt: HostRuntime) -> Result<(), Fail> {
     let alloc = rt.alloc();
     let long = vec![in alloc; b' '; 33_554_433]?;
     let outcome = run(alloc, &CALC, long.as_slice(), HEADER.as_bytes(), WELL)?;

@@ -60,20 +60,8 @@ fn run(
     feed: &str,
     trouble: Trouble,
 ) -> Result<Outcome, Fail> {
-    run_with(alloc, words, PARAMS, terms, feed, trouble)
-}
-
-/// The same with these parameters.
-fn run_with(
-    alloc: Global,
-    words: &[&str],
-    params: &str,
-    terms: &str,
-    feed: &str,
-    trouble: Trouble,
-) -> Result<Outcome, Fail> {
     let mut folder = MemFolder::new(one(alloc, trouble.find)?);
-    let params = Bytes::from_vec(params.as_bytes().to_vec(alloc)?);
+    let params = Bytes::from_vec(PARAMS.as_bytes().to_vec(alloc)?);
     folder.add(alloc, "params", params, 7, one(alloc, trouble.params)?)?;
     let terms = Bytes::from_vec(terms.as_bytes().to_vec(alloc)?);
     folder.add(alloc, "terms", terms, 7, one(alloc, trouble.terms)?)?;
@@ -91,14 +79,7 @@ fn run_with(
 // The files in `examples/` print just what docs/FORMATS.md shows.
 #[test]
 fn a_trade_that_comes_is_asked_about_and_goes(rt: HostRuntime) -> Result<(), Fail> {
-    let outcome = run_with(
-        rt.alloc(),
-        &RUN,
-        example::PARAMS,
-        example::TERMS,
-        example::FEED,
-        NONE,
-    )?;
+    let outcome = run(rt.alloc(), &RUN, example::TERMS, example::FEED, NONE)?;
     assert_eq!(rt; outcome.status, Status::Done);
     assert_eq!(rt; outcome.text.as_slice(), example::PRINTED.as_bytes());
     Ok(())
@@ -153,7 +134,7 @@ const FEEDS: [(&str, Status, &str, &str, &str); 5] = [
 ];
 
 #[test]
-fn feeds(rt: HostRuntime) -> Result<(), Fail> {
+fn each_feed_has_its_journals_and_its_report(rt: HostRuntime) -> Result<(), Fail> {
     let alloc = rt.alloc();
     for (rest, status, count, entries, end) in FEEDS {
         let feed = format!(in alloc; "{BLOCK}{rest}")?;
@@ -208,7 +189,7 @@ const FAULTS: [(&[&str], &str, Status, &str); 6] = [
 ];
 
 #[test]
-fn faults_before_the_feed(rt: HostRuntime) -> Result<(), Fail> {
+fn files_before_the_feed_have_their_fault_lines(rt: HostRuntime) -> Result<(), Fail> {
     let alloc = rt.alloc();
     for (words, terms, status, text) in FAULTS {
         let outcome = run(alloc, words, terms, BLOCK, NONE)?;
@@ -258,7 +239,7 @@ const FAILING: [(Trouble, Status, &str); 7] = [
 ];
 
 #[test]
-fn files_that_fail(rt: HostRuntime) -> Result<(), Fail> {
+fn a_find_or_read_that_fails_ends_a_run_with_its_line(rt: HostRuntime) -> Result<(), Fail> {
     let alloc = rt.alloc();
     for (trouble, status, text) in FAILING {
         let outcome = run(alloc, &RUN, TERMS, BLOCK, trouble)?;
@@ -270,7 +251,7 @@ fn files_that_fail(rt: HostRuntime) -> Result<(), Fail> {
 
 // A feed that fails behind its bytes has its whole messages done.
 #[test]
-fn a_feed_that_fails(rt: HostRuntime) -> Result<(), Fail> {
+fn a_feed_that_fails_keeps_its_earlier_entries(rt: HostRuntime) -> Result<(), Fail> {
     let alloc = rt.alloc();
     let feed = format!(in alloc; "{BLOCK}ASK\tALPHA\nCRIF\tALPHA\nT1,RatesFX\n")?;
     let trouble = Trouble { feed: 2, ..NONE };
@@ -285,7 +266,7 @@ fn a_feed_that_fails(rt: HostRuntime) -> Result<(), Fail> {
 
 // A sink that takes a byte at a time and fails at each of its calls in turn holds the bytes before that call.
 #[test]
-fn cut_journals(rt: HostRuntime) -> Result<(), Fail> {
+fn a_sink_that_fails_holds_a_front_of_the_journals(rt: HostRuntime) -> Result<(), Fail> {
     let alloc = rt.alloc();
     let whole = format!(in alloc; "SET\tALPHA\t1\n{SUBMITTED}SET\tBETA\t0\nFEED\t0\t1\t0\tEND\n")?;
     for (put, _) in whole.bytes().enumerate() {
