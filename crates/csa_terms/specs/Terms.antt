@@ -6,6 +6,7 @@ use Rattle.std.specs.Ordering.{int_eq}
 use Rattle.std.specs.List.{AllByRecursion, IsDistinct, list_any}
 use Rattle.simm_kinds.specs.NameText.{IsName}
 use Rattle.simm_kinds.specs.Order.{same_name}
+use Rattle.csa_terms.specs.Ranges.{IsWithin, amounts, units, shares}
 
 -- a class of collateral and what is taken off its value, in ten-thousandths
 pub record Haircut : Type 0 where
@@ -46,19 +47,16 @@ is_holiday agreement day = is_among agreement.holidays day
 -- ---- ranges
 
 -- an amount that may be 0: at most ten thousand billion dollars
-pub record IsAmount (cents : ℤ) : Type 0 where
-  pub low : pos 0 ≤ℤ cents
-  pub high : cents ≤ℤ pos (10 ^ 15)
+abbrev pub IsAmount : ℤ → Type 0
+IsAmount cents = IsWithin amounts cents
 
 -- a unit of rounding: a cent to ten billion dollars
-pub record IsRounding (cents : ℤ) : Type 0 where
-  pub low : pos 1 ≤ℤ cents
-  pub high : cents ≤ℤ pos (10 ^ 12)
+abbrev pub IsRounding : ℤ → Type 0
+IsRounding cents = IsWithin units cents
 
 -- a rate from 0 to 1
-pub record IsShare (rate : ℤ) : Type 0 where
-  pub low : pos 0 ≤ℤ rate
-  pub high : rate ≤ℤ pos 10000
+abbrev pub IsShare : ℤ → Type 0
+IsShare rate = IsWithin shares rate
 
 -- a day from 0001-01-01 to 9999-12-31
 pub record IsCalendarDay (day : ℤ) : Type 0 where

@@ -1,9 +1,10 @@
 -- The lines of bytes whose front is known.
-use Rattle.std.proofs.Common.{◌≡◌, ℕ, ◌+◌, ◌-◌, ◌≤◌, ◌<◌, Bool, true, false, cond, List, [], ◌∷◌, ◌++◌, length, take, refl, sym, ap, ◌∙◌, subst, arith, one-add, nat_le, nat_lt, if◌then◌else◌, length-append}
-use Rattle.std.specs.List.{slice_split, onto_first}
+use Rattle.std.proofs.Common.{◌≡◌, ℕ, ◌+◌, ◌-◌, ◌≤◌, ◌<◌, Bool, true, false, List, [], ◌∷◌, ◌++◌, length, take, refl, sym, ap, ◌∙◌, subst, arith, one-add, nat_le, nat_lt, if◌then◌else◌, length-append}
+use Rattle.std.specs.List.{slice_split}
 use Rattle.std.proofs.lemmas.List.{take_all}
 use Rattle.std.proofs.lemmas.List.Splits.{slice_split_none, slice_split_at}
 use Rattle.std.proofs.lemmas.Bool.Decides.{nat_tests}
+use Rattle.mh_units.proofs.Cuts.{first_part}
 use Rattle.mh_io.specs.Lines.{Open, Long, Over, stopped, with_lines, is_lf, without_cr, last_line, at_rest, cut, lines_behind}
 use Rattle.mh_io.specs.LinesSteps.{HasNoLf, IsPart}
 use Rattle.mh_io.specs.declared.reading.TheConstants.{MOST_BYTES}
@@ -45,17 +46,6 @@ pub over_run : (passed : ℕ) (bytes : List ℕ) (ended : Bool) → HasNoLf (tak
 over_run passed bytes ended free short over =
     no_line passed bytes ended free
     ∙ rw (is_below (length (take (MOST_BYTES - passed) bytes)) LINE_BYTES short, is_past MOST_BYTES (passed + length bytes) over) refl
-
--- there is always a first part
-first_part : (p : ℕ → Bool) (bytes : List ℕ) → (part : List ℕ) × (parts : List (List ℕ)) × (slice_split p bytes ≡ part ∷ parts)
-first_part p [] = ([], [], refl)
-first_part p (b ∷ bs) = elim (p b) as (λ v. (part : List ℕ) × (parts : List (List ℕ)) × (cond v ([] ∷ slice_split p bs) (onto_first b (slice_split p bs)) ≡ part ∷ parts)) [
-  | true ↦ ([], slice_split p bs, refl)
-  | false ↦ elim (slice_split p bs) as (λ s. (part : List ℕ) × (parts : List (List ℕ)) × (onto_first b s ≡ part ∷ parts)) [
-    | [] ↦ (b ∷ [], [], refl)
-    | part ∷ parts ↦ (b ∷ part, parts, refl)
-  ]
-]
 
 cut_first : (text bytes : List ℕ) (over ended : Bool) → length text < LINE_BYTES → cut (text ∷ slice_split is_lf bytes) over ended ≡ with_lines (without_cr text ∷ []) (cut (slice_split is_lf bytes) over ended)
 cut_first text bytes over ended short =
