@@ -1,6 +1,6 @@
 -- What a source, a sink and a folder over memory are, as contracts see them, and which of their calls fail.
 use Rattle.std.specs.Prelude.{ℕ, ◌+◌, ◌-◌, ◌^◌, ◌==◌, Bool, ◌&&◌, ◌||◌, not, List, [], ◌∷◌, ◌++◌, Option, Result, Ok, Err, min, length, map, find, is_none, bytes_eq}
-use Rattle.std.specs.List.{list_any}
+use Rattle.std.specs.List.{list_any, filter}
 use Rattle.mh_io.specs.Faults.{added_faults}
 use Rattle.mh_io.specs.Folder.{File, Reading, Telling}
 use Rattle.mh_io.specs.declared.folder.FindRefused.{FindRefused}
@@ -54,7 +54,7 @@ pub record MemoryFile : Type 0 where
   pub most : ℕ
   pub failing : List ℕ
 
--- a folder over memory; of two files of one name the first counts
+-- a folder over memory
 pub record MemoryFolder : Type 0 where
   pub files : List MemoryFile
   pub asked : List (List ℕ)
@@ -81,6 +81,14 @@ telling folder = record { files = map file_told folder.files; asked = folder.ask
 
 abbrev pub is_named : List ℕ → MemoryFile → Bool
 is_named name file = bytes_eq file.name name
+
+-- the files of other names
+abbrev pub files_but : List ℕ → List MemoryFile → List MemoryFile
+files_but name files = filter (λ file. not (is_named name file)) files
+
+-- this file, and the files of other names
+abbrev pub with_file : MemoryFile → List MemoryFile → List MemoryFile
+with_file file files = file ∷ files_but file.name files
 
 -- the file of this name, if there is one
 abbrev pub named_file : MemoryFolder → List ℕ → Option MemoryFile

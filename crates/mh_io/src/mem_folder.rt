@@ -1,7 +1,8 @@
-ghost use Rattle.std.specs.Prelude.{◌≡◌, ℕ, ◌+◌, ◌<◌, ◌≤◌, [], ◌∷◌, Some, false, true, option_map, IfOk, IfSome, OnOk, OnErr};
+ghost use Rattle.std.specs.Prelude.{◌≡◌, ℕ, ◌+◌, ◌<◌, ◌≤◌, [], Some, false, true, option_map, IfOk, IfSome, OnOk, OnErr};
+ghost use Rattle.std.specs.Vec.{vec_len, vec_capacity};
 ghost use Rattle.mh_io.specs.Faults.{Rises, added_faults};
 ghost use Rattle.mh_io.specs.Folder.{told_after_find, due_after_find, IsFound, told_after_done};
-ghost use Rattle.mh_io.specs.Memory.{uncalled, telling, opened, named_file, find_fails, after_find, after_done};
+ghost use Rattle.mh_io.specs.Memory.{uncalled, with_file, files_but, telling, opened, named_file, find_fails, after_find, after_done};
 
 use crate::calls::Calls;
 use crate::folder::{FindRefused, Folder};
@@ -60,9 +61,8 @@ impl MemFolder {
         }
     }
 
-    /// Adds a file, before one of the same name, whose place it takes. Its sources give at most `most` bytes at one call,
-    /// and fail at the calls whose numbers are in `failing`; the first call is number 1. For want of memory nothing
-    /// changes.
+    /// Adds a file, or replaces the one of this name. Its sources give at most `most` bytes at one call, and fail at the
+    /// calls whose numbers are in `failing`; the first call is number 1. For want of memory nothing changes.
     pub fn add(
         &mut self,
         alloc: Global,
@@ -74,14 +74,18 @@ impl MemFolder {
         requires { 0 < most }
         ensures ok { OnOk result (self.new ≡ record self.old {
           files
-              = record { name = name.now; bytes = bytes; most = most; failing = failing.items } ∷ self.old.files;
+              = with_file (record { name = name.now; bytes = bytes; most = most; failing = failing.items }) self.old.files;
         }) }
         ensures err { OnErr result (self.new ≡ self.old) }
     {
-        let name = copied(alloc, name.as_bytes())?;
-        self.files
-            .insert(0, MemFile::new(name, bytes, most, failing))?;
-        Ok(())
+        // What wants memory comes first, so that nothing has changed where there is none.
+        let file = MemFile::new(copied(alloc, name.as_bytes())?, bytes, most, failing);
+        self.files.reserve(1)?;
+        drop_named(&mut self.files, name);
+        match self.files.insert(0, file) {
+            Ok(()) => Ok(()),
+            Err(_) => unreachable!(),
+        }
     }
 
     /// A source of the file of this name, if there is one.
@@ -93,6 +97,15 @@ impl MemFolder {
             None => Ok(None),
         }
     }
+}
+
+/// Drops the files of this name.
+fn drop_named(files: &mut Vec<MemFile>, name: &str)
+    ensures others { files.new.items ≡ files_but name.now files.old.items }
+    ensures len { vec_len files.new ≤ vec_len files.old }
+    ensures capacity { vec_capacity files.new ≡ vec_capacity files.old }
+{
+    files.retain(|file| !file.is_named(name));
 }
 
 impl Folder for MemFolder {

@@ -1,4 +1,5 @@
-ghost use Rattle.std.specs.Prelude.{None};
+ghost use Rattle.std.specs.Prelude.{◌≡◌, [], ◌∷◌, None, IfOk};
+ghost use Rattle.mh_io.specs.Memory.{telling};
 
 use crate::{
     Failed, FindRefused, Folder, MOST_BYTES, MemFolder, MemSink, MemSource, PutFault, ReadAllFault,
@@ -171,6 +172,33 @@ fn finds_files_over_memory(rt: HostRuntime) -> Result<(), Fail> {
         let read = read_file(alloc, &mut folder, name);
         assert_eq!(rt; outcome(&read), wanted.as_bytes(), "at {name}");
     }
+    Ok(())
+}
+
+/// A folder to which a file was added twice.
+fn added_twice(
+    alloc: Global,
+    name: &str,
+    early: Bytes,
+    late: Bytes,
+) -> Result<MemFolder, AllocError>
+    ensures { IfOk result (λ folder. (telling folder).files ≡ record { name = name.now; bytes = late } ∷ []) }
+{
+    let mut folder = MemFolder::new(Vec::new(alloc));
+    folder.add(alloc, name, early, 1, Vec::new(alloc))?;
+    folder.add(alloc, name, late, 1, Vec::new(alloc))?;
+    Ok(folder)
+}
+
+// The contract of `added_twice` shows that it is told once.
+#[test]
+fn a_file_added_twice_has_the_later_bytes(rt: HostRuntime) -> Result<(), Fail> {
+    let alloc = rt.alloc();
+    let early = bytes_of(alloc, b"early")?;
+    let late = bytes_of(alloc, b"late")?;
+    let mut folder = added_twice(alloc, "a.csv", early, late)?;
+    let read = read_file(alloc, &mut folder, "a.csv");
+    assert_eq!(rt; outcome(&read), b"late".as_slice());
     Ok(())
 }
 
