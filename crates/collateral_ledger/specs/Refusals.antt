@@ -6,7 +6,7 @@ use Rattle.collateral_ledger.specs.declared.fault.LedgerFault.TheVariants as fau
 use Rattle.collateral_ledger.specs.Holdings.{Lot, Holdings}
 use Rattle.collateral_ledger.specs.Changes.{has_lot, has_call}
 
--- the numbers of faults in printed text; want of memory has none
+-- a fault's own number among the faults of a ledger; want of memory has none
 abbrev pub ledger_fault_number : LedgerFault → Option ℕ
 ledger_fault_number fault.LotKnown = Some 1
 ledger_fault_number fault.LotUnknown = Some 2

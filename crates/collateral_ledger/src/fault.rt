@@ -23,7 +23,7 @@ pub enum LedgerFault {
 }
 
 impl LedgerFault {
-    /// The fault's number in printed text; want of memory has none.
+    /// The fault's own number among the faults of a ledger; want of memory has none.
     pub fn number(self) -> Option<u8>
         ensures { result ≡ ledger_fault_number self }
     {

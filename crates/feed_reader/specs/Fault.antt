@@ -1,4 +1,4 @@
--- The numbers of faults in printed text. Want of memory has none.
+-- The own number of each fault of a feed. Want of memory has none.
 use Rattle.std.specs.Prelude.{ℕ, Option, Some, None}
 use Rattle.feed_reader.specs.declared.fault.FeedFault.{FeedFault}
 use Rattle.feed_reader.specs.declared.fault.FeedFault.TheVariants as fault

@@ -19,7 +19,7 @@ pub enum FeedFault {
 }
 
 impl FeedFault {
-    /// The fault's number in printed text; want of memory has none.
+    /// The fault's own number among the faults of a feed; want of memory has none.
     pub fn number(self) -> Option<u8>
         ensures { result ≡ feed_fault_number self }
     {

@@ -134,7 +134,7 @@ pub record IsExact (places : ℕ) (text : List ℕ) (n : ℤ) : Type 0 where
 
 -- ---- what reading answers
 
--- a fault's number in print
+-- a fault's own number among the faults of a numeral
 abbrev pub fault_number : NumeralFault → ℕ
 fault_number faults.Empty = 1
 fault_number faults.TooLong = 2

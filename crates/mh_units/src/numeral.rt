@@ -28,7 +28,7 @@ pub enum NumeralFault {
 }
 
 impl NumeralFault {
-    /// The fault's number in print, 1 to 4.
+    /// The fault's own number among the faults of a numeral, 1 to 4.
     pub fn number(self) -> u8
         ensures { result ≡ fault_number self }
     {

@@ -1,4 +1,4 @@
--- The numbers of faults in printed text. Want of memory has none.
+-- The own number of each fault of a name, and of each fault of a batch. Want of memory has none.
 use Rattle.std.specs.Prelude.{ℕ, Option, Some, None}
 use Rattle.simm_kinds.specs.declared.fault.NameFault.{NameFault}
 use Rattle.simm_kinds.specs.declared.fault.NameFault.TheVariants as name

@@ -15,7 +15,7 @@ pub enum NameFault {
 }
 
 impl NameFault {
-    /// The fault's number in printed text; want of memory has none.
+    /// The fault's own number among the faults of a name; want of memory has none.
     pub fn number(self) -> Option<u8>
         ensures { result ≡ name_fault_number self }
     {
@@ -58,7 +58,7 @@ pub enum MakeFault {
 }
 
 impl MakeFault {
-    /// The fault's number in printed text; want of memory has none.
+    /// The fault's own number among the faults of a batch; want of memory has none.
     pub fn number(self) -> Option<u8>
         ensures { result ≡ make_fault_number self }
     {
