@@ -1,7 +1,11 @@
 //! The written margin rule as definitions, after the ISDA SIMM methodology, and the plain values that it gives.
-//! The definitions stand in `specs/`, one idea a file: whoever trusts a margin trusts these files and no others.
+//! The definitions stand in `specs/`, one idea a file. Whoever trusts a margin trusts these files and those that they cite:
+//! the rounding of `mh_units`, the kinds, keys and rows of `simm_kinds` and their order, and the standard library's.
 #![tactic(auto)]
 
 mod values;
 
 pub use values::{Breakdown, BucketMargin, RangeFault, RangeKind};
+
+#[cfg(test)]
+mod tests;

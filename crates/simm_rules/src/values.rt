@@ -70,7 +70,10 @@ impl RangeKind {
 /// A book that is out of range: the first quantity that is above its limit.
 #[derive(Clone, Copy, Debug, PartialEq, Eq)]
 pub struct RangeFault {
+    /// The quantity.
     pub which: RangeKind,
+    /// How much there is of it: a count, or cents for the weighted sizes.
     pub value: i128,
+    /// The most that there may be of it, in the same unit.
     pub limit: i128,
 }
