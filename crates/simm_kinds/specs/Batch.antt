@@ -9,7 +9,7 @@ use Rattle.simm_kinds.specs.declared.fault.MakeFault.{MakeFault}
 use Rattle.simm_kinds.specs.declared.fault.MakeFault.TheVariants as fault
 use Rattle.simm_kinds.specs.Key.{Key}
 pub use Rattle.simm_kinds.specs.Repeats.{repeats}
-use Rattle.simm_kinds.specs.Order.{same_name, same_key, kind_place}
+use Rattle.simm_kinds.specs.Order.{same_name, same_key}
 
 -- all rows of the trades, trade after trade
 abbrev pub rows_of : List TradeRows → List CrifRow
@@ -17,7 +17,10 @@ rows_of trades = flat_map (λ t. t.rows) trades
 
 -- a parameter of an add-on
 abbrev pub is_param : RiskType → Bool
-is_param k = nat_le 17 (kind_place k) && nat_le (kind_place k) 19
+is_param kind.AddOnNotionalFactor = true
+is_param kind.AddOnFixedAmount = true
+is_param kind.ProductClassMultiplier = true
+is_param _ = false
 
 -- a parameter that stands once at most: fixed amounts add up
 abbrev pub is_single_param : RiskType → Bool
