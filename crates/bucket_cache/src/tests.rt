@@ -168,7 +168,7 @@ fn margins_are(
 }
 
 #[test]
-fn events(rt: HostRuntime) -> Result<(), Fail> {
+fn each_event_has_its_answer_and_margin(rt: HostRuntime) -> Result<(), Fail> {
     let alloc = rt.alloc();
     let mut live = live(alloc)?;
     for (event, expected, total, count) in EVENTS {
@@ -178,9 +178,8 @@ fn events(rt: HostRuntime) -> Result<(), Fail> {
     Ok(())
 }
 
-/// A trade whose rows are replaced keeps its place.
 #[test]
-fn places(rt: HostRuntime) -> Result<(), Fail> {
+fn a_replaced_trade_keeps_its_place(rt: HostRuntime) -> Result<(), Fail> {
     let alloc = rt.alloc();
     let first = read_name(alloc, "T1")?;
     let mut live = live(alloc)?;
@@ -190,6 +189,15 @@ fn places(rt: HostRuntime) -> Result<(), Fail> {
     assert!(rt; is_at(&live, 1, "T1") && is_at(&live, 2, "T2"));
     assert!(rt; live.trade_at(0).is_none() && live.trade_at(3).is_none());
     assert!(rt; has_amount(&live, &first, 7));
-    assert!(rt; !live.params().is_calculation_currency(&first));
+    Ok(())
+}
+
+#[test]
+fn its_parameters_tell_the_calculation_currency(rt: HostRuntime) -> Result<(), Fail> {
+    let alloc = rt.alloc();
+    let live = live(alloc)?;
+    let params = live.params();
+    assert!(rt; params.is_calculation_currency(&read_name(alloc, "USD")?));
+    assert!(rt; !params.is_calculation_currency(&read_name(alloc, "EUR")?));
     Ok(())
 }

@@ -1,6 +1,6 @@
 ghost use Rattle.std.specs.Prelude.{◌≤◌, length, IfOk};
 
-use crate::{BucketAt, ClassAt, Factors, order_is_free};
+use crate::{Factors, order_is_free};
 use simm_kinds::{BucketId, CrifRow, FactorKey, Measure, Name, ProductClass, RiskClass, RiskType};
 use std::alloc::Global;
 use std::test::Fail;
@@ -120,24 +120,28 @@ fn keys_have_rows(rt: HostRuntime) -> Result<(), Fail> {
     Ok(())
 }
 
-#[test]
-fn facts_change_nothing(rt: HostRuntime) -> Result<(), Fail> {
-    let factors = Factors::new(rt.alloc());
-    factors.facts();
-    order_is_free();
-    Ok(())
+/// The book of all rows of the table, the last of them first.
+fn turned_rows(alloc: Global) -> Result<Factors, Fail> {
+    let mut rows = rows(alloc)?;
+    rows.reverse();
+    book(alloc, rows.as_slice(), rows.len())
 }
 
 #[test]
-fn places_are_named(rt: HostRuntime) {
-    let at = BucketAt {
-        product: ProductClass::Credit,
-        class: RiskClass::CreditQ,
-        bucket: BucketId::Number(1),
-    };
-    let whole = ClassAt {
-        product: at.product,
-        class: at.class,
-    };
-    assert_eq!(rt; whole.class, RiskClass::CreditQ);
+fn rows_in_another_order_make_the_same_book(rt: HostRuntime) -> Result<(), Fail> {
+    let alloc = rt.alloc();
+    let straight = first_rows(alloc, ROWS.len())?;
+    let turned = turned_rows(alloc)?;
+    turned.facts();
+    order_is_free();
+    for (_, product, currency, _) in NETS {
+        let key = key(alloc, product, currency)?;
+        assert_eq!(rt; turned.net(&key), straight.net(&key));
+    }
+    for (_, product, measure, _) in KEYS {
+        let wanted = currencies(alloc, &straight, product, measure)?;
+        let found = currencies(alloc, &turned, product, measure)?;
+        assert_eq!(rt; found.as_slice(), wanted.as_slice());
+    }
+    Ok(())
 }
