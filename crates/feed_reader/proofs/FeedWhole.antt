@@ -4,10 +4,11 @@ use Rattle.mh_io.specs.Lined.{Lined, is_ended}
 use Rattle.feed_reader.proofs.FeedTakings.{gave_none}
 use Rattle.feed_reader.proofs.FeedItems.{no_lines}
 use Rattle.feed_reader.specs.declared.message.Fed.{Fed}
-use Rattle.feed_reader.specs.Feed.{Item, Sent, BadAt, FeedStop, feed, messages_of, bad_lines_of}
+use Rattle.feed_reader.specs.Feed.{Item, Sent, BadAt, FeedStop, feed}
 use Rattle.feed_reader.specs.declared.fault.FeedFault.{FeedFault}
 use Rattle.feed_reader.specs.declared.fault.FeedFault.TheVariants as fault
-use Rattle.feed_reader.specs.Answers.{fresh, TellsItems, ReadsFeed, Follows, ReadsTo}
+use Rattle.feed_reader.specs.Answers.{fresh, TellsItems, ReadsFeed, Follows}
+use Rattle.feed_reader.specs.Whole.{messages_of, bad_lines_of, ReadsTo}
 
 module _ {S : Type 0} (faults : S → ℕ) (name gave left : S → Option (List ℕ)) where
   -- before the first call

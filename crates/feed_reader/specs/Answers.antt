@@ -8,7 +8,7 @@ use Rattle.mh_io.specs.declared.reading.TheConstants.{MOST_BYTES}
 use Rattle.feed_reader.specs.declared.message.Fed.{Fed}
 use Rattle.feed_reader.specs.declared.fault.FeedFault.{FeedFault}
 use Rattle.feed_reader.specs.declared.fault.FeedFault.TheVariants as fault
-use Rattle.feed_reader.specs.Feed.{Item, Sent, BadAt, FeedStop, Whole, Cut, LineLong, TooLong, Open, FeedRun, AreItems, line_of, no_items, items_from, messages_of, bad_lines_of}
+use Rattle.feed_reader.specs.Feed.{Item, Sent, BadAt, FeedStop, Whole, Cut, LineLong, TooLong, Open, FeedRun, AreItems, line_of, no_items, items_from}
 use Rattle.feed_reader.specs.Line.{IsBegun}
 
 -- the items that come, once these bytes are taken too
@@ -75,29 +75,6 @@ module _ {S : Type 0} (faults : S → ℕ) (name gave left : S → Option (List 
   Follows first new told (Err (fault.TooLong taken)) = ReadsFeed first new told TooLong
   Follows first new told (Err fault.ReadFault) = ReadsFeed first new told Open
   Follows first new told (Err (fault.Memory line)) = ComesTo first new told line
-
-  -- these messages and bad lines are the items, and the feed stops in this way
-  pub record Reads (old new : Lined S) (fed : List Fed) (bad : List ℕ) (stop : FeedStop) : Type 0 where
-    pub items : List Item
-    pub reads : ReadsFeed old new items stop
-    pub messages : fed ≡ messages_of items
-    pub bad_lines : bad ≡ bad_lines_of items
-
-  -- these messages and bad lines are the items before this line, at which memory ran out
-  pub record ReadsUpTo (old new : Lined S) (fed : List Fed) (bad : List ℕ) (line : ℕ) : Type 0 where
-    pub items : List Item
-    pub comes : ComesTo old new items line
-    pub messages : fed ≡ messages_of items
-    pub bad_lines : bad ≡ bad_lines_of items
-
-  -- what reading a feed up to a fault that ends it answers
-  abbrev pub ReadsTo : Lined S → Lined S → List Fed → List ℕ → FeedFault → Type 0
-  ReadsTo old new fed bad (fault.BadLine line) = ⊥
-  ReadsTo old new fed bad (fault.Cut line) = Reads old new fed bad (Cut line)
-  ReadsTo old new fed bad (fault.LineLong line) = Reads old new fed bad (LineLong line)
-  ReadsTo old new fed bad (fault.TooLong taken) = Reads old new fed bad TooLong
-  ReadsTo old new fed bad fault.ReadFault = Reads old new fed bad Open
-  ReadsTo old new fed bad (fault.Memory line) = ReadsUpTo old new fed bad line
 
   -- the next item, or the way in which the feed stops
   abbrev pub Answers : Lined S → Lined S → Result (Option Fed) FeedFault → Type 0

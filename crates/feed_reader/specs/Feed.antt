@@ -14,18 +14,6 @@ pub data Item : Type 0 where
   Sent : (fed : Fed) → Item
   BadAt : (line : ℕ) → Item
 
--- the messages among the items
-abbrev pub messages_of : List Item → List Fed
-messages_of [] = []
-messages_of (Sent fed ∷ items) = fed ∷ messages_of items
-messages_of (BadAt line ∷ items) = messages_of items
-
--- the numbers of the lines among them that are none
-abbrev pub bad_lines_of : List Item → List ℕ
-bad_lines_of [] = []
-bad_lines_of (Sent fed ∷ items) = bad_lines_of items
-bad_lines_of (BadAt line ∷ items) = line ∷ bad_lines_of items
-
 -- the input ended outside a block; inside the block that this line began; a line is too long; the input is; or more may come
 pub data FeedStop : Type 0 where
   Whole : FeedStop

@@ -1,6 +1,6 @@
 ghost use Rattle.std.specs.Prelude.{◌≡◌, [], OnOk, IfErr};
 ghost use Rattle.feed_reader.specs.Feed.{Whole};
-ghost use Rattle.feed_reader.specs.Answers.{Reads, ReadsTo};
+ghost use Rattle.feed_reader.specs.Whole.{Reads, ReadsTo};
 
 use crate::{Fed, FeedFault, next_message};
 use mh_io::{Lines, Source};

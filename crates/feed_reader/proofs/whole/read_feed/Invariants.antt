@@ -1,7 +1,8 @@
 use Rattle.std.proofs.Common.{◌≡◌, ◌-◌, List}
 use Rattle.mh_io.specs.declared.reading.TheConstants.{MOST_BYTES}
-use Rattle.feed_reader.specs.Feed.{Item, messages_of, bad_lines_of}
+use Rattle.feed_reader.specs.Feed.{Item}
 use Rattle.feed_reader.specs.Answers.{TellsItems}
+use Rattle.feed_reader.specs.Whole.{messages_of, bad_lines_of}
 use Rattle.feed_reader.proofs.whole.read_feed.Given as goal
 
 -- the messages and bad lines so far are those of the items that were told
