@@ -1,6 +1,6 @@
 use crate::{
-    Cents, Corr6, NumeralFault, Rate4, clamp_to, cut_at, div_away, div_down, div_trunc, div_up,
-    least_root, mul_corr, read_cents, read_fixed, read_rate4, write_cents,
+    Cents, Corr6, NumeralFault, Rate4, Text, clamp_to, cut_at, div_away, div_down, div_trunc,
+    div_up, least_root, mul_corr, push_cents, read_cents, read_fixed, read_rate4, write_cents,
 };
 use std::test::Fail;
 
@@ -65,19 +65,36 @@ fn rates_are_read(rt: HostRuntime) {
     }
 }
 
+/// Cents, and the amount of money that they are.
+const AMOUNTS: [(i128, &str); 9] = [
+    (0, "0.00"),
+    (5, "0.05"),
+    (100, "1.00"),
+    (740_000, "7400.00"),
+    (-1, "-0.01"),
+    (-100, "-1.00"),
+    (100_000_000_000_000_000, "1000000000000000.00"),
+    (i128::MAX, "1701411834604692317316873037158841057.27"),
+    (i128::MIN, "-1701411834604692317316873037158841057.28"),
+];
+
 #[test]
 fn money_is_written(rt: HostRuntime) -> Result<(), Fail> {
-    for (cents, want) in [
-        (0, "0.00"),
-        (740_000, "7400.00"),
-        (5, "0.05"),
-        (-1, "-0.01"),
-        (-100, "-1.00"),
-        (i128::MAX, "1701411834604692317316873037158841057.27"),
-        (i128::MIN, "-1701411834604692317316873037158841057.28"),
-    ] {
+    for (cents, want) in AMOUNTS {
         let text = write_cents(rt.alloc(), Cents(cents))?;
         assert_eq!(rt; text.as_slice(), want.as_bytes(), "{cents}");
+    }
+    Ok(())
+}
+
+#[test]
+fn money_is_added_behind_a_text(rt: HostRuntime) -> Result<(), Fail> {
+    let mut text = Text::new(rt.alloc());
+    let mut wanted = Text::new(rt.alloc());
+    for (cents, want) in AMOUNTS {
+        push_cents(&mut text, Cents(cents))?;
+        wanted.extend(want.as_bytes())?;
+        assert_eq!(rt; text.as_slice(), wanted.as_slice(), "{cents}");
     }
     Ok(())
 }
