@@ -10,19 +10,18 @@ use simm_rules::Breakdown;
 use std::alloc::{AllocError, Global};
 
 /// Adds the line of an add-on, where it isn't 0.
-fn push_add_on(alloc: Global, text: &mut Text, word: &[u8], cents: i128) -> Result<(), AllocError>
+fn push_add_on(text: &mut Text, word: &[u8], cents: i128) -> Result<(), AllocError>
     ensures { OnOk result (text.new ≡ text.old ++ amount_line (field word.now) cents) }
 {
     if cents == 0 {
         return Ok(());
     }
     push_field(text, word)?;
-    push_amount(alloc, text, cents)
+    push_amount(text, cents)
 }
 
 /// Adds the line of a class, where its margin isn't 0.
 fn push_class(
-    alloc: Global,
     text: &mut Text,
     product: ProductClass,
     class: RiskClass,
@@ -36,28 +35,22 @@ fn push_class(
     push_field(text, b"CLASS")?;
     push_field(text, product.word().as_bytes())?;
     push_field(text, class.word().as_bytes())?;
-    push_amount(alloc, text, cents)
+    push_amount(text, cents)
 }
 
 /// Adds the lines of a product's classes.
-fn push_classes(
-    alloc: Global,
-    text: &mut Text,
-    product: ProductClass,
-    margins: &[i128],
-) -> Result<(), AllocError>
+fn push_classes(text: &mut Text, product: ProductClass, margins: &[i128]) -> Result<(), AllocError>
     requires { length margins.now ≡ 6 }
     ensures { OnOk result (text.new ≡ text.old ++ class_lines product classes margins.now) }
 {
     for (i, class) in RiskClass::ALL.iter().enumerate() {
-        push_class(alloc, text, product, *class, margins[i])?;
+        push_class(text, product, *class, margins[i])?;
     }
     Ok(())
 }
 
 /// Adds the lines of a product, where its margin isn't 0.
 fn push_product(
-    alloc: Global,
     text: &mut Text,
     product: ProductClass,
     cents: i128,
@@ -71,17 +64,16 @@ fn push_product(
     }
     push_field(text, b"PRODUCT")?;
     push_field(text, product.word().as_bytes())?;
-    push_amount(alloc, text, cents)?;
-    push_classes(alloc, text, product, margins)
+    push_amount(text, cents)?;
+    push_classes(text, product, margins)
 }
 
 /// Adds the lines of all products.
-fn push_products(alloc: Global, text: &mut Text, margin: &Breakdown) -> Result<(), AllocError>
+fn push_products(text: &mut Text, margin: &Breakdown) -> Result<(), AllocError>
     ensures { OnOk result (text.new ≡ text.old ++ all_product_lines products margin.now.products margin.now.classes) }
 {
     for (i, product) in ProductClass::ALL.iter().enumerate() {
         push_product(
-            alloc,
             text,
             *product,
             margin.products[i],
@@ -93,17 +85,13 @@ fn push_products(alloc: Global, text: &mut Text, margin: &Breakdown) -> Result<(
 
 /// Adds the lines of a margin's parts that aren't 0.
 #[tactic(auto, unfolding(crate::specs::Margins::part_lines))]
-pub(crate) fn push_parts(
-    alloc: Global,
-    text: &mut Text,
-    margin: &Breakdown,
-) -> Result<(), AllocError>
+pub(crate) fn push_parts(text: &mut Text, margin: &Breakdown) -> Result<(), AllocError>
     ensures { OnOk result (text.new ≡ text.old ++ part_lines margin.now) }
 {
-    push_products(alloc, text, margin)?;
-    push_add_on(alloc, text, b"FIXED", margin.fixed)?;
-    push_add_on(alloc, text, b"NOTIONAL", margin.notional)?;
-    push_add_on(alloc, text, b"MULTIPLIER", margin.multiplier)?;
+    push_products(text, margin)?;
+    push_add_on(text, b"FIXED", margin.fixed)?;
+    push_add_on(text, b"NOTIONAL", margin.notional)?;
+    push_add_on(text, b"MULTIPLIER", margin.multiplier)?;
     Ok(())
 }
 
@@ -118,7 +106,7 @@ pub fn margin_lines(alloc: Global, margin: &Breakdown) -> Result<Text, AllocErro
 {
     let mut text = Text::new(alloc);
     push_field(&mut text, b"MARGIN")?;
-    push_amount(alloc, &mut text, margin.total)?;
-    push_parts(alloc, &mut text, margin)?;
+    push_amount(&mut text, margin.total)?;
+    push_parts(&mut text, margin)?;
     Ok(text)
 }

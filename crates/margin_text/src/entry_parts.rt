@@ -52,21 +52,21 @@ fn push_event(text: &mut Text, event: &Event) -> Result<(), AllocError>
 }
 
 /// Adds the lines of an event under its entry's line.
-fn push_event_lines(alloc: Global, text: &mut Text, event: &Event) -> Result<(), AllocError>
+fn push_event_lines(text: &mut Text, event: &Event) -> Result<(), AllocError>
     ensures { OnOk result (text.new ≡ text.old ++ event_lines event.now) }
 {
     match event {
-        Event::Submit(batch) => push_trades(alloc, text, batch.trades()),
+        Event::Submit(batch) => push_trades(text, batch.trades()),
         Event::Withdraw(_) | Event::AskMargin => Ok(()),
     }
 }
 
 /// Adds the lines of a reply under its entry's line.
-fn push_reply_lines(alloc: Global, text: &mut Text, reply: &Reply) -> Result<(), AllocError>
+fn push_reply_lines(text: &mut Text, reply: &Reply) -> Result<(), AllocError>
     ensures { OnOk result (text.new ≡ text.old ++ reply_lines reply.now) }
 {
     match reply {
-        Reply::Margin(margin) => push_parts(alloc, text, margin),
+        Reply::Margin(margin) => push_parts(text, margin),
         Reply::Accepted | Reply::Refused(_) => Ok(()),
     }
 }
@@ -97,6 +97,6 @@ pub(crate) fn push_entry(
     ensures { OnOk result (text.new ≡ text.old ++ entry_lines number entry.now) }
 {
     push_entry_line(alloc, text, number, entry)?;
-    push_event_lines(alloc, text, &entry.event)?;
-    push_reply_lines(alloc, text, &entry.reply)
+    push_event_lines(text, &entry.event)?;
+    push_reply_lines(text, &entry.reply)
 }

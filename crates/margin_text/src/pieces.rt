@@ -4,8 +4,8 @@ ghost use Rattle.mh_units.specs.Money.{money_text};
 ghost use Rattle.margin_text.specs.Fields.{field, last_field};
 
 use itoa::Buffer;
-use mh_units::{Cents, Text, write_cents};
-use std::alloc::{AllocError, Global};
+use mh_units::{Cents, Text, push_cents};
+use std::alloc::AllocError;
 
 /// Adds a field that another follows.
 pub(crate) fn push_field(text: &mut Text, bytes: &[u8]) -> Result<(), AllocError>
@@ -40,8 +40,9 @@ pub(crate) fn push_last_number(text: &mut Text, number: u64) -> Result<(), Alloc
 }
 
 /// Adds an amount as the last field of a line.
-pub(crate) fn push_amount(alloc: Global, text: &mut Text, cents: i128) -> Result<(), AllocError>
+pub(crate) fn push_amount(text: &mut Text, cents: i128) -> Result<(), AllocError>
     ensures { OnOk result (text.new ≡ text.old ++ last_field (money_text cents)) }
 {
-    push_last(text, write_cents(alloc, Cents(cents))?.as_slice())
+    push_cents(text, Cents(cents))?;
+    text.push(b'\n')
 }

@@ -11,7 +11,7 @@ use crate::pieces::{push_amount, push_field, push_last, push_last_number, push_n
 use itoa::Buffer;
 use mh_units::Text;
 use simm_kinds::{BucketId, CrifRow, FactorKey, RiskType, TradeRows};
-use std::alloc::{AllocError, Global};
+use std::alloc::AllocError;
 
 /// Adds the field of a bucket.
 fn push_bucket(text: &mut Text, bucket: BucketId) -> Result<(), AllocError>
@@ -47,61 +47,52 @@ fn push_last_signed(text: &mut Text, number: i64) -> Result<(), AllocError>
 }
 
 /// Adds a row's amount as the last field of its line.
-fn push_row_amount(
-    alloc: Global,
-    text: &mut Text,
-    kind: RiskType,
-    amount: i64,
-) -> Result<(), AllocError>
+fn push_row_amount(text: &mut Text, kind: RiskType, amount: i64) -> Result<(), AllocError>
     ensures { OnOk result (text.new ≡ text.old ++ last_field (row_amount kind amount)) }
 {
     match kind {
         RiskType::ProductClassMultiplier | RiskType::AddOnNotionalFactor => {
             push_last_signed(text, amount)
         }
-        _ => push_amount(alloc, text, i128::from(amount)),
+        _ => push_amount(text, i128::from(amount)),
     }
 }
 
 /// Adds the line of a row.
-fn push_row(alloc: Global, text: &mut Text, row: &CrifRow) -> Result<(), AllocError>
+fn push_row(text: &mut Text, row: &CrifRow) -> Result<(), AllocError>
     ensures { OnOk result (text.new ≡ text.old ++ row_line row.now) }
 {
     push_field(text, b"ROW")?;
     push_key(text, &row.key)?;
-    push_row_amount(alloc, text, row.key.kind(), row.amount)
+    push_row_amount(text, row.key.kind(), row.amount)
 }
 
 /// Adds the lines of rows.
-fn push_rows(alloc: Global, text: &mut Text, rows: &[CrifRow]) -> Result<(), AllocError>
+fn push_rows(text: &mut Text, rows: &[CrifRow]) -> Result<(), AllocError>
     ensures { OnOk result (text.new ≡ text.old ++ flat_map row_line rows.now) }
 {
     for row in rows {
-        push_row(alloc, text, row)?;
+        push_row(text, row)?;
     }
     Ok(())
 }
 
 /// Adds the line of a trade, and its rows under it.
-fn push_trade(alloc: Global, text: &mut Text, trade: &TradeRows) -> Result<(), AllocError>
+fn push_trade(text: &mut Text, trade: &TradeRows) -> Result<(), AllocError>
     ensures { OnOk result (text.new ≡ text.old ++ trade_lines trade.now) }
 {
     push_field(text, b"TRADE")?;
     push_field(text, trade.trade.bytes())?;
     push_last_number(text, trade.rows.len() as u64)?;
-    push_rows(alloc, text, trade.rows.as_slice())
+    push_rows(text, trade.rows.as_slice())
 }
 
 /// Adds the lines of trades.
-pub(crate) fn push_trades(
-    alloc: Global,
-    text: &mut Text,
-    trades: &[TradeRows],
-) -> Result<(), AllocError>
+pub(crate) fn push_trades(text: &mut Text, trades: &[TradeRows]) -> Result<(), AllocError>
     ensures { OnOk result (text.new ≡ text.old ++ flat_map trade_lines trades.now) }
 {
     for trade in trades {
-        push_trade(alloc, text, trade)?;
+        push_trade(text, trade)?;
     }
     Ok(())
 }

@@ -4,7 +4,7 @@ ghost use Rattle.set_core.specs.declared.refusal.Refusal.TheVariants as refusal;
 ghost use Rattle.set_core.specs.Text.{refusal_number, refusal_text, reply_text};
 
 use crate::{Refusal, Reply};
-use mh_units::{Cents, Text, write_cents};
+use mh_units::{Cents, Text, push_cents};
 use simm_rules::RangeFault;
 use std::alloc::{AllocError, Global};
 
@@ -17,7 +17,7 @@ pub fn reply_text(alloc: Global, reply: &Reply) -> Result<Text, AllocError>
         Reply::Refused(refusal) => refusal_text(alloc, *refusal),
         Reply::Margin(margin) => {
             let mut text = text_of(alloc, b"MARGIN\t")?;
-            text.extend(write_cents(alloc, Cents(margin.total))?.as_slice())?;
+            push_cents(&mut text, Cents(margin.total))?;
             Ok(text)
         }
     }
