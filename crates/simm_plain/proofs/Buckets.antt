@@ -6,6 +6,7 @@ use Rattle.std.proofs.Math.IntN.{+ℤ_idl}
 use Rattle.std.proofs.lemmas.Bool.{not-true, and_parts}
 use Rattle.std.proofs.lemmas.List.{length-map}
 use Rattle.std.proofs.lemmas.List.Sums.{sum_by-cons}
+use Rattle.std.proofs.lemmas.Simd.{map-map}
 use Rattle.mh_units.specs.Rounding.{up}
 use Rattle.simm_kinds.specs.declared.kinds.ProductClass.{ProductClass}
 use Rattle.simm_kinds.specs.declared.kinds.ProductClass.TheVariants as product
@@ -25,11 +26,13 @@ use Rattle.simm_rules.specs.Range.{above, range}
 use Rattle.simm_rules.specs.Simm.{products}
 use Rattle.simm_params.specs.Facts.{IsParams}
 use Rattle.simm_plain.specs.FxKeys.{IsFxKey, FxRows}
-use Rattle.simm_plain.specs.Nets.{nets_of}
-use Rattle.simm_plain.specs.Bucket.{product_nets, is_factor, factors, factor_cr, factor_weighted, factor_corr, factor_sum, weighted_net, Ascends, IsFactor, IsBucket}
+use Rattle.simm_plain.specs.declared.sums.Sums.{Sums}
+use Rattle.simm_plain.specs.Nets.{nets_of, sums_at, sums_of, nets_in}
+use Rattle.simm_plain.specs.Bucket.{is_factor, factors, factor_cr, factor_weighted, factor_corr, factor_sum, weighted_net, Ascends, IsFactor, IsBucket}
 use Rattle.simm_plain.specs.Faults as faults
-use Rattle.simm_plain.specs.Faults.{either_first, row_size}
+use Rattle.simm_plain.specs.Faults.{either_first}
 use Rattle.simm_plain.proofs.Filters.{filter_agrees, filter_both, each_weaker, each_kept, each_both, kept_pass, total_by-agrees, total_by-map}
+use Rattle.simm_plain.proofs.KeySums.{row_size, size_by_rows}
 use Rattle.simm_plain.proofs.Nets.{keys_each, keys_ascend, keys_of-filter, net-filter, group_net_is, map-filter}
 use Rattle.simm_plain.proofs.Ranges.{bucket_fault, gross_fault, key_fault, fx_in, range_is}
 use Rattle.simm_plain.proofs.Sizes.{sum_by-agrees}
@@ -49,7 +52,15 @@ sum_by-map : {X A : Type 0} (f : A → ℕ) (g : X → A) (xs : List X) → sum_
 sum_by-map f g [] = refl
 sum_by-map f g (x ∷ xs) = omega (arith, sum_by-map f g xs, sum_by-cons f (g x) (map g xs), sum_by-cons (λ y. f (g y)) x xs)
 
+first_keys : {A : Type 0} (v : Key → A) (ks : List Key) → map (λ (e : Key × A). e.0) (map (λ k. (k, v k)) ks) ≡ ks
+first_keys v [] = refl
+first_keys v (k ∷ ks) = ap (λ ls. k ∷ ls) (first_keys v ks)
+
 -- ---- which nets
+
+-- the sums have the nets
+pub nets_in-sums_of : (rows : List CrifRow) → nets_in (sums_of rows) ≡ nets_of rows
+nets_in-sums_of rows = map-map (λ (e : Key × Sums). (e.0, e.1.net)) (λ k. (k, sums_at rows k)) (keys_of rows)
 
 abbrev pair : List CrifRow → Key → Key × ℤ
 pair rows k = (k, net rows k)
@@ -70,10 +81,9 @@ product_keys rows product h =
     ∙ sym (keys_of-filter (in_product product) rows h)
 
 -- how many keys a product class has
-pub product_count : (rows : List CrifRow) (product : ProductClass) → FxRows rows → length (product_nets product (nets_of rows)) ≡ length (keys_of (rows_in product class.FX measure.Delta rows))
+product_count : (rows : List CrifRow) (product : ProductClass) → FxRows rows → length (faults.product_keys product (sums_of rows)) ≡ length (keys_of (rows_in product class.FX measure.Delta rows))
 product_count rows product h =
-    ap length (sym (map-filter (pair rows) (λ (e : Key × ℤ). same_product e.0.product product) (keys_of rows)))
-    ∙ length-map (filter (λ k. same_product k.product product) (keys_of rows)) (pair rows)
+    ap (λ ks. length (filter (λ k. same_product k.product product) ks)) (first_keys (sums_at rows) (keys_of rows))
     ∙ ap length (product_keys rows product h)
 
 factor_keys : (p : Params) (rows : List CrifRow) (product : ProductClass) → FxRows rows → filter (λ k. same_product k.product product && not (is_own_currency p k)) (keys_of rows) ≡ keys_of (risky p (rows_in product class.FX measure.Delta rows))
@@ -145,31 +155,27 @@ row_sum p product (r ∷ rs) = here (same_product r.key.product product) (row_su
     here true i = ap (λ z. pos (unsigned_abs r.amount) *ℤ weight p r.key +ℤ z) i
     here false i = +ℤ_idl (total_by (row_size p product) rs) ∙ i
 
-pub same_gross : (p : Params) (rows : List CrifRow) (product : ProductClass) → FxRows rows → faults.gross_fault p rows product ≡ gross_fault p rows product
+same_gross : (p : Params) (rows : List CrifRow) (product : ProductClass) → FxRows rows → faults.gross_fault p (sums_of rows) product ≡ gross_fault p rows product
 same_gross p rows product h =
     ap (λ z. above range_kind.DeltaGross (up z (pos 10000)) (pos (10 ^ 13)))
-    (row_sum p product rows ∙ ap (total_by (λ r. pos (unsigned_abs r.amount) *ℤ weight p r.key))
+    (size_by_rows p product rows h ∙ row_sum p product rows ∙ ap (total_by (λ r. pos (unsigned_abs r.amount) *ℤ weight p r.key))
     (filter_agrees (λ r. same_product r.key.product product) (λ r. in_product product r.key) rows (each_weaker (λ r. IsFxKey r.key) (λ r. same_product r.key.product product ≡ in_product product r.key) (λ r f. same_test product r.key f) rows h)))
 
-pub same_bucket_fault : (rows : List CrifRow) (product : ProductClass) → FxRows rows → faults.bucket_fault (nets_of rows) product ≡ bucket_fault rows product
+same_bucket_fault : (rows : List CrifRow) (product : ProductClass) → FxRows rows → faults.bucket_fault (sums_of rows) product ≡ bucket_fault rows product
 same_bucket_fault rows product h = ap (λ n. above range_kind.BucketKeys (pos n) (pos 2000)) (product_count rows product h)
 
 each_product : {A : Type 0} (f g : ProductClass → A) → ((c : ProductClass) → f c ≡ g c) → map f products ≡ map g products
 each_product f g e = map_agrees_on f g products (e product.RatesFX, (e product.Credit, (e product.Equity, (e product.Commodity, tt))))
 
--- the tests over the nets are the rule's range
-pub range-nets : (p : Params) (rows : List CrifRow) → FxRows rows → range p rows ≡ either_first (faults.count_fault rows) (faults.nets_fault p rows (nets_of rows))
-range-nets p rows h =
+-- the tests over the sums are the rule's range
+pub range-sums : (p : Params) (rows : List CrifRow) → FxRows rows → range p rows ≡ either_first (faults.count_fault rows) (faults.nets_fault p (sums_of rows))
+range-sums p rows h =
     range_is p rows h
-    ∙ sym (ap (λ n. either_first (faults.count_fault rows) (either_first (above range_kind.KeyCount (pos n) (pos 20000)) (either_first (first_some (map (faults.bucket_fault (nets_of rows)) products)) (first_some (map (faults.gross_fault p rows) products))))) (length-map (keys_of rows) (pair rows))
-    ∙ ap (λ os. either_first (faults.count_fault rows) (either_first (key_fault rows) (either_first (first_some os) (first_some (map (faults.gross_fault p rows) products))))) (each_product (faults.bucket_fault (nets_of rows)) (bucket_fault rows) (λ c. same_bucket_fault rows c h))
-    ∙ ap (λ os. either_first (faults.count_fault rows) (either_first (key_fault rows) (either_first (first_some (map (bucket_fault rows) products)) (first_some os)))) (each_product (faults.gross_fault p rows) (gross_fault p rows) (λ c. same_gross p rows c h)))
+    ∙ sym (ap (λ n. either_first (faults.count_fault rows) (either_first (above range_kind.KeyCount (pos n) (pos 20000)) (either_first (first_some (map (faults.bucket_fault (sums_of rows)) products)) (first_some (map (faults.gross_fault p (sums_of rows)) products))))) (length-map (keys_of rows) (λ k. (k, sums_at rows k)))
+    ∙ ap (λ os. either_first (faults.count_fault rows) (either_first (key_fault rows) (either_first (first_some os) (first_some (map (faults.gross_fault p (sums_of rows)) products))))) (each_product (faults.bucket_fault (sums_of rows)) (bucket_fault rows) (λ c. same_bucket_fault rows c h))
+    ∙ ap (λ os. either_first (faults.count_fault rows) (either_first (key_fault rows) (either_first (first_some (map (bucket_fault rows) products)) (first_some os)))) (each_product (faults.gross_fault p (sums_of rows)) (gross_fault p rows) (λ c. same_gross p rows c h)))
 
 -- ---- a bucket of a book in range
-
-first_keys : (v : Key → ℤ) (ks : List Key) → map (λ (e : Key × ℤ). e.0) (map (λ k. (k, v k)) ks) ≡ ks
-first_keys v [] = refl
-first_keys v (k ∷ ks) = ap (λ ls. k ∷ ls) (first_keys v ks)
 
 bucket_of : (p : Params) (rows : List CrifRow) → IsParams p → FxRows rows → AllByRecursion (λ k. is_own_currency p k ≡ false) (keys_of rows) → length (keys_of rows) ≤ 2000 → sum_by (λ r. unsigned_abs r.amount * unsigned_abs (weight p r.key)) rows ≤ 10 ^ 17 → IsBucket p (nets_of rows)
 bucket_of p rows facts h others few small = record {
@@ -183,7 +189,7 @@ bucket_of p rows facts h others few small = record {
       subst (λ n. n < 84 * 10 ^ 14) (sym total) (weighted_sizes p rows (keys_of rows) facts h (keys_each rows h) others (keys_ascend rows) few small);
 }
 
-pub bucket_ready : (p : Params) (rows : List CrifRow) (product : ProductClass) → IsParams p → FxRows rows → faults.bucket_fault (nets_of rows) product ≡ None → faults.gross_fault p rows product ≡ None → IsBucket p (factors p product (nets_of rows))
+pub bucket_ready : (p : Params) (rows : List CrifRow) (product : ProductClass) → IsParams p → FxRows rows → faults.bucket_fault (sums_of rows) product ≡ None → faults.gross_fault p (sums_of rows) product ≡ None → IsBucket p (factors p product (nets_of rows))
 bucket_ready p rows product facts h few small =
     let fx : FxRows (risky p (rows_in product class.FX measure.Delta rows)) = each_kept (λ r. IsFxKey r.key) (λ r. not (is_own_currency p r.key)) (rows_in product class.FX measure.Delta rows) (fx_in product rows h) in
     let others : AllByRecursion (λ k. is_own_currency p k ≡ false) (keys_of (risky p (rows_in product class.FX measure.Delta rows))) =

@@ -3,11 +3,10 @@ use Rattle.std.proofs.Common.{◌≡◌, ◌^◌, ℕ, ◌*◌, ◌≤◌, List,
 use Rattle.std.specs.Prelude.{sum_by}
 use Rattle.std.specs.declared.cmp.Ordering.{Ordering}
 use Rattle.std.specs.declared.cmp.Ordering.TheVariants.{Less, Equal, Greater}
-use Rattle.std.specs.Ordering.{is_eq, ordering_reverse}
+use Rattle.std.specs.Ordering.{ordering_reverse}
 use Rattle.std.specs.List.{filter, list_any, list_all, AllByRecursion}
-use Rattle.std.proofs.lemmas.Bool.{false≢true}
+use Rattle.std.proofs.lemmas.Bool.{false≢true, or_right}
 use Rattle.std.proofs.lemmas.Int.{ints}
-use Rattle.std.proofs.lemmas.Cmp.{alike_right}
 use Rattle.std.proofs.lemmas.List.Sums.{sum_by-cons}
 use Rattle.mh_units.proofs.Roundings.{up_mono}
 use Rattle.simm_kinds.specs.declared.kinds.ProductClass.{ProductClass}
@@ -35,7 +34,8 @@ use Rattle.simm_plain.specs.Faults.{either_first}
 use Rattle.simm_plain.proofs.Filters.{each_weaker, each_passes}
 use Rattle.simm_plain.proofs.Keys.{key_total, tied_keys, same_key_refl, is_equal, fx_rows_from}
 use Rattle.simm_plain.proofs.Nets.{keys_each, keys_ascend}
-use Rattle.simm_plain.proofs.NetMaps.{any_different}
+use Rattle.simm_plain.proofs.KeySums.{or_rest}
+use Rattle.simm_plain.proofs.NetMaps.{key_among}
 use Rattle.simm_plain.proofs.Appending.{no_key, past}
 use Rattle.simm_plain.proofs.Ranges.{row_fault, key_fault, bucket_fault, gross_fault, fx_in, range_is}
 use Rattle.simm_plain.proofs.Sizes.{total_by-pos}
@@ -89,13 +89,9 @@ or_more : (s t u : Bool) → (t ≡ true → u ≡ true) → (s || t) ≡ true �
 or_more true t u f h = refl
 or_more false t u f h = f h
 
-or_after : (s t : Bool) → t ≡ true → (s || t) ≡ true
-or_after true t h = refl
-or_after false t h = h
-
 any-part : {X : Type 0} (test : X → Bool) (xs ys : List X) → IsPart xs ys → list_any test xs ≡ true → list_any test ys ≡ true
 any-part test _ _ done h = h
-any-part test _ _ (skip y xs ys s) h = or_after (test y) (list_any test ys) (any-part test xs ys s h)
+any-part test _ _ (skip y xs ys s) h = or_right (test y) (list_any test ys) (any-part test xs ys s h)
 any-part test _ _ (keep x xs ys s) h = or_more (test x) (list_any test xs) (list_any test ys) (any-part test xs ys s) h
 
 map-part : {X A : Type 0} (f : X → A) (xs ys : List X) → IsPart xs ys → IsPart (map f xs) (map f ys)
@@ -114,10 +110,6 @@ behind q x ks less h = by (same_key q x) refl
     by true e =
         absurd (false≢true (sym (no_key q ks (each_weaker (λ l. key_cmp x l ≡ Less) (λ l. key_cmp q l ≡ Less) (λ l g. key_total.congr q x l (is_equal (key_cmp q x) e) ∙ g) ks less)) ∙ h))
 
-or_rest : (s t : Bool) → (s || t) ≡ true → s ≡ false → t ≡ true
-or_rest true t h e = absurd (false≢true (sym e))
-or_rest false t h e = h
-
 ascends_among : (xs ys : List Key) → Ascends key_cmp xs → Ascends key_cmp ys → AllByRecursion IsFxKey xs → AllByRecursion IsFxKey ys → ((q : Key) → list_any (same_key q) xs ≡ true → list_any (same_key q) ys ≡ true) → length xs ≤ length ys
 ascends_among [] ys s t f g among = omega arith
 ascends_among (x ∷ xs) [] s t f g among = absurd (false≢true (among x (ap (λ b. b || list_any (same_key x) xs) (same_key_refl x))))
@@ -131,7 +123,7 @@ ascends_among (x ∷ xs) (y ∷ ys) s t f g among =
     heads Less e both one = absurd (false≢true (sym (past x y ys e t.0) ∙ among x (ap (λ b. b || list_any (same_key x) xs) (same_key_refl x))))
     heads Equal e both one =
         let at : x ≡ y = tied_keys x y f.0 g.0 e in
-        let rest : length xs ≤ length ys = both (λ q h. or_rest (same_key q y) (list_any (same_key q) ys) (among q (or_after (same_key q x) (list_any (same_key q) xs) h)) (ap (same_key q) (sym at) ∙ behind q x xs s.0 h)) in
+        let rest : length xs ≤ length ys = both (λ q h. or_rest (same_key q y) (list_any (same_key q) ys) (among q (or_right (same_key q x) (list_any (same_key q) xs) h)) (ap (same_key q) (sym at) ∙ behind q x xs s.0 h)) in
         omega (arith, rest)
     heads Greater e both one =
         let above : key_cmp y x ≡ Less = key_total.antisymm y x ∙ ap ordering_reverse e in
@@ -142,11 +134,7 @@ ascends_among (x ∷ xs) (y ∷ ys) s t f g among =
 keys-part : (xs ys : List CrifRow) → IsPart xs ys → FxRows ys → length (keys_of xs) ≤ length (keys_of ys)
 keys-part xs ys h fx =
     ascends_among (keys_of xs) (keys_of ys) (keys_ascend xs) (keys_ascend ys) (keys_each xs (each-part (λ r. IsFxKey r.key) xs ys h fx)) (keys_each ys fx)
-    (λ q there. any_different (same_key q) (alike q) (map (λ r. r.key) ys)
-    ∙ any-part (same_key q) (map (λ r. r.key) xs) (map (λ r. r.key) ys) (map-part (λ r. r.key) xs ys h) (sym (any_different (same_key q) (alike q) (map (λ r. r.key) xs)) ∙ there))
-  where
-    alike : (q k l : Key) → key_cmp k l ≡ Equal → same_key q k ≡ same_key q l
-    alike q k l e = ap is_eq (alike_right key_total k l q e)
+    (λ q there. key_among q ys ∙ any-part (same_key q) (map (λ r. r.key) xs) (map (λ r. r.key) ys) (map-part (λ r. r.key) xs ys h) (sym (key_among q xs) ∙ there))
 
 -- ---- the range
 

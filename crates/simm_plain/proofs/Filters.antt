@@ -1,8 +1,10 @@
 -- Filters of lists of which each element has a fact.
-use Rattle.std.proofs.Common.{◌≡◌, List, [], ◌∷◌, ◌++◌, map, Bool, true, false, ◌&&◌, cond, refl, ap, ◌∙◌, ℤ, ◌+ℤ◌, arith}
+use Rattle.std.proofs.Common.{◌≡◌, List, [], ◌∷◌, ◌++◌, map, Bool, true, false, ◌&&◌, not, cond, refl, ap, ◌∙◌, ℤ, pos, ◌+ℤ◌, ◌*ℤ◌, arith}
+use Rattle.std.proofs.Math.IntN.{zero-*ℤ}
 use Rattle.std.specs.List.{filter, list_all, AllByRecursion}
 use Rattle.std.proofs.lemmas.Bool.{and_parts}
 use Rattle.std.proofs.lemmas.Int.{ints}
+use Rattle.mh_units.proofs.Integers.{add-mul_ℤ}
 use Rattle.simm_rules.specs.Sums.{total_by}
 
 -- each element that a test of the whole list lets through
@@ -76,3 +78,20 @@ total_by-append f (x ∷ xs) ys = omega (arith, ints, total_by-append f xs ys)
 pub total_by-map : {X Y : Type 0} (f : Y → ℤ) (g : X → Y) (xs : List X) → total_by f (map g xs) ≡ total_by (λ x. f (g x)) xs
 total_by-map f g [] = refl
 total_by-map f g (x ∷ xs) = ap (λ z. f (g x) +ℤ z) (total_by-map f g xs)
+
+pub total_by-scaled : {X : Type 0} (f : X → ℤ) (c : ℤ) (xs : List X) → total_by f xs *ℤ c ≡ total_by (λ x. f x *ℤ c) xs
+total_by-scaled f c [] = zero-*ℤ c
+total_by-scaled f c (x ∷ xs) = add-mul_ℤ (f x) (total_by f xs) c ∙ ap (λ z. f x *ℤ c +ℤ z) (total_by-scaled f c xs)
+
+pub total_by-none : {X : Type 0} (xs : List X) → pos 0 ≡ total_by (λ _. pos 0) xs
+total_by-none [] = refl
+total_by-none (x ∷ xs) = omega (arith, ints, total_by-none xs)
+
+part_step : {X : Type 0} (f : X → ℤ) (t : Bool) (x : X) (ys zs : List X) → total_by f (cond t (x ∷ ys) ys) +ℤ total_by f (cond (not t) (x ∷ zs) zs) ≡ f x +ℤ (total_by f ys +ℤ total_by f zs)
+part_step f true x ys zs = omega (arith, ints)
+part_step f false x ys zs = omega (arith, ints)
+
+-- what a filter keeps and what it drops
+pub total_by-split : {X : Type 0} (f : X → ℤ) (p : X → Bool) (xs : List X) → total_by f (filter p xs) +ℤ total_by f (filter (λ x. not (p x)) xs) ≡ total_by f xs
+total_by-split f p [] = omega (arith, ints)
+total_by-split f p (x ∷ xs) = omega (arith, ints, part_step f (p x) x (filter p xs) (filter (λ y. not (p y)) xs), total_by-split f p xs)

@@ -9,6 +9,7 @@ pub mod Sizes
 pub mod Weights
 pub mod NetMaps
 pub mod Appending
+pub mod KeySums
 pub mod Buckets
 pub mod Places
 pub mod Grosses

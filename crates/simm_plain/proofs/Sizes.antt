@@ -73,15 +73,24 @@ not_both k l r false t less a b = refl
 not_both k l r true false less a b = refl
 not_both k l r true true less a b = absurd (false≢true (sym (ap is_eq (key_total.congr r.key k l (is_equal (key_cmp r.key k) a) ∙ less)) ∙ b))
 
+-- the rows of a key are among those of no key before it
+pub rows_behind : (k l : Key) (rows : List CrifRow) → key_cmp k l ≡ Less → filter (λ r. same_key r.key l) rows ≡ filter (λ r. same_key r.key l) (filter (λ r. not (same_key r.key k)) rows)
+rows_behind k l rows less =
+    sym (filter_both (λ r. same_key r.key l) (λ r. not (same_key r.key k)) rows
+    ∙ filter_agrees (λ r. not (same_key r.key k) && same_key r.key l) (λ r. same_key r.key l) rows (each_always (λ r. (not (same_key r.key k) && same_key r.key l) ≡ same_key r.key l) (λ r. not_both k l r (same_key r.key k) (same_key r.key l) less refl refl) rows))
+
 -- rows counted by ascending keys are counted once at most
 pub by_keys : (g : CrifRow → ℕ) (ks : List Key) (rows : List CrifRow) → Ascends key_cmp ks → sum_by (λ k. sum_by g (filter (λ r. same_key r.key k) rows)) ks ≤ sum_by g rows
 by_keys g [] rows s = omega arith
 by_keys g (k ∷ ks) rows s =
-    let others : (l : Key) → key_cmp k l ≡ Less → sum_by g (filter (λ r. same_key r.key l) rows) ≡ sum_by g (filter (λ r. same_key r.key l) (filter (λ r. not (same_key r.key k)) rows)) =
-    λ l less. ap (sum_by g) (sym (filter_both (λ r. same_key r.key l) (λ r. not (same_key r.key k)) rows ∙ filter_agrees (λ r. not (same_key r.key k) && same_key r.key l) (λ r. same_key r.key l) rows (each_always (λ r. (not (same_key r.key k) && same_key r.key l) ≡ same_key r.key l) (λ r. not_both k l r (same_key r.key k) (same_key r.key l) less refl refl) rows))) in
     let here : sum_by (λ l. sum_by g (filter (λ r. same_key r.key l) rows)) ks ≡ sum_by (λ l. sum_by g (filter (λ r. same_key r.key l) (filter (λ r. not (same_key r.key k)) rows))) ks =
-    sum_by-agrees (λ l. sum_by g (filter (λ r. same_key r.key l) rows)) (λ l. sum_by g (filter (λ r. same_key r.key l) (filter (λ r. not (same_key r.key k)) rows))) ks (each_weaker (λ l. key_cmp k l ≡ Less) (λ l. sum_by g (filter (λ r. same_key r.key l) rows) ≡ sum_by g (filter (λ r. same_key r.key l) (filter (λ r. not (same_key r.key k)) rows))) others ks s.0) in
+    sum_by-agrees (λ l. sum_by g (filter (λ r. same_key r.key l) rows)) (λ l. sum_by g (filter (λ r. same_key r.key l) (filter (λ r. not (same_key r.key k)) rows))) ks (each_weaker (λ l. key_cmp k l ≡ Less) (λ l. sum_by g (filter (λ r. same_key r.key l) rows) ≡ sum_by g (filter (λ r. same_key r.key l) (filter (λ r. not (same_key r.key k)) rows))) (λ l less. ap (sum_by g) (rows_behind k l rows less)) ks s.0) in
     omega (arith, by_keys g ks (filter (λ r. not (same_key r.key k)) rows) s.1, sum_by-split g (λ r. same_key r.key k) rows, sum_by-cons (λ l. sum_by g (filter (λ r. same_key r.key l) rows)) k ks)
+
+pub rows_of_key : (rows : List CrifRow) (k : Key) → FxRows rows → IsFxKey k → AllByRecursion (λ r. r.key ≡ k) (filter (λ r. same_key r.key k) rows)
+rows_of_key rows k h f =
+    each_weaker (λ r. IsFxKey r.key × (same_key r.key k ≡ true)) (λ r. r.key ≡ k) (λ r both. same_keys r.key k both.0 f both.1) (filter (λ r. same_key r.key k) rows)
+    (each_both (λ r. IsFxKey r.key) (λ r. same_key r.key k ≡ true) (filter (λ r. same_key r.key k) rows) (each_kept (λ r. IsFxKey r.key) (λ r. same_key r.key k) rows h) (kept_pass (λ r. same_key r.key k) rows))
 
 -- ---- nets
 
@@ -89,8 +98,7 @@ by_keys g (k ∷ ks) rows s =
 pub net_size : (w : Key → ℕ) (rows : List CrifRow) (k : Key) → FxRows rows → IsFxKey k → unsigned_abs (net rows k) * w k ≤ sum_by (λ r. unsigned_abs r.amount * w r.key) (filter (λ r. same_key r.key k) rows)
 net_size w rows k h f =
     let its_key : AllByRecursion (λ r. unsigned_abs r.amount * w k ≡ unsigned_abs r.amount * w r.key) (filter (λ r. same_key r.key k) rows) =
-    each_weaker (λ r. IsFxKey r.key × (same_key r.key k ≡ true)) (λ r. unsigned_abs r.amount * w k ≡ unsigned_abs r.amount * w r.key) (λ r both. ap (λ l. unsigned_abs r.amount * w l) (sym (same_keys r.key k both.0 f both.1))) (filter (λ r. same_key r.key k) rows)
-    (each_both (λ r. IsFxKey r.key) (λ r. same_key r.key k ≡ true) (filter (λ r. same_key r.key k) rows) (each_kept (λ r. IsFxKey r.key) (λ r. same_key r.key k) rows h) (kept_pass (λ r. same_key r.key k) rows)) in
+    each_weaker (λ r. r.key ≡ k) (λ r. unsigned_abs r.amount * w k ≡ unsigned_abs r.amount * w r.key) (λ r e. ap (λ l. unsigned_abs r.amount * w l) (sym e)) (filter (λ r. same_key r.key k) rows) (rows_of_key rows k h f) in
     omega (
       arith,
       mul-le-mul_right (w k) (total_size (λ r. r.amount) (filter (λ r. same_key r.key k) rows)),

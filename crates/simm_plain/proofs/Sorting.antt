@@ -30,11 +30,6 @@ module _ {A : Type 0} (cmp : A → A → Ordering) where
   below_all : IsTotalOrder cmp → (x y : A) (ys : List A) → cmp x y ≡ Less → AllByRecursion (λ z. cmp y z ≡ Less) ys → AllByRecursion (λ z. cmp x z ≡ Less) ys
   below_all order x y ys e h = each_weaker (λ z. cmp y z ≡ Less) (λ z. cmp x z ≡ Less) (λ z less. order.trans x y z e less) ys h
 
-  placed_ascends : IsTotalOrder cmp → (o : Ordering) (x y : A) (ys deeper : List A) → cmp x y ≡ o → AllByRecursion (λ z. cmp y z ≡ Less) ys → Ascends cmp ys → AllByRecursion (λ z. cmp y z ≡ Less) deeper → Ascends cmp deeper → Ascends cmp (placed o x y ys deeper)
-  placed_ascends order Less x y ys deeper e h s d t = ((e, below_all order x y ys e h), (h, s))
-  placed_ascends order Equal x y ys deeper e h s d t = (h, s)
-  placed_ascends order Greater x y ys deeper e h s d t = (d, t)
-
   over_put : IsTotalOrder cmp → (o : Ordering) (x y : A) (ys : List A) → cmp x y ≡ o → AllByRecursion (λ z. cmp y z ≡ Less) ys → Ascends cmp ys → Ascends cmp (put_in cmp x ys) → Ascends cmp (placed o x y ys (put_in cmp x ys))
   over_put order Less x y ys e h s t = ((e, below_all order x y ys e h), (h, s))
   over_put order Equal x y ys e h s t = (h, s)
@@ -47,15 +42,6 @@ module _ {A : Type 0} (cmp : A → A → Ordering) where
   pub different_ascends : IsTotalOrder cmp → (xs : List A) → Ascends cmp (different cmp xs)
   different_ascends order [] = tt
   different_ascends order (x ∷ xs) = put_ascends order x (different cmp xs) (different_ascends order xs)
-
-  ascends_cond : (t : Bool) (x : A) (xs : List A) → AllByRecursion (λ y. cmp x y ≡ Less) xs → Ascends cmp xs → Ascends cmp (cond t (x ∷ xs) xs)
-  ascends_cond true x xs h s = (h, s)
-  ascends_cond false x xs h s = s
-
-  -- a filter keeps the order
-  pub filter_ascends : (p : A → Bool) (xs : List A) → Ascends cmp xs → Ascends cmp (filter p xs)
-  filter_ascends p [] s = tt
-  filter_ascends p (x ∷ xs) s = ascends_cond (p x) x (filter p xs) (each_kept (λ y. cmp x y ≡ Less) p xs s.0) (filter_ascends p xs s.1)
 
   -- ---- a filter before or after
 

@@ -83,6 +83,12 @@ weight_natural p k facts f =
     ⊎_elim (λ own. not_negative (weight p k) (omega (arith, ints, unweighed p k f own)))
     (λ other. not_negative (weight p k) (omega (arith, ints, (weighed p k facts f other).weight_low))) (cases_Bool (is_own_currency p k))
 
+-- a weight is at most 10,000
+pub weight_size : (p : Params) (k : Key) → IsParams p → IsFxKey k → unsigned_abs (weight p k) ≤ 10 ^ 8
+weight_size p k facts f =
+    ⊎_elim (λ own. omega (arith, ints, ap unsigned_abs (unweighed p k f own)))
+    (λ other. let its = weighed p k facts f other in omega (arith, ints, its.weight_low, its.weight_high)) (cases_Bool (is_own_currency p k))
+
 -- ---- one key
 
 -- a net is at most 120,000 thresholds, where its weighted size is at most 10^17

@@ -1,11 +1,8 @@
 -- The answers of the whole call.
 use Rattle.std.proofs.Common.{◌≡◌, ℕ, ◌+◌, ◌<◌, List, [], ◌∷◌, map, length, get_or, take, Option, Some, None, refl, sym, ap, ◌∙◌, subst, not, false, ℤ, pos, ◌+ℤ◌, arith}
 use Rattle.std.proofs.lemmas.Int.{ints}
-use Rattle.std.specs.Prelude.{count_by, is_some}
-use Rattle.std.proofs.lemmas.List.{map_more, length-map}
-use Rattle.std.proofs.lemmas.List.Sums.{length-filter}
-use Rattle.simm_kinds.specs.Order.{same_product}
-use Rattle.simm_plain.proofs.Nets.{map-filter}
+use Rattle.std.specs.Prelude.{is_some}
+use Rattle.std.proofs.lemmas.List.{map_more}
 use Rattle.simm_kinds.specs.declared.kinds.ProductClass.{ProductClass}
 use Rattle.simm_kinds.specs.declared.kinds.ProductClass.TheVariants as product
 use Rattle.simm_kinds.specs.declared.row.CrifRow.{CrifRow}
@@ -22,15 +19,16 @@ use Rattle.simm_rules.specs.Simm.{products, simm}
 use Rattle.simm_rules.specs.Range.{range}
 use Rattle.simm_params.specs.Facts.{IsParams}
 use Rattle.simm_plain.specs.FxKeys.{IsFxKey, FxRows}
-use Rattle.simm_plain.specs.Nets.{nets_of}
-use Rattle.simm_plain.specs.Bucket.{product_nets, factors, factor_sum, IsBucket}
+use Rattle.simm_plain.specs.declared.sums.Sums.{Sums}
+use Rattle.simm_plain.specs.Nets.{nets_of, sums_of, nets_in}
+use Rattle.simm_plain.specs.Bucket.{factors, factor_sum, IsBucket}
 use Rattle.simm_plain.specs.Faults.{either_first, count_fault, key_fault, bucket_fault, gross_fault, nets_fault}
 use Rattle.simm_plain.specs.Parts.{breakdown_of, by_product}
 use Rattle.simm_plain.proofs.Filters.{each_kept}
 use Rattle.simm_plain.proofs.Margins.{fx_margin}
 use Rattle.simm_plain.proofs.Books.{simm_is}
 use Rattle.simm_plain.proofs.Ranges.{first_some-append, fx_in}
-use Rattle.simm_plain.proofs.Buckets.{factors-nets_of, factor_sum-nets_of, range-nets, bucket_ready}
+use Rattle.simm_plain.proofs.Buckets.{nets_in-sums_of, factors-nets_of, factor_sum-nets_of, range-sums, bucket_ready}
 
 -- ---- the first of several answers
 
@@ -43,13 +41,6 @@ first_none_more f xs i x h at none e =
 pub none_from_test : {A : Type 0} (o : Option A) → is_some o ≡ false → o ≡ None
 none_from_test None h = refl
 none_from_test (Some x) h = absurd (cc)
-
--- how many nets a product class has
-pub count_nets : (c : ProductClass) (nets : List (Key × ℤ)) → count_by (λ k. same_product k.product c) (map (λ e. e.0) nets) ≡ length (product_nets c nets)
-count_nets c nets =
-    sym (length-filter (λ (k : Key). same_product k.product c) (map (λ e. e.0) nets))
-    ∙ ap length (sym (map-filter (λ (e : Key × ℤ). e.0) (λ (k : Key). same_product k.product c) nets))
-    ∙ length-map (product_nets c nets) (λ (e : Key × ℤ). e.0)
 
 pub none_first : {A : Type 0} (a b : Option A) → either_first a b ≡ None → (a ≡ None) × (b ≡ None)
 none_first None b h = (refl, h)
@@ -69,35 +60,38 @@ none_each f h c =
 
 -- ---- the range
 
-pub range_some : (p : Params) (rows : List CrifRow) (nets : List (Key × ℤ)) (fault : RangeFault) → FxRows rows → nets ≡ nets_of rows → count_fault rows ≡ None → nets_fault p rows nets ≡ Some fault → range p rows ≡ Some fault
-range_some p rows nets fault h is none some =
-    range-nets p rows h ∙ ap (λ o. either_first o (nets_fault p rows (nets_of rows))) none ∙ ap (nets_fault p rows) (sym is) ∙ some
+pub range_some : (p : Params) (rows : List CrifRow) (sums : List (Key × Sums)) (fault : RangeFault) → FxRows rows → sums ≡ sums_of rows → count_fault rows ≡ None → nets_fault p sums ≡ Some fault → range p rows ≡ Some fault
+range_some p rows sums fault h is none some =
+    range-sums p rows h ∙ ap (λ o. either_first o (nets_fault p (sums_of rows))) none ∙ ap (nets_fault p) (sym is) ∙ some
 
-pub range_none : (p : Params) (rows : List CrifRow) (nets : List (Key × ℤ)) → FxRows rows → nets ≡ nets_of rows → count_fault rows ≡ None → nets_fault p rows nets ≡ None → range p rows ≡ None
-range_none p rows nets h is none some =
-    range-nets p rows h ∙ ap (λ o. either_first o (nets_fault p rows (nets_of rows))) none ∙ ap (nets_fault p rows) (sym is) ∙ some
+pub range_none : (p : Params) (rows : List CrifRow) (sums : List (Key × Sums)) → FxRows rows → sums ≡ sums_of rows → count_fault rows ≡ None → nets_fault p sums ≡ None → range p rows ≡ None
+range_none p rows sums h is none some =
+    range-sums p rows h ∙ ap (λ o. either_first o (nets_fault p (sums_of rows))) none ∙ ap (nets_fault p) (sym is) ∙ some
 
-pub range_from : (p : Params) (rows : List CrifRow) (nets : List (Key × ℤ)) (answer : Option RangeFault) → FxRows rows → nets ≡ nets_of rows → count_fault rows ≡ None → answer ≡ nets_fault p rows nets → answer ≡ range p rows
-range_from p rows nets answer h is none e =
-    e ∙ ap (nets_fault p rows) is ∙ sym (range-nets p rows h ∙ ap (λ o. either_first o (nets_fault p rows (nets_of rows))) none)
+pub range_from : (p : Params) (rows : List CrifRow) (sums : List (Key × Sums)) (answer : Option RangeFault) → FxRows rows → sums ≡ sums_of rows → count_fault rows ≡ None → answer ≡ nets_fault p sums → answer ≡ range p rows
+range_from p rows sums answer h is none e =
+    e ∙ ap (nets_fault p) is ∙ sym (range-sums p rows h ∙ ap (λ o. either_first o (nets_fault p (sums_of rows))) none)
 
 -- a book in range has no fault of its nets
-pub no_nets_fault : (p : Params) (rows : List CrifRow) (nets : List (Key × ℤ)) → FxRows rows → nets ≡ nets_of rows → range p rows ≡ None → nets_fault p rows nets ≡ None
-no_nets_fault p rows nets h is none =
-    ap (nets_fault p rows) is ∙ (none_first (count_fault rows) (nets_fault p rows (nets_of rows)) (sym (range-nets p rows h) ∙ none)).1
+pub no_nets_fault : (p : Params) (rows : List CrifRow) (sums : List (Key × Sums)) → FxRows rows → sums ≡ sums_of rows → range p rows ≡ None → nets_fault p sums ≡ None
+no_nets_fault p rows sums h is none =
+    ap (nets_fault p) is ∙ (none_first (count_fault rows) (nets_fault p (sums_of rows)) (sym (range-sums p rows h) ∙ none)).1
 
-pub ready : (p : Params) (rows : List CrifRow) (nets : List (Key × ℤ)) (c : ProductClass) → IsParams p → FxRows rows → nets ≡ nets_of rows → nets_fault p rows nets ≡ None → IsBucket p (factors p c nets)
-ready p rows nets c facts h is none =
-    let keys = none_first (key_fault nets) (either_first (first_some (map (bucket_fault nets) products)) (first_some (map (gross_fault p rows) products))) none in
-    let both = none_first (first_some (map (bucket_fault nets) products)) (first_some (map (gross_fault p rows) products)) keys.1 in
-    subst (λ es. IsBucket p (factors p c es)) (sym is)
-    (bucket_ready p rows c facts h (ap (λ es. bucket_fault es c) (sym is) ∙ none_each (bucket_fault nets) both.0 c) (none_each (gross_fault p rows) both.1 c))
+factors-sums_of : (p : Params) (rows : List CrifRow) (sums : List (Key × Sums)) (c : ProductClass) → sums ≡ sums_of rows → factors p c (nets_in sums) ≡ factors p c (nets_of rows)
+factors-sums_of p rows sums c is = ap (factors p c) (ap nets_in is ∙ nets_in-sums_of rows)
+
+pub ready : (p : Params) (rows : List CrifRow) (sums : List (Key × Sums)) (c : ProductClass) → IsParams p → FxRows rows → sums ≡ sums_of rows → nets_fault p sums ≡ None → IsBucket p (factors p c (nets_in sums))
+ready p rows sums c facts h is none =
+    let keys = none_first (key_fault sums) (either_first (first_some (map (bucket_fault sums) products)) (first_some (map (gross_fault p sums) products))) none in
+    let both = none_first (first_some (map (bucket_fault sums) products)) (first_some (map (gross_fault p sums) products)) keys.1 in
+    subst (IsBucket p) (sym (factors-sums_of p rows sums c is))
+    (bucket_ready p rows c facts h (ap (λ es. bucket_fault es c) (sym is) ∙ none_each (bucket_fault sums) both.0 c) (ap (λ es. gross_fault p es c) (sym is) ∙ none_each (gross_fault p sums) both.1 c))
 
 -- ---- the margin
 
-pub margin_is : (p : Params) (rows : List CrifRow) (nets : List (Key × ℤ)) (c : ProductClass) (m : ℤ) → FxRows rows → nets ≡ nets_of rows → m ≡ root_of (factor_sum p (factors p c nets)) → m ≡ fx_margin p rows c
-margin_is p rows nets c m h is e =
-    e ∙ ap (λ es. root_of (factor_sum p (factors p c es))) is ∙ ap (λ es. root_of (factor_sum p es)) (factors-nets_of p rows c h)
+pub margin_is : (p : Params) (rows : List CrifRow) (sums : List (Key × Sums)) (c : ProductClass) (m : ℤ) → FxRows rows → sums ≡ sums_of rows → m ≡ root_of (factor_sum p (factors p c (nets_in sums))) → m ≡ fx_margin p rows c
+margin_is p rows sums c m h is e =
+    e ∙ ap (λ es. root_of (factor_sum p es)) (factors-sums_of p rows sums c is) ∙ ap (λ es. root_of (factor_sum p es)) (factors-nets_of p rows c h)
     ∙ ap root_of (factor_sum-nets_of p (risky p (rows_in c class.FX measure.Delta rows)) (each_kept (λ r. IsFxKey r.key) (λ r. not (is_own_currency p r.key)) (rows_in c class.FX measure.Delta rows) (fx_in c rows h)))
 
 pub simm_from : (p : Params) (rows : List CrifRow) (a b c d : ℤ) → FxRows rows → a ≡ fx_margin p rows product.RatesFX → b ≡ fx_margin p rows product.Credit → c ≡ fx_margin p rows product.Equity → d ≡ fx_margin p rows product.Commodity → breakdown_of (by_product a b c d) ≡ simm p rows

@@ -16,10 +16,6 @@ use Rattle.simm_rules.specs.Concentration.{one, ratio, cr}
 use Rattle.simm_rules.specs.Delta.{combined}
 use Rattle.simm_plain.specs.FxKeys.{IsFxKey}
 
--- the nets of a product class
-abbrev pub product_nets : ProductClass → List (Key × ℤ) → List (Key × ℤ)
-product_nets product nets = filter (λ e. same_product e.0.product product) nets
-
 -- a net of a product class that has a risk in this calculation currency
 abbrev pub is_factor : Params → ProductClass → Key × ℤ → Bool
 is_factor p product e = same_product e.0.product product && not (is_own_currency p e.0)

@@ -8,7 +8,7 @@ ghost use Rattle.simm_rules.specs.Range.{range};
 ghost use Rattle.simm_plain.specs.Bucket.{IsBucket, factors};
 ghost use Rattle.simm_plain.specs.FxKeys.{FxRows};
 ghost use Rattle.simm_plain.specs.Lent.{all_rows};
-ghost use Rattle.simm_plain.specs.Nets.{nets_of, AreRows};
+ghost use Rattle.simm_plain.specs.Nets.{nets_in, sums_of, AreRows};
 
 use crate::breakdown::breakdown;
 use crate::bucket::fx_margin;
@@ -53,7 +53,7 @@ pub fn range_fault(
         return Ok(Some(fault));
     }
     let nets = Nets::of_rows(alloc, lent)?;
-    Ok(nets_fault(params, lent, &nets))
+    Ok(nets_fault(params, &nets))
 }
 
 /// The margin of a book of lent rows, which the caller knows to be in range.
@@ -79,7 +79,7 @@ fn margin_of(alloc: Global, params: &Params, lent: &[LentRows]) -> Result<Breakd
         return Err(MarginFault::Range(fault));
     }
     let nets = Nets::of_rows(alloc, lent)?;
-    if let Some(fault) = nets_fault(params, lent, &nets) {
+    if let Some(fault) = nets_fault(params, &nets) {
         return Err(MarginFault::Range(fault));
     }
     params.facts();
@@ -88,8 +88,8 @@ fn margin_of(alloc: Global, params: &Params, lent: &[LentRows]) -> Result<Breakd
 
 // The margin of a book in range, by its nets.
 fn nets_margin(alloc: Global, params: &Params, nets: &Nets) -> Result<Breakdown, AllocError>
-    requires { (product : Product) → IsBucket params.now (factors params.now product nets.now) }
-    ensures { (rows : List Row) → FxRows rows → nets.now ≡ nets_of rows → IfOk result (λ b. b ≡ simm params.now rows) }
+    requires { (product : Product) → IsBucket params.now (factors params.now product (nets_in nets.now)) }
+    ensures { (rows : List Row) → FxRows rows → nets.now ≡ sums_of rows → IfOk result (λ b. b ≡ simm params.now rows) }
 {
     let rates_fx = fx_margin(alloc, params, nets, ProductClass::RatesFX)?;
     let credit = fx_margin(alloc, params, nets, ProductClass::Credit)?;

@@ -2,6 +2,7 @@ ghost use Rattle.std.specs.Prelude.{◌≡◌, ◌*◌, ◌^◌, ◌<◌, ◌≤
 ghost use Rattle.simm_rules.specs.Delta.{root_of};
 ghost use Rattle.simm_plain.specs.Bucket.{IsBucket, factors, factor_sum};
 ghost use Rattle.simm_plain.specs.Entries.{entries};
+ghost use Rattle.simm_plain.specs.Nets.{nets_in};
 
 use crate::correlation::FxCorrelation;
 use crate::net::Net;
@@ -22,8 +23,8 @@ pub fn fx_margin(
     nets: &Nets,
     product: ProductClass,
 ) -> Result<i128, AllocError>
-    requires { IsBucket params.now (factors params.now product nets.now) }
-    ensures value { IfOk result (λ m. m ≡ root_of (factor_sum params.now (factors params.now product nets.now))) }
+    requires { IsBucket params.now (factors params.now product (nets_in nets.now)) }
+    ensures value { IfOk result (λ m. m ≡ root_of (factor_sum params.now (factors params.now product (nets_in nets.now)))) }
     ensures low { IfOk result (λ m. pos 0 ≤ℤ m) }
     ensures size { IfOk result (λ m. unsigned_abs m ≤ 14 * 10 ^ 15) }
 {

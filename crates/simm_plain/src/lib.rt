@@ -6,7 +6,6 @@ mod breakdown;
 mod bucket;
 mod correlation;
 mod fault;
-mod gross;
 mod laws;
 mod lent;
 mod net;
@@ -14,6 +13,7 @@ mod netting;
 mod place;
 mod range;
 mod rhos;
+mod sums;
 mod weighing;
 
 pub use book::{margin, margin_in_range, range_fault};

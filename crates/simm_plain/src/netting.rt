@@ -1,31 +1,37 @@
-ghost use Rattle.std.specs.Prelude.{◌≡◌, ◌∷◌, ◌++◌, ◌*◌, ◌^◌, ◌≤◌, List, [], true, map, count_by, IfOk, OnOk, length, not};
+ghost use Rattle.std.specs.Prelude.{◌≡◌, ◌∷◌, ◌++◌, ◌*◌, ◌^◌, ◌≤◌, List, [], true, map, count_by, IfOk, OnOk, length, not, ◌*ℤ◌, unsigned_abs};
 ghost use Rattle.simm_kinds.specs.declared.row.CrifRow.{CrifRow as Row};
 ghost use Rattle.simm_kinds.specs.Order.{same_product, same_kind};
+ghost use Rattle.simm_rules.specs.Lookups.{weight};
 ghost use Rattle.simm_rules.specs.Net.{is_own_currency};
+ghost use Rattle.simm_rules.specs.Sums.{total_by};
 ghost use Rattle.simm_plain.specs.Bucket.{factors};
 ghost use Rattle.simm_plain.specs.Entries.{entries};
+ghost use Rattle.simm_plain.specs.Faults.{key_size};
+ghost use Rattle.simm_plain.specs.FxKeys.{IsFxKey};
 ghost use Rattle.simm_plain.specs.Lent.{all_rows};
-ghost use Rattle.simm_plain.specs.Nets.{nets_of, IsRow, AreRows, AreWithin};
+ghost use Rattle.simm_plain.specs.Nets.{nets_in, sums_of, IsRow, AreRows, AreSums};
 
 use crate::lent::LentRows;
 use crate::net::Net;
+use crate::sums::Sums;
 use simm_kinds::{CrifRow, FactorKey, ProductClass, RiskType, orders_are_defined};
 use simm_params::Params;
 use std::alloc::{AllocError, Global};
 use std::collections::BTreeMap;
 use std::marker::Model;
 
-/// The net sensitivity to each key, in key order.
+/// The sums of the rows of each key, in key order.
 #[derive(Drop)]
 pub struct Nets {
-    by_key: BTreeMap<FactorKey, i128>,
+    by_key: BTreeMap<FactorKey, Sums>,
 }
 
 impl Model for Nets {
-    ghost use Rattle.std.specs.Prelude.{List, ℤ};
+    ghost use Rattle.std.specs.Prelude.{List};
     ghost use Rattle.simm_kinds.specs.Key.{Key};
+    ghost use Rattle.simm_plain.specs.declared.sums.Sums.{Sums};
 
-    ghost Value = { List (Key × ℤ) };
+    ghost Value = { List (Key × Sums) };
 
     ghost view = { λ n. n.by_key.entries };
 }
@@ -34,7 +40,8 @@ impl Nets {
     /// The nets of all rows.
     pub fn of_rows(alloc: Global, lent: &[LentRows]) -> Result<Nets, AllocError>
         requires { length (all_rows lent.now) ≤ 200000 }
-        ensures value { IfOk result (λ nets. nets ≡ nets_of (all_rows lent.now)) }
+        ensures value { IfOk result (λ nets. nets ≡ sums_of (all_rows lent.now)) }
+        ensures sums { IfOk result AreSums }
         ensures rows { OnOk result (AreRows (all_rows lent.now)) }
     {
         let mut nets = Nets::new(alloc);
@@ -70,18 +77,33 @@ impl Nets {
         params: &Params,
         product: ProductClass,
     ) -> Result<Vec<Net<'a>>, AllocError>
-        ensures { IfOk result (λ found. entries found.items ≡ factors params.now product self.now) }
+        ensures { IfOk result (λ found. entries found.items ≡ factors params.now product (nets_in self.now)) }
     {
         let mut found = Vec::with_capacity(alloc, self.by_key.len())?;
-        for (key, amount) in &self.by_key {
+        for (key, sums) in &self.by_key {
             if has_product(key, product) && is_risky(key, params) {
                 found.push(Net {
                     key,
-                    amount: *amount,
+                    amount: sums.net,
                 })?;
             }
         }
         Ok(found)
+    }
+
+    /// The weighted size of a product class, in ten-thousandths of a cent: its keys' sizes times their weights.
+    pub fn gross(&self, params: &Params, product: ProductClass) -> i128
+        requires sums { AreSums self.now }
+        requires few { length self.now ≤ 20000 }
+        ensures { result ≡ total_by (key_size params.now product) self.now }
+    {
+        let mut total = 0;
+        for (key, sums) in &self.by_key {
+            if has_product(key, product) {
+                total += weighted_size(params, key, sums.size);
+            }
+        }
+        total
     }
 
     fn new(alloc: Global) -> Self
@@ -94,30 +116,30 @@ impl Nets {
 
     // Adds a row. Its key is copied where it is new.
     fn add(&mut self, alloc: Global, row: &CrifRow) -> Result<(), AllocError>
-        requires { AreWithin (2 ^ 100) self.old }
-        ensures value { (rows : List Row) → self.old ≡ nets_of rows → AreRows rows →
-            OnOk result (self.new ≡ nets_of (rows ++ row.now ∷ [])) }
+        requires { AreSums self.old }
+        ensures value { (rows : List Row) → self.old ≡ sums_of rows → AreRows rows →
+            OnOk result (self.new ≡ sums_of (rows ++ row.now ∷ [])) }
         ensures row { IsRow row.now }
     {
         row.key.facts();
         orders_are_defined();
-        let amount = i128::from(row.amount);
+        let amount = row.amount;
         match self.by_key.get_mut(&row.key) {
-            Some(net) => {
-                *net += amount;
+            Some(sums) => {
+                sums.add(amount);
                 Ok(())
             }
             None => {
                 let key = row.key.copy(alloc)?;
-                self.by_key.insert(key, amount)?;
+                self.by_key.insert(key, Sums::of(amount))?;
                 Ok(())
             }
         }
     }
 }
 
-/// Whether the key is of this product class.
-pub fn has_product(key: &FactorKey, product: ProductClass) -> bool
+// Whether the key is of this product class.
+fn has_product(key: &FactorKey, product: ProductClass) -> bool
     ensures { result ≡ same_product key.now.product product }
 {
     key.product() == product
@@ -134,4 +156,15 @@ fn is_fx(key: &FactorKey) -> bool
     ensures { result ≡ same_kind key.now.kind RiskType.Fx }
 {
     matches!(key.kind(), RiskType::Fx)
+}
+
+// The size of a key's amounts times its weight, in ten-thousandths of a cent.
+fn weighted_size(params: &Params, key: &FactorKey, size: i128) -> i128
+    requires fx { IsFxKey key.now }
+    requires small { unsigned_abs size ≤ 2 ^ 82 }
+    ensures value { result ≡ size *ℤ weight params.now key.now }
+    ensures small { unsigned_abs result ≤ 2 ^ 82 * 10 ^ 8 }
+{
+    params.facts();
+    size * i128::from(params.weight(key).0)
 }

@@ -2,11 +2,10 @@ ghost use Rattle.std.specs.Prelude.{◌≡◌, ◌^◌, ◌<◌, ◌≤◌, map,
 ghost use Rattle.simm_rules.specs.Sums.{first_some};
 ghost use Rattle.simm_rules.specs.Simm.{products};
 ghost use Rattle.simm_rules.specs.Range.{above as above_of};
-ghost use Rattle.simm_plain.specs.FxKeys.{FxRows};
 ghost use Rattle.simm_plain.specs.Faults.{count_fault, key_fault, bucket_fault, gross_fault, nets_fault};
 ghost use Rattle.simm_plain.specs.Lent.{all_rows};
+ghost use Rattle.simm_plain.specs.Nets.{AreSums};
 
-use crate::gross::gross;
 use crate::lent::LentRows;
 use crate::netting::Nets;
 use mh_units::div_up;
@@ -24,10 +23,9 @@ pub fn count_fault(lent: &[LentRows]) -> Option<RangeFault>
 
 /// The first of the other quantities that is above its limit: keys, keys of a product class's bucket, and weighted
 /// sizes of a product class.
-pub fn nets_fault(params: &Params, lent: &[LentRows], nets: &Nets) -> Option<RangeFault>
-    requires fx { FxRows (all_rows lent.now) }
-    requires few { length (all_rows lent.now) ≤ 200000 }
-    ensures { result ≡ nets_fault params.now (all_rows lent.now) nets.now }
+pub fn nets_fault(params: &Params, nets: &Nets) -> Option<RangeFault>
+    requires { AreSums nets.now }
+    ensures { result ≡ nets_fault params.now nets.now }
 {
     let keys = key_fault(nets);
     if keys.is_some() {
@@ -37,7 +35,7 @@ pub fn nets_fault(params: &Params, lent: &[LentRows], nets: &Nets) -> Option<Ran
     if bucket.is_some() {
         return bucket;
     }
-    first_gross_fault(params, lent)
+    first_gross_fault(params, nets)
 }
 
 fn above(which: RangeKind, value: i128, limit: i128) -> Option<RangeFault>
@@ -89,13 +87,13 @@ fn bucket_fault(nets: &Nets, product: ProductClass) -> Option<RangeFault>
     above(RangeKind::BucketKeys, nets.count(product) as i128, 2_000)
 }
 
-fn first_gross_fault(params: &Params, lent: &[LentRows]) -> Option<RangeFault>
-    requires fx { FxRows (all_rows lent.now) }
-    requires few { length (all_rows lent.now) ≤ 200000 }
-    ensures { result ≡ first_some (map (gross_fault params.now (all_rows lent.now)) products) }
+fn first_gross_fault(params: &Params, nets: &Nets) -> Option<RangeFault>
+    requires sums { AreSums nets.now }
+    requires few { length nets.now ≤ 20000 }
+    ensures { result ≡ first_some (map (gross_fault params.now nets.now) products) }
 {
     for product in ProductClass::ALL {
-        let fault = gross_fault(params, lent, product);
+        let fault = gross_fault(params, nets, product);
         if fault.is_some() {
             return fault;
         }
@@ -103,11 +101,11 @@ fn first_gross_fault(params: &Params, lent: &[LentRows]) -> Option<RangeFault>
     None
 }
 
-fn gross_fault(params: &Params, lent: &[LentRows], product: ProductClass) -> Option<RangeFault>
-    requires fx { FxRows (all_rows lent.now) }
-    requires few { length (all_rows lent.now) ≤ 200000 }
-    ensures { result ≡ gross_fault params.now (all_rows lent.now) product }
+fn gross_fault(params: &Params, nets: &Nets, product: ProductClass) -> Option<RangeFault>
+    requires sums { AreSums nets.now }
+    requires few { length nets.now ≤ 20000 }
+    ensures { result ≡ gross_fault params.now nets.now product }
 {
-    let cents = div_up(gross(params, lent, product), 10_000);
+    let cents = div_up(nets.gross(params, product), 10_000);
     above(RangeKind::DeltaGross, cents, 10_000_000_000_000)
 }

@@ -4,9 +4,6 @@ use Rattle.simm_plain.proofs.Appending.{fx_of_rows}
 use Rattle.simm_plain.proofs.Whole.{range_some, range_none, ready}
 use Rattle.simm_plain.proofs.book.margin_of.Goals as goal
 
-pub nets_fault-requires-clause-fx : goal.nets_fault-requires-clause-fx
-nets_fault-requires-clause-fx c = fx_of_rows (all_rows c.args.lent.now) c.in_ok-nets.ensures.rows
-
 pub returns-in-Some-nets_fault-clause-range : goal.returns-in-Some-nets_fault-clause-range
 returns-in-Some-nets_fault-clause-range c = λ fault same.
     range_some c.args.params.now (all_rows c.args.lent.now) c.in_ok-nets.nets fault (fx_of_rows (all_rows c.args.lent.now) c.in_ok-nets.ensures.rows) c.in_ok-nets.ensures.value

@@ -1,7 +1,12 @@
-use Rattle.std.proofs.Common.{arith}
-use Rattle.simm_plain.proofs.Grosses.{trade_count}
+use Rattle.std.proofs.Common.{arith, length, ap}
+use Rattle.std.proofs.lemmas.List.Folds.{length-flat_map-take}
+use Rattle.simm_plain.specs.declared.lent.LentRows.{LentRows}
 use Rattle.simm_plain.proofs.range.count_rows.Goals as goal
 
 pub overflow_add-count : goal.overflow_add-count
 overflow_add-count c =
-    omega (arith, trade_count c.args.lent.now c.loop-trade.trade-index c.trade-item.result c.loop-trade-test.true c.trade-item.is)
+    omega (
+      arith,
+      ap (λ (t : LentRows). length t.rows.now) c.trade-item.is,
+      length-flat_map-take (λ (t : LentRows). t.rows.now) c.args.lent.now c.loop-trade.trade-index c.trade-item.result c.loop-trade-test.true,
+    )

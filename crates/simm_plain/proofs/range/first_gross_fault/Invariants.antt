@@ -1,9 +1,8 @@
 use Rattle.std.proofs.Common.{◌≡◌, None, map, take}
-use Rattle.simm_plain.specs.Lent.{all_rows}
 use Rattle.simm_rules.specs.Sums.{first_some}
 use Rattle.simm_rules.specs.Simm.{products}
 use Rattle.simm_plain.specs.Faults.{gross_fault}
 use Rattle.simm_plain.proofs.range.first_gross_fault.Given as goal
 
 abbrev pub invariant-loop-product : goal.invariant-loop-product
-invariant-loop-product l = first_some (map (gross_fault l.params (all_rows l.lent)) (take l.product-index products)) ≡ None
+invariant-loop-product l = first_some (map (gross_fault l.params l.nets) (take l.product-index products)) ≡ None
