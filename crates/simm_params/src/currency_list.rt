@@ -36,6 +36,16 @@ impl CurrencyList {
         }
     }
 
+    /// No currency, with room for so many in the list.
+    pub fn with_capacity(alloc: Global, count: usize) -> Result<Self, AllocError>
+        ensures { IfOk result (λ l. l ≡ []) }
+    {
+        Ok(CurrencyList {
+            listed: Vec::with_capacity(alloc, count)?,
+            different: BTreeSet::new(alloc),
+        })
+    }
+
     /// Adds a currency at the end. For want of memory nothing changes.
     pub fn push(&mut self, currency: Currency) -> Result<(), AllocError>
         ensures ok { OnOk result (self.new ≡ self.old ++ currency ∷ []) }
@@ -43,9 +53,10 @@ impl CurrencyList {
     {
         // What is added is a currency.
         let _letters = currency.letters();
+        // Room comes first: once the tree has changed, nothing fails.
         self.listed.reserve(1)?;
         self.different.insert(currency)?;
-        self.listed.push(currency)?;
+        self.listed.push_reserved(currency);
         Ok(())
     }
 
@@ -63,10 +74,9 @@ impl CurrencyList {
     pub fn copy(&self, alloc: Global) -> Result<CurrencyList, AllocError>
         ensures { IfOk result (λ l. l ≡ self.now) }
     {
-        let mut copy = CurrencyList::new(alloc);
-        for currency in &self.listed {
-            copy.push(*currency)?;
-        }
-        Ok(copy)
+        Ok(CurrencyList {
+            listed: Vec::from_slice(alloc, &self.listed)?,
+            different: self.different.clone()?,
+        })
     }
 }

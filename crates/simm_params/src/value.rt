@@ -91,7 +91,7 @@ pub fn currency(value: &Value) -> Result<Currency, ParamFault>
 pub fn currencies(alloc: Global, array: &[Value]) -> Result<CurrencyList, ParamFault>
     ensures { Gives (λ l. l) result (currencies_of (items_view array.now)) }
 {
-    let mut list = CurrencyList::new(alloc);
+    let mut list = CurrencyList::with_capacity(alloc, array.len())?;
     for value in array {
         list.push(currency(value)?)?;
     }
@@ -122,7 +122,7 @@ pub fn new_currencies(
 ) -> Result<CurrencyList, ParamFault>
     ensures { Gives (λ l. l) result (new_currencies_of earlier.now (items_view array.now)) }
 {
-    let mut list = CurrencyList::new(alloc);
+    let mut list = CurrencyList::with_capacity(alloc, array.len())?;
     for value in array {
         list.push(new_currency(earlier, &list, value)?)?;
     }

@@ -10,7 +10,7 @@ loop-value-preserved c =
 
 pub returns-in_err-new_currency : goal.returns-in_err-new_currency
 returns-in_err-new_currency c =
-    let p = err_from_is_err_and c.from_residual.result c.from_residual.ensures.1 in
+    let p = err_from_is_err_and c.from_residual-in_err-new_currency.result c.from_residual-in_err-new_currency.ensures.1 in
     rw (p.1, p.2)
     (ends new_currency_of c.args.earlier.now c.in_err-new_currency.field-0.0 c.loop-value.list c.loop-value.value-index c.args.array.now c.value-item.result _ c.loop-value-test.true c.value-item.is c.in_err-new_currency.ensures c.loop-value.invariant)
 
