@@ -14,6 +14,11 @@ volatility p currency = if is_high p currency then High else Regular
 abbrev pub concentration : Params → List ℕ → ConcentrationCategory
 concentration p currency = if is_listed p.fx.first currency then First else if is_listed p.fx.second currency then Second else Third
 
+-- the risk weight of a currency of this category, other than the calculation currency
+abbrev pub category_weight : Params → VolatilityCategory → ℤ
+category_weight p Regular = p.fx.regular_weight
+category_weight p High = p.fx.high_weight
+
 -- the correlation of two currencies of these categories
 abbrev pub category_rho : Params → VolatilityCategory → VolatilityCategory → ℤ
 category_rho p High High = p.fx.high_rho

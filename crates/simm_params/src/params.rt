@@ -1,8 +1,10 @@
-ghost use Rattle.std.specs.Prelude.{◌≡◌, List, ℕ, IfOk, ◌≤◌, unsigned_abs};
+ghost use Rattle.std.specs.Prelude.{◌≡◌, false, List, ℕ, IfOk, ◌≤◌, unsigned_abs};
+ghost use Rattle.simm_kinds.specs.declared.kinds.RiskType.TheVariants as kind;
 ghost use Rattle.simm_kinds.specs.Key.{Key};
 ghost use Rattle.simm_kinds.specs.Order.{same_name};
+ghost use Rattle.simm_rules.specs.Net.{is_own_currency};
 ghost use Rattle.simm_rules.specs.Lookups.{weight, delta_threshold, delta_rho, delta_rho_of, fx_rho, fx_weight};
-ghost use Rattle.simm_params.specs.Categories.{volatility, concentration, category_rho, category_threshold};
+ghost use Rattle.simm_params.specs.Categories.{volatility, concentration, category_weight, category_rho, category_threshold};
 ghost use Rattle.simm_params.specs.Facts.{IsParams, IsFxParams, IsWeighed};
 ghost use Rattle.simm_params.specs.FxView.{fx_view};
 
@@ -100,6 +102,18 @@ impl Params {
         }
     }
 
+    /// The risk weight of a currency of this volatility category, in ten-thousandths. The calculation currency has
+    /// none, whatever its category.
+    pub fn fx_weight(&self, category: VolatilityCategory) -> Rate4
+        ensures value { result.0 ≡ category_weight self.now category }
+        ensures by_key { (k : Key) → k.kind ≡ kind.Fx → is_own_currency self.now k ≡ false → category ≡ volatility self.now k.qualifier → result.0 ≡ weight self.now k }
+    {
+        match category {
+            VolatilityCategory::Regular => self.fx.weights.regular,
+            VolatilityCategory::High => self.fx.weights.high,
+        }
+    }
+
     /// The correlation of two different currencies of these volatility categories, in ten-thousandths.
     pub fn fx_rho(&self, a: VolatilityCategory, b: VolatilityCategory) -> Rate4
         ensures value { result.0 ≡ category_rho self.now a b }
@@ -129,7 +143,7 @@ impl Params {
         ensures { result.0 ≡ weight self.now key.now }
     {
         match key.kind() {
-            RiskType::Fx => self.fx_weight(key),
+            RiskType::Fx => self.currency_weight(key),
             _ => Rate4(0),
         }
     }
@@ -170,15 +184,12 @@ impl Params {
         }
     }
 
-    fn fx_weight(&self, key: &FactorKey) -> Rate4
+    fn currency_weight(&self, key: &FactorKey) -> Rate4
         ensures { result.0 ≡ fx_weight self.now key.now.qualifier }
     {
         if self.is_calculation_currency(key.qualifier()) {
             return Rate4(0);
         }
-        match self.volatility_category(key) {
-            VolatilityCategory::High => self.fx.weights.high,
-            VolatilityCategory::Regular => self.fx.weights.regular,
-        }
+        self.fx_weight(self.volatility_category(key))
     }
 }

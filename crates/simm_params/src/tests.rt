@@ -112,6 +112,18 @@ fn weighs(rt: HostRuntime) -> Result<(), Fail> {
 }
 
 #[test]
+fn a_volatility_category_has_its_weight(rt: HostRuntime) -> Result<(), Fail> {
+    let alloc = rt.alloc();
+    let params = read(alloc, file(alloc, 8, "")?.as_bytes())?;
+    assert_eq!(rt;
+        params.fx_weight(VolatilityCategory::Regular),
+        Rate4(74_000)
+    );
+    assert_eq!(rt; params.fx_weight(VolatilityCategory::High), Rate4(100_000));
+    Ok(())
+}
+
+#[test]
 fn correlates(rt: HostRuntime) -> Result<(), Fail> {
     let alloc = rt.alloc();
     let params = read(alloc, file(alloc, 8, "")?.as_bytes())?;
