@@ -91,7 +91,7 @@ fn key(alloc: Global, currency: &str) -> Result<FactorKey, Fail> {
 }
 
 #[test]
-fn weighs(rt: HostRuntime) -> Result<(), Fail> {
+fn a_currency_has_the_weight_and_threshold_of_its_categories(rt: HostRuntime) -> Result<(), Fail> {
     let alloc = rt.alloc();
     let params = read(alloc, file(alloc, 8, "")?.as_bytes())?.copy(alloc)?;
     params.facts();
@@ -124,7 +124,7 @@ fn a_volatility_category_has_its_weight(rt: HostRuntime) -> Result<(), Fail> {
 }
 
 #[test]
-fn correlates(rt: HostRuntime) -> Result<(), Fail> {
+fn currencies_correlate_by_their_volatilities(rt: HostRuntime) -> Result<(), Fail> {
     let alloc = rt.alloc();
     let params = read(alloc, file(alloc, 8, "")?.as_bytes())?;
     let high = key(alloc, "BRL")?;
@@ -166,7 +166,7 @@ fn reads_currencies(rt: HostRuntime) -> Result<(), Fail> {
 }
 
 #[test]
-fn refuses(rt: HostRuntime) -> Result<(), Fail> {
+fn a_file_with_one_wrong_line_is_refused(rt: HostRuntime) -> Result<(), Fail> {
     let alloc = rt.alloc();
     for (place, line) in REFUSED.iter() {
         let text = file(alloc, *place, line)?;
