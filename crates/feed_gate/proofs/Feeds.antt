@@ -20,7 +20,8 @@ use Rattle.feed_gate.specs.declared.report.FeedReport.{FeedReport}
 use Rattle.feed_gate.specs.Calls.{after_feed}
 use Rattle.feed_gate.specs.Refused.{refusal}
 use Rattle.feed_gate.specs.Run.{no_report, with_answer, Meets, EndsAt, TakesItem, Takes, RanTo, RanLines, BreaksAt, IsEnd, RanSource}
-use Rattle.feed_gate.proofs.Runs.{sets_after, nothing_after, refused-push, done-push, answer_done, answer_refused}
+use Rattle.feed_gate.specs.Sets.{AreLegal}
+use Rattle.feed_gate.proofs.Runs.{sets_after, nothing_after, refused-push, done-push, answer_done, answer_refused, kept_after}
 
 -- nothing more comes
 nothing_more : (s : Supply) → CanCome s [] (is_ended s)
@@ -174,8 +175,8 @@ module _ {S : Type 0} (faults : S → ℕ) (name gave left : S → Option (List 
   ended (end_at.Memory line) ends = record { bytes = ends.lines.taken; took = ends.lines.took; stop = starved line ends; whole = λ e. absurd (whole_other (end_at.Memory line) refl e); failed = λ e. absurd (fault_other (end_at.Memory line) refl e) }
 
   -- the items and the end of a feed that was run from its first byte
-  pub over : (s : S) (new : Lined S) (s0 s1 : List Set) (r : FeedReport) → RanLines faults name gave left (fresh s) new s0 s1 r → RanSource faults name gave left s new.source s0 s1 r
-  over s new s0 s1 r ran =
+  pub over : (s : S) (new : Lined S) (s0 s1 : List Set) (r : FeedReport) → RanLines faults name gave left (fresh s) new s0 s1 r → AreLegal s1 → RanSource faults name gave left s new.source s0 s1 r
+  over s new s0 s1 r ran legal =
       let its : Ended s new ran.items r.end = ended r.end ran.ends in
       record {
         taken = its.bytes;
@@ -185,14 +186,15 @@ module _ {S : Type 0} (faults : S → ℕ) (name gave left : S → Option (List 
         count = its.took.count;
         named = its.took.named;
         ran = record { items = ran.items; stop = its.stop; sets = ran.sets; done = ran.done; refused = ran.refused };
+        kept = kept_after ran.items s0 s1 ran.sets legal;
         at_end = λ e. its.took.at_end refl (ended_supply new.supply e);
         whole = λ e. ap is_ended (its.whole e);
         failed = λ e. its.took.failed refl (its.failed e);
       }
 
   -- a feed for which there was no memory from the start
-  pub never : (s : S) (sets : List Set) → RanSource faults name gave left s s sets sets (record no_report { end = end_at.Memory 1 })
-  never s sets = record {
+  pub never : (s : S) (sets : List Set) → AreLegal sets → RanSource faults name gave left s s sets sets (record no_report { end = end_at.Memory 1 })
+  never s sets legal = record {
     taken = [];
     ended = false;
     takes = nothing_taken (gave s) (left s);
@@ -200,6 +202,7 @@ module _ {S : Type 0} (faults : S → ℕ) (name gave left : S → Option (List 
     count = omega arith;
     named = refl;
     ran = record { items = []; stop = breaks_at_once; sets = sym (nothing_after sets); done = refl; refused = refl };
+    kept = record { params = refl; terms = refl; legal = legal };
     at_end = λ e. absurd (false≢true e);
     whole = λ e. absurd (whole_other (end_at.Memory 1) refl e);
     failed = λ e. absurd (fault_other (end_at.Memory 1) refl e);

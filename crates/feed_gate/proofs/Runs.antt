@@ -17,7 +17,7 @@ use Rattle.feed_gate.specs.declared.report.FeedEnd.{FeedEnd}
 use Rattle.feed_gate.specs.declared.report.FeedReport.{FeedReport}
 use Rattle.feed_gate.specs.Calls.{call_on, calls, called, after_calls, after_feed}
 use Rattle.feed_gate.specs.Refused.{refusal, refusals_from, refused_of, done_of}
-use Rattle.feed_gate.specs.Sets.{AreApart}
+use Rattle.feed_gate.specs.Sets.{AreApart, AreLegal, AreKept}
 use Rattle.feed_gate.specs.Run.{with_answer, Reports, Meets}
 
 -- ---- the sets after some items, and then one
@@ -26,6 +26,17 @@ after_calls-append : (s : Set) (xs ys : List Event) → after_calls s (xs ++ ys)
 after_calls-append s [] ys = refl
 after_calls-append s (x ∷ xs) ys = after_calls-append (called s x) xs ys
 
+called_params : (s : Set) (e : Event) → (called s e).params ≡ s.params
+called_params s e = at (is_full s.journal e)
+  where
+    at : (b : Bool) → (cond b s (with_entry s 0 e (answer s.params s.journal e))).params ≡ s.params
+    at true = refl
+    at false = refl
+
+after_params : (s : Set) (xs : List Event) → (after_calls s xs).params ≡ s.params
+after_params s [] = refl
+after_params s (x ∷ xs) = after_params (called s x) xs ∙ called_params s x
+
 called_terms : (s : Set) (e : Event) → (called s e).terms ≡ s.terms
 called_terms s e = at (is_full s.journal e)
   where
@@ -33,7 +44,7 @@ called_terms s e = at (is_full s.journal e)
     at true = refl
     at false = refl
 
-pub after_terms : (s : Set) (xs : List Event) → (after_calls s xs).terms ≡ s.terms
+after_terms : (s : Set) (xs : List Event) → (after_calls s xs).terms ≡ s.terms
 after_terms s [] = refl
 after_terms s (x ∷ xs) = after_terms (called s x) xs ∙ called_terms s x
 
@@ -104,4 +115,19 @@ pub apart_after : (items : List Item) (sets : List Set) → AreApart sets → Ar
 apart_after items sets apart = record {
   few = omega (arith, apart.few, length-map sets (after_feed items));
   different = subst (IsDistinct same_name) (sym (same_names items sets)) apart.different;
+}
+
+same_params : (items : List Item) (sets : List Set) → map (λ s. s.params) (map (after_feed items) sets) ≡ map (λ s. s.params) sets
+same_params items [] = refl
+same_params items (s ∷ sets) = ap (λ p. p ∷ map (λ u. u.params) (map (after_feed items) sets)) (after_params s (calls s.terms.name items)) ∙ ap (λ ps. s.params ∷ ps) (same_params items sets)
+
+same_terms : (items : List Item) (sets : List Set) → map (λ s. s.terms) (map (after_feed items) sets) ≡ map (λ s. s.terms) sets
+same_terms items [] = refl
+same_terms items (s ∷ sets) = ap (λ t. t ∷ map (λ u. u.terms) (map (after_feed items) sets)) (after_terms s (calls s.terms.name items)) ∙ ap (λ ts. s.terms ∷ ts) (same_terms items sets)
+
+pub kept_after : (items : List Item) (old new : List Set) → new ≡ map (after_feed items) old → AreLegal new → AreKept old new
+kept_after items old new is legal = record {
+  params = ap (map (λ s. s.params)) is ∙ same_params items old;
+  terms = ap (map (λ s. s.terms)) is ∙ same_terms items old;
+  legal = legal;
 }

@@ -18,6 +18,7 @@ use Rattle.feed_gate.specs.declared.report.FeedEnd.TheVariants as end_at
 use Rattle.feed_gate.specs.declared.report.FeedReport.{FeedReport}
 use Rattle.feed_gate.specs.Calls.{after_feed}
 use Rattle.feed_gate.specs.Refused.{refusal, done_of, refused_of}
+use Rattle.feed_gate.specs.Sets.{AreKept}
 
 -- nothing is done yet
 abbrev pub no_report : FeedReport
@@ -114,7 +115,7 @@ pub record RanOver (taken : List ℕ) (ended : Bool) (old_sets new_sets : List S
   pub refused : r.refused ≡ refused_of old_sets items
 
 -- a source that was run: the bytes that were taken from it are done, all of them where it ended, and they are no more than
--- 33,554,433; it failed only where a fault was met
+-- 33,554,433; it failed only where a fault was met; and each set is still one of its parameters and terms
 module _ {S : Type 0} (faults : S → ℕ) (name gave left : S → Option (List ℕ)) where
   pub record RanSource (old new : S) (old_sets new_sets : List Set) (r : FeedReport) : Type 0 where
     pub taken : List ℕ
@@ -124,6 +125,7 @@ module _ {S : Type 0} (faults : S → ℕ) (name gave left : S → Option (List 
     pub count : faults old ≤ faults new
     pub named : name new ≡ name old
     pub ran : RanOver taken ended old_sets new_sets r
+    pub kept : AreKept old_sets new_sets
     pub at_end : ended ≡ true → IsAtEnd (left new)
     pub whole : r.end ≡ end_at.End → ended ≡ true
     pub failed : r.end ≡ end_at.ReadFault → Rises (faults old) (faults new)

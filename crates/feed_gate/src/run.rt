@@ -5,7 +5,7 @@ ghost use Rattle.feed_reader.specs.Feed.{Item, Sent};
 ghost use Rattle.feed_reader.specs.Answers.{TellsItems};
 ghost use Rattle.feed_gate.specs.declared.report.RefusedMessage.TheVariants as refused;
 ghost use Rattle.mh_io.specs.declared.reading.TheConstants.{MOST_BYTES};
-ghost use Rattle.feed_gate.specs.Sets.{AreApart};
+ghost use Rattle.feed_gate.specs.Sets.{AreApart, AreLegal};
 ghost use Rattle.feed_gate.specs.Run.{Takes, Meets, Reports, RanLines, RanSource};
 
 use crate::calling::make_call;
@@ -27,13 +27,24 @@ pub fn run_feed<S: Source>(alloc: Global, source: S, sets: &mut [SetState]) -> (
     match lines_of(alloc, source) {
         Ok(mut lines) => {
             let report = run_lines(alloc, &mut lines, sets);
+            facts_of(sets);
             (lines.give_back(), report)
         }
         Err(memory) => {
             let mut report = FeedReport::new(alloc);
             report.end = FeedEnd::Memory { line: 1 };
+            facts_of(sets);
             (memory.back, report)
         }
+    }
+}
+
+/// What each set keeps: its journal is legal, and within its limits. It does nothing.
+fn facts_of(sets: &[SetState])
+    ensures { AreLegal sets.now }
+{
+    for set in sets {
+        set.facts();
     }
 }
 

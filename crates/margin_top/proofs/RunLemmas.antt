@@ -1,9 +1,8 @@
 -- The stages of a run, one after the other.
-use Rattle.std.proofs.Common.{◌≡◌, ℕ, ◌+◌, ◌<◌, ◌≤◌, arith, List, [], ◌∷◌, ◌++◌, map, length, take, drop, zero, suc, append-nil, Bool, true, false, cond, nat_le, nat_lt, Ok, Err, Some, refl, sym, ap, ◌∙◌, subst, inr, ⊎_elim}
+use Rattle.std.proofs.Common.{◌≡◌, ℕ, ◌+◌, ◌≤◌, arith, List, [], ◌∷◌, ◌++◌, map, length, take, drop, zero, suc, append-nil, false, Ok, Err, Some, refl, sym, ap, ◌∙◌, subst, inr, ⊎_elim}
 use Rattle.std.specs.List.{AllByRecursion, IsDistinct}
-use Rattle.std.proofs.lemmas.Bool.{or_parts, leb-false, ltb-false, cases_lt}
-use Rattle.std.proofs.lemmas.List.{length-map, length-append, length-take-le, drop_all, take_all}
-use Rattle.std.proofs.lemmas.List.Sums.{sum_by-append}
+use Rattle.std.proofs.lemmas.Bool.{cases_lt}
+use Rattle.std.proofs.lemmas.List.{length-map, length-take-le, drop_all, take_all}
 use Rattle.mh_io.specs.Faults.{Rises}
 use Rattle.mh_io.specs.Folder.{told_after_find}
 use Rattle.mh_io.specs.declared.folder.FindRefused.{FindRefused}
@@ -13,17 +12,9 @@ use Rattle.simm_rules.specs.Params.{Params}
 use Rattle.simm_params.specs.Grammar.{params_of}
 use Rattle.csa_terms.specs.Grammar.{terms_of}
 use Rattle.csa_terms.specs.Terms.{Agreement, AreTerms}
-use Rattle.held_cell.specs.Entries.{entry}
-use Rattle.set_core.specs.declared.event.Event.{Event}
-use Rattle.set_core.specs.Answer.{answer}
-use Rattle.set_core.specs.Room.{event_rows, journal_rows, is_full}
-use Rattle.set_core.specs.Set.{Set, IsSet, with_entry}
-use Rattle.set_core.proofs.Legal.{legal-push, legal-none}
-use Rattle.feed_reader.specs.Feed.{Item}
+use Rattle.set_core.specs.Set.{Set}
 use Rattle.feed_gate.specs.declared.report.FeedReport.{FeedReport}
-use Rattle.feed_gate.specs.Calls.{calls, called, after_calls, after_feed}
-use Rattle.feed_gate.specs.Sets.{AreApart}
-use Rattle.feed_gate.proofs.Runs.{after_terms}
+use Rattle.feed_gate.specs.Sets.{AreApart, AreKept}
 use Rattle.margin_top.specs.declared.status.Status.{Status}
 use Rattle.margin_top.specs.declared.run_fault.RunFault.{RunFault}
 use Rattle.margin_top.specs.declared.run_fault.TermsFileFault.{TermsFileFault}
@@ -117,36 +108,10 @@ apart_part p i agreements sets h e = subst AreApart (sym e) (record {
   different = subst (IsDistinct same_name) (sym (same_terms p (take i agreements))) (front_distinct i agreements h.different);
 })
 
-called_set : (s : Set) (e : Event) → IsSet s.params s.journal → IsSet (called s e).params (called s e).journal
-called_set s e is = at (is_full s.journal e) refl
-  where
-    at : (b : Bool) → is_full s.journal e ≡ b → IsSet (cond b s (with_entry s 0 e (answer s.params s.journal e))).params (cond b s (with_entry s 0 e (answer s.params s.journal e))).journal
-    at true h = is
-    at false h =
-        let room = or_parts (nat_le 65535 (length s.journal)) (nat_lt 500000 (journal_rows s.journal + event_rows e)) h in
-        let few : length s.journal < 65535 = leb-false 65535 (length s.journal) room.0 in
-        let light : journal_rows s.journal + event_rows e ≤ 500000 = ltb-false 500000 (journal_rows s.journal + event_rows e) room.1 in
-        let rows : journal_rows (s.journal ++ entry 0 e (answer s.params s.journal e) ∷ []) ≡ journal_rows s.journal + event_rows e = sum_by-append (λ x. event_rows x.event) s.journal (entry 0 e (answer s.params s.journal e) ∷ []) ∙ omega arith in
-        record {
-          few = omega (arith, few, length-append s.journal (entry 0 e (answer s.params s.journal e) ∷ []));
-          light = omega (arith, light, rows);
-          legal = legal-push s.params s.journal (entry 0 e (answer s.params s.journal e)) is.legal refl;
-        }
-
-after_set : (s : Set) (events : List Event) → IsSet s.params s.journal → IsSet (after_calls s events).params (after_calls s events).journal
-after_set s [] is = is
-after_set s (e ∷ events) is = after_set (called s e) events (called_set s e is)
-
-start_set : (p : Params) (t : Agreement) → IsSet (start p t).params (start p t).journal
-start_set p t = record { few = omega arith; light = omega arith; legal = legal-none p }
-
-legal_sets : (p : Params) (items : List Item) (agreements : List Agreement) → AllByRecursion (λ s. IsSet s.params s.journal) (map (after_feed items) (map (start p) agreements))
-legal_sets p items [] = tt
-legal_sets p items (t ∷ ts) = (after_set (start p t) (calls t.name items) (start_set p t), legal_sets p items ts)
-
-terms_stay : (p : Params) (items : List Item) (agreements : List Agreement) → agreements ≡ map (λ s. s.terms) (map (after_feed items) (map (start p) agreements))
-terms_stay p items [] = refl
-terms_stay p items (t ∷ ts) = ap (λ us. t ∷ us) (terms_stay p items ts) ∙ ap (λ u. u ∷ map (λ s. s.terms) (map (after_feed items) (map (start p) ts))) (sym (after_terms (start p t) (calls t.name items)))
+-- the sets of the terms have these terms
+start_terms : (p : Params) (agreements : List Agreement) → map (λ s. s.terms) (map (start p) agreements) ≡ agreements
+start_terms p [] = refl
+start_terms p (t ∷ ts) = ap (λ us. t ∷ us) (start_terms p ts)
 
 -- all items of a list were written
 pub written : {X : Type 0} (new old : List X) (n : ℕ) → length new ≡ length old → n ≡ length old → take n (new ++ drop (length new) old) ≡ new
@@ -156,12 +121,11 @@ written new old n same e =
     ∙ take_all n new (omega (arith, same, e))
 
 -- the feed was run on the sets of the terms
-pub has_run : (old mid new : FolderSeen) (pn tn fn : List ℕ) (p : Params) (agreements : List Agreement) (started sets : List Set) (r : FeedReport) → HasInputs pn tn old mid p agreements → started ≡ map (start p) agreements → IsFed fn mid new started sets r → HasRun pn tn fn old new sets r × (agreements ≡ map (λ s. s.terms) sets)
-has_run old mid new pn tn fn p agreements started sets r inputs begun fed =
-    let its : IsFed fn mid new (map (start p) agreements) sets r = subst (λ ss. IsFed fn mid new ss sets r) begun fed in (
-      record { p = p; agreements = agreements; mid = mid; inputs = inputs; fed = its; legal = subst (AllByRecursion (λ s. IsSet s.params s.journal)) (sym its.ran.sets) (legal_sets p its.ran.items agreements) },
-      terms_stay p its.ran.items agreements ∙ ap (map (λ s. s.terms)) (sym its.ran.sets),
-    )
+pub has_run : (old mid new : FolderSeen) (pn tn fn : List ℕ) (p : Params) (agreements : List Agreement) (started sets : List Set) (r : FeedReport) → HasInputs pn tn old mid p agreements → started ≡ map (start p) agreements → IsFed fn mid new started sets r → AreKept started sets → HasRun pn tn fn old new sets r × (agreements ≡ map (λ s. s.terms) sets)
+has_run old mid new pn tn fn p agreements started sets r inputs begun fed kept = (
+  record { p = p; agreements = agreements; mid = mid; inputs = inputs; fed = subst (λ ss. IsFed fn mid new ss sets r) begun fed; legal = kept.legal },
+  sym (kept.terms ∙ ap (map (λ s. s.terms)) begun ∙ start_terms p agreements),
+)
 
 pub feed_failed : (old mid new : FolderSeen) (pn tn fn : List ℕ) (p : Params) (agreements : List Agreement) (why : FindRefused) → HasInputs pn tn old mid p agreements → FindEnds mid new fn why → FeedFails pn tn fn old new why
 feed_failed old mid new pn tn fn p agreements why inputs h = record { p = p; agreements = agreements; mid = mid; inputs = inputs; missing = h }

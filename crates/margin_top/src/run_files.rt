@@ -1,7 +1,7 @@
 //! The files of a run: parameters, terms, and the feed run on its sets.
-ghost use Rattle.std.specs.Prelude.{◌≡◌, ◌≤◌, map, IfOk};
+ghost use Rattle.std.specs.Prelude.{◌≡◌, ◌≤◌, map, IfOk, OnOk};
 ghost use Rattle.csa_terms.specs.Grammar.{terms_of};
-ghost use Rattle.feed_gate.specs.Sets.{AreApart};
+ghost use Rattle.feed_gate.specs.Sets.{AreApart, AreKept};
 ghost use Rattle.margin_top.specs.Files.{folder_seen};
 ghost use Rattle.margin_top.specs.Run.{start};
 ghost use Rattle.margin_top.specs.RunStages.{TermsEnds, FeedEnds, RunFilesEnd, IsTermsFault};
@@ -84,6 +84,7 @@ fn run_feed_file<F: Folder>(
     ensures finds { F.find_faults folder.old ≤ F.find_faults folder.new }
     ensures reads { F.read_faults folder.old ≤ F.read_faults folder.new }
     ensures due { F.due folder.new ≡ F.due folder.old }
+    ensures kept { OnOk result (AreKept sets.old sets.new) }
     ensures ends { FeedEnds
         (folder_seen F.told F.find_faults F.read_faults folder.old)
         (folder_seen F.told F.find_faults F.read_faults folder.new)

@@ -47,7 +47,3 @@ legal-push p log e legal right before after x h = at (stands log before after e 
     at : Stands log before after e x → x.reply ≡ answer p before x.event
     at (Last g i) = subst (λ y. y.reply ≡ answer p before y.event) i (subst (λ ys. e.reply ≡ answer p ys e.event) g right)
     at (Within rest g) = legal before rest x g
-
-pub legal-none : (p : Params) → IsLegal p []
-legal-none p [] after x h = absurd (true≢false (sym (ap some_item h)))
-legal-none p (b ∷ before) after x h = absurd (true≢false (sym (ap some_item h)))

@@ -27,7 +27,8 @@ returns-in-Ok-run_feed_file-clause-ends g c =
     (inputs_read _ _ _ c.args.params.now c.args.terms.now c.in-Ok.values c.in-Ok-read_terms_file.agreements c.in-Ok.ensures.ends c.in-Ok-read_terms_file.ensures.ends
     (omega (arith, c.in-Ok.ensures.finds, c.in-Ok-read_terms_file.ensures.finds)) (omega (arith, c.in-Ok.ensures.reads, c.in-Ok-read_terms_file.ensures.reads)))
     (c.deref_mut.ensures.value ∙ c.in-Ok-make_sets.ensures.sets)
-    c.in-Ok-run_feed_file.ensures.ends)
+    c.in-Ok-run_feed_file.ensures.ends
+    c.in-Ok-run_feed_file.ensures.kept)
 
 pub returns-clause-ends : goal.returns-clause-ends
 returns-clause-ends g c =

@@ -1,6 +1,6 @@
 use Rattle.std.proofs.Common.{◌≡◌, ◌++◌, map, ap, ◌∙◌}
 use Rattle.std.specs.List.{flat_map}
-use Rattle.set_core.proofs.Puts.{map-map}
+use Rattle.std.proofs.lemmas.Simd.{map-map}
 use Rattle.margin_text.specs.Journal.{journal_text}
 use Rattle.margin_text.specs.Feeds.{feed_text}
 use Rattle.margin_top.proofs.run_printing.outcome_text.Goals as goal
@@ -14,7 +14,7 @@ returns c =
     ∙ (ap (λ text. text ++ flat_map (λ s. journal_text s.terms.name s.journal) c.deref.result.now) c.new-text.ensures
     ∙ ap (flat_map (λ s. journal_text s.terms.name s.journal)) c.deref.ensures.value) in
     let names : map (λ t. t.name) c.sets.result.now ≡ map (λ s. s.terms.name) sets =
-    ap (map (λ t. t.name)) (c.sets.ensures.value ∙ c.requires) ∙ map-map (λ s. s.terms) (λ t. t.name) sets in
+    ap (map (λ t. t.name)) (c.sets.ensures.value ∙ c.requires) ∙ map-map (λ t. t.name) (λ s. s.terms) sets in
     c.in_ok-push_report.ensures
     ∙ ap (λ text. text ++ feed_text 0 (map (λ t. t.name) c.sets.result.now) r.done r.refused r.end) journals
     ∙ ap (λ names. flat_map (λ s. journal_text s.terms.name s.journal) sets ++ feed_text 0 names r.done r.refused r.end) names
