@@ -19,3 +19,6 @@ mod words;
 pub use calculation::calc;
 pub use house::margin_house;
 pub use status::Status;
+
+#[cfg(test)]
+mod tests;
