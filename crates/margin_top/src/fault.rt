@@ -76,7 +76,9 @@ pub enum ValueFault {
 impl ValueFault {
     ghost use Rattle.std.specs.Prelude.{◌≡◌};
     ghost use Rattle.margin_top.specs.FaultLine.{line_text};
+    ghost use Rattle.margin_top.specs.Lines.{params_fault};
     ghost use Rattle.margin_top.specs.Calc.{status_of_value, line_of_value};
+    ghost use Rattle.margin_top.specs.declared.status.Status.TheVariants as statuses;
 
     /// The status and the line of the fault of the file of this name, where `status` is that of one too long or refused,
     /// and `refused` the line of one refused.
@@ -93,6 +95,14 @@ impl ValueFault {
             ValueFault::OfFile(fault) => fault.ending(name, status),
             ValueFault::Refused => (status, FaultLine::Whole(refused)),
         }
+    }
+
+    /// The status and the line of the fault of the parameter file of this name.
+    pub(crate) fn params_ending<'a>(self, name: &'a str) -> (Status, FaultLine<'a>)
+        ensures status { result.0 ≡ status_of_value statuses.Params self }
+        ensures line { line_text result.1 ≡ line_of_value name.now params_fault self }
+    {
+        self.ending(name, b"FAULT\tPARAMS\n", Status::Params)
     }
 }
 
@@ -120,7 +130,7 @@ impl CalcFault {
         ensures line { line_text result.1 ≡ fault_text params.now crif.now self }
     {
         match self {
-            CalcFault::OfParams(fault) => fault.ending(params, b"FAULT\tPARAMS\n", Status::Params),
+            CalcFault::OfParams(fault) => fault.params_ending(params),
             CalcFault::OfCrif(fault) => fault.ending(crif, b"FAULT\tCRIF\n", Status::Terms),
             CalcFault::OutOfRange => (Status::Terms, FaultLine::Whole(b"FAULT\tREFUSED\n")),
             CalcFault::Memory => (Status::Memory, FaultLine::Whole(b"")),

@@ -43,17 +43,13 @@ impl RunFault {
         ensures line { line_text result.1 ≡ run_fault_text params.now terms.now feed.now self.now }
     {
         match self {
-            RunFault::OfParams(fault) => fault.ending(params, b"FAULT\tPARAMS\n", Status::Params),
+            RunFault::OfParams(fault) => fault.params_ending(params),
             RunFault::OfTerms(TermsFileFault::OfFile(fault)) => fault.ending(terms, Status::Terms),
             RunFault::OfTerms(TermsFileFault::Refused(line)) => {
                 (Status::Terms, FaultLine::Whole(line.as_slice()))
             }
-            RunFault::OfFeed(FindRefused::Failed) => {
-                (Status::Find, FaultLine::Named(b"FAULT\tFIND\t", feed))
-            }
-            RunFault::OfFeed(FindRefused::Memory) | RunFault::Memory => {
-                (Status::Memory, FaultLine::Whole(b""))
-            }
+            RunFault::OfFeed(refused) => FileFault::from(*refused).ending(feed, Status::Feed),
+            RunFault::Memory => (Status::Memory, FaultLine::Whole(b"")),
         }
     }
 }

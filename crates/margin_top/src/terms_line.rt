@@ -33,19 +33,19 @@ fn push_fields(alloc: Global, line: &mut Text, fault: &TermsFault) -> Result<(),
         TermsFault::Missing(path)
         | TermsFault::BadNumber(path)
         | TermsFault::BadDate(path)
-        | TermsFault::BadName(path) => push_last(line, path.as_slice()),
-        TermsFault::DuplicateSet(name) => push_last(line, name.bytes()),
+        | TermsFault::BadName(path) => push_tab_and_last(line, path.as_slice()),
+        TermsFault::DuplicateSet(name) => push_tab_and_last(line, name.bytes()),
         TermsFault::OutOfRange(path, value) => push_range(alloc, line, path, *value),
         TermsFault::TooManySets(count) => {
             let number = format!(in alloc; "{count}")?;
-            push_last(line, number.as_bytes())
+            push_tab_and_last(line, number.as_bytes())
         }
         TermsFault::Toml | TermsFault::Memory => line.push(b'\n'),
     }
 }
 
 /// Adds a tab and the last field of the line.
-fn push_last(line: &mut Text, bytes: &[u8]) -> Result<(), AllocError>
+fn push_tab_and_last(line: &mut Text, bytes: &[u8]) -> Result<(), AllocError>
     ensures { OnOk result (line.new ≡ line.old ++ 9 ∷ last_field bytes.now) }
 {
     line.push(b'\t')?;
@@ -60,5 +60,5 @@ fn push_range(alloc: Global, line: &mut Text, path: &Text, value: i128) -> Resul
     line.push(b'\t')?;
     line.extend(path.as_slice())?;
     let number = format!(in alloc; "{value}")?;
-    push_last(line, number.as_bytes())
+    push_tab_and_last(line, number.as_bytes())
 }
