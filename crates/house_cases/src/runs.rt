@@ -56,16 +56,16 @@ const NONE: Trouble = Trouble {
 fn run(
     alloc: Global,
     words: &[&str],
-    terms: &str,
-    feed: &str,
+    terms: &[u8],
+    feed: &[u8],
     trouble: Trouble,
 ) -> Result<Outcome, Fail> {
     let mut folder = MemFolder::new(one(alloc, trouble.find)?);
     let params = Bytes::from_vec(PARAMS.as_bytes().to_vec(alloc)?);
     folder.add(alloc, "params", params, 7, one(alloc, trouble.params)?)?;
-    let terms = Bytes::from_vec(terms.as_bytes().to_vec(alloc)?);
+    let terms = Bytes::from_vec(terms.to_vec(alloc)?);
     folder.add(alloc, "terms", terms, 7, one(alloc, trouble.terms)?)?;
-    let feed = Bytes::from_vec(feed.as_bytes().to_vec(alloc)?);
+    let feed = Bytes::from_vec(feed.to_vec(alloc)?);
     folder.add(alloc, "feed", feed, 65_536, one(alloc, trouble.feed)?)?;
     let mut out = MemSink::new(alloc, 4096, trouble.sink_most, one(alloc, trouble.put)?)?;
     let words = strings(alloc, words)?;
@@ -79,13 +79,20 @@ fn run(
 // The files in `examples/` print just what docs/FORMATS.md shows.
 #[test]
 fn a_trade_that_comes_is_asked_about_and_goes(rt: HostRuntime) -> Result<(), Fail> {
-    let outcome = run(rt.alloc(), &RUN, example::TERMS, example::FEED, NONE)?;
+    let outcome = run(
+        rt.alloc(),
+        &RUN,
+        example::TERMS.as_bytes(),
+        example::FEED.as_bytes(),
+        NONE,
+    )?;
     assert_eq!(rt; outcome.status, Status::Done);
     assert_eq!(rt; outcome.text.as_slice(), example::PRINTED.as_bytes());
     Ok(())
 }
 
-/// One trade of one euro row, in the first four lines of a feed.
+/// The first four lines of a feed: a CRIF block for the first set, whose one trade has one row, 1,000 dollars of
+/// sensitivity to the euro.
 const BLOCK: &str =
     "CRIF\tALPHA\nTradeID,ProductClass,RiskType,Qualifier,Bucket,Label1,Label2,Amount,AmountCurrency,AmountUSD\n\
 T1,RatesFX,Risk_FX,EUR,,,,1000,USD,1000\nEND\n";
@@ -138,7 +145,7 @@ fn each_feed_has_its_journals_and_its_report(rt: HostRuntime) -> Result<(), Fail
     let alloc = rt.alloc();
     for (rest, status, count, entries, end) in FEEDS {
         let feed = format!(in alloc; "{BLOCK}{rest}")?;
-        let outcome = run(alloc, &RUN, TERMS, feed.as_str(), NONE)?;
+        let outcome = run(alloc, &RUN, TERMS.as_bytes(), feed.as_bytes(), NONE)?;
         let text = format!(in alloc;
             "SET\tALPHA\t{count}\n{SUBMITTED}{entries}SET\tBETA\t0\n{end}"
         )?;
@@ -192,7 +199,7 @@ const FAULTS: [(&[&str], &str, Status, &str); 6] = [
 fn files_before_the_feed_have_their_fault_lines(rt: HostRuntime) -> Result<(), Fail> {
     let alloc = rt.alloc();
     for (words, terms, status, text) in FAULTS {
-        let outcome = run(alloc, words, terms, BLOCK, NONE)?;
+        let outcome = run(alloc, words, terms.as_bytes(), BLOCK.as_bytes(), NONE)?;
         assert_eq!(rt; outcome.status, status, "at {text}");
         assert_eq!(rt; outcome.text.as_slice(), text.as_bytes(), "at {text}");
     }
@@ -242,7 +249,7 @@ const FAILING: [(Trouble, Status, &str); 7] = [
 fn a_find_or_read_that_fails_ends_a_run_with_its_line(rt: HostRuntime) -> Result<(), Fail> {
     let alloc = rt.alloc();
     for (trouble, status, text) in FAILING {
-        let outcome = run(alloc, &RUN, TERMS, BLOCK, trouble)?;
+        let outcome = run(alloc, &RUN, TERMS.as_bytes(), BLOCK.as_bytes(), trouble)?;
         assert_eq!(rt; outcome.status, status, "at {text}");
         assert_eq!(rt; outcome.text.as_slice(), text.as_bytes(), "at {text}");
     }
@@ -255,7 +262,7 @@ fn a_feed_that_fails_keeps_its_earlier_entries(rt: HostRuntime) -> Result<(), Fa
     let alloc = rt.alloc();
     let feed = format!(in alloc; "{BLOCK}ASK\tALPHA\nCRIF\tALPHA\nT1,RatesFX\n")?;
     let trouble = Trouble { feed: 2, ..NONE };
-    let outcome = run(alloc, &RUN, TERMS, feed.as_str(), trouble)?;
+    let outcome = run(alloc, &RUN, TERMS.as_bytes(), feed.as_bytes(), trouble)?;
     let text = format!(in alloc;
         "SET\tALPHA\t2\n{SUBMITTED}2\t0\tASK\t={MARGIN}SET\tBETA\t0\nFEED\t0\t2\t0\tREAD\n"
     )?;
@@ -275,7 +282,7 @@ fn a_sink_that_fails_holds_a_front_of_the_journals(rt: HostRuntime) -> Result<()
             put: put as u64 + 1,
             ..NONE
         };
-        let outcome = run(alloc, &RUN, TERMS, BLOCK, trouble)?;
+        let outcome = run(alloc, &RUN, TERMS.as_bytes(), BLOCK.as_bytes(), trouble)?;
         assert_eq!(rt; outcome.status, Status::Write, "at {put}");
         assert_eq!(rt; outcome.text.len(), put);
         assert!(rt;
@@ -283,5 +290,63 @@ fn a_sink_that_fails_holds_a_front_of_the_journals(rt: HostRuntime) -> Result<()
             "at {put}"
         );
     }
+    Ok(())
+}
+
+// A terms file of one byte more than is read.
+#[test]
+fn a_terms_file_with_a_byte_too_many_is_too_long(rt: HostRuntime) -> Result<(), Fail> {
+    let alloc = rt.alloc();
+    let long = vec![in alloc; b' '; 33_554_433]?;
+    let outcome = run(alloc, &RUN, long.as_slice(), BLOCK.as_bytes(), NONE)?;
+    assert_eq!(rt; outcome.status, Status::Terms);
+    assert_eq!(rt; outcome.text.as_slice(), b"FAULT\tLONG\tterms\n".as_slice());
+    Ok(())
+}
+
+/// The size of a line behind the block that is no message, the status, and what is printed behind both sets.
+const LINES: [(usize, Status, &str); 2] = [
+    (
+        65_535,
+        Status::Done,
+        "REFUSED\t0\t5\t1\nFEED\t0\t1\t1\tEND\n",
+    ),
+    (65_536, Status::Feed, "FEED\t0\t1\t0\tLONG\t5\n"),
+];
+
+#[test]
+fn a_line_with_a_byte_too_many_ends_a_feed(rt: HostRuntime) -> Result<(), Fail> {
+    let alloc = rt.alloc();
+    for (size, status, end) in LINES {
+        let line = vec![in alloc; b'x'; size]?;
+        let mut feed = BLOCK.as_bytes().to_vec(alloc)?;
+        feed.extend_from_slice(line.as_slice())?;
+        feed.push(b'\n')?;
+        let outcome = run(alloc, &RUN, TERMS.as_bytes(), feed.as_slice(), NONE)?;
+        let text = format!(in alloc; "SET\tALPHA\t1\n{SUBMITTED}SET\tBETA\t0\n{end}")?;
+        assert_eq!(rt; outcome.status, status, "at {size}");
+        assert_eq!(rt; outcome.text.as_slice(), text.as_bytes(), "at {size}");
+    }
+    Ok(())
+}
+
+// A feed of one byte more than is read, comments behind its block, has the block done.
+#[test]
+fn a_feed_with_a_byte_too_many_keeps_its_earlier_entries(rt: HostRuntime) -> Result<(), Fail> {
+    let alloc = rt.alloc();
+    let mut comment = vec![in alloc; b'#'; 65_535]?;
+    comment.push(b'\n')?;
+    let mut feed = BLOCK.as_bytes().to_vec(alloc)?;
+    for _ in 0..512 {
+        feed.extend_from_slice(comment.as_slice())?;
+    }
+    feed.truncate(33_554_433);
+    assert_eq!(rt; feed.len(), 33_554_433);
+    let outcome = run(alloc, &RUN, TERMS.as_bytes(), feed.as_slice(), NONE)?;
+    let text = format!(in alloc;
+        "SET\tALPHA\t1\n{SUBMITTED}SET\tBETA\t0\nFEED\t0\t1\t0\tTOOLONG\t33554433\n"
+    )?;
+    assert_eq!(rt; outcome.status, Status::Feed);
+    assert_eq!(rt; outcome.text.as_slice(), text.as_bytes());
     Ok(())
 }
