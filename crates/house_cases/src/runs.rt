@@ -31,13 +31,14 @@ haircuts = {}
 holidays = []
 "#;
 
-/// What fails: a find, and a call of each file's source and of the sink, 0 for none; and the most bytes that the sink
-/// takes at once.
+/// What fails: a find, and a call of each file's source and of the sink, 0 for none; and the most bytes that the terms'
+/// source gives and that the sink takes at once.
 #[derive(Clone, Copy)]
 struct Trouble {
     find: u64,
     params: u64,
     terms: u64,
+    terms_most: usize,
     feed: u64,
     sink_most: usize,
     put: u64,
@@ -47,6 +48,7 @@ const NONE: Trouble = Trouble {
     find: 0,
     params: 0,
     terms: 0,
+    terms_most: 7,
     feed: 0,
     sink_most: 65_536,
     put: 0,
@@ -64,7 +66,13 @@ fn run(
     let params = Bytes::from_vec(PARAMS.as_bytes().to_vec(alloc)?);
     folder.add(alloc, "params", params, 7, one(alloc, trouble.params)?)?;
     let terms = Bytes::from_vec(terms.to_vec(alloc)?);
-    folder.add(alloc, "terms", terms, 7, one(alloc, trouble.terms)?)?;
+    folder.add(
+        alloc,
+        "terms",
+        terms,
+        trouble.terms_most.max(1),
+        one(alloc, trouble.terms)?,
+    )?;
     let feed = Bytes::from_vec(feed.to_vec(alloc)?);
     folder.add(alloc, "feed", feed, 65_536, one(alloc, trouble.feed)?)?;
     let mut out = MemSink::new(alloc, 4096, trouble.sink_most, one(alloc, trouble.put)?)?;
@@ -298,7 +306,11 @@ fn a_sink_that_fails_holds_a_front_of_the_journals(rt: HostRuntime) -> Result<()
 fn a_terms_file_with_a_byte_too_many_is_too_long(rt: HostRuntime) -> Result<(), Fail> {
     let alloc = rt.alloc();
     let long = vec![in alloc; b' '; 33_554_433]?;
-    let outcome = run(alloc, &RUN, long.as_slice(), BLOCK.as_bytes(), NONE)?;
+    let trouble = Trouble {
+        terms_most: 65_536,
+        ..NONE
+    };
+    let outcome = run(alloc, &RUN, long.as_slice(), BLOCK.as_bytes(), trouble)?;
     assert_eq!(rt; outcome.status, Status::Terms);
     assert_eq!(rt; outcome.text.as_slice(), b"FAULT\tLONG\tterms\n".as_slice());
     Ok(())
