@@ -21,7 +21,7 @@ use simm_params::Params;
 use simm_rules::{Breakdown, RangeFault};
 use std::alloc::{AllocError, Global};
 
-/// The margin of the rows of the trades.
+/// The margin of the rows of the trades: whether they are in range, and their margin if they are, in one call.
 ///
 /// # Errors
 ///

@@ -1,7 +1,9 @@
-ghost use Rattle.std.specs.Prelude.{◌≡◌, ◌∷◌, [], ◌≤◌, IfOk, true, length};
+ghost use Rattle.std.specs.Prelude.{◌≡◌, ◌^◌, ◌<◌, IfOk, length};
 ghost use Rattle.simm_kinds.specs.Batch.{rows_of};
+ghost use Rattle.simm_plain.specs.Lent.{all_rows};
 
-use crate::{MarginFault, margin};
+use crate::lent::{LentRows, lend};
+use crate::{MarginFault, margin, margin_in_range, range_fault};
 use simm_kinds::{BucketId, CrifRow, FactorKey, Listed, Name, ProductClass, RiskType, TradeRows};
 use simm_params::{Params, read_params};
 use simm_rules::{Breakdown, RangeFault, RangeKind};
@@ -32,6 +34,13 @@ const MARGINS: [(&str, i64, &str, i64, i128); 11] = [
     ("EUR", 100_000, "BRL", 100_000, 1_384_775),
     ("BRL", 100_000, "TRY", 100_000, 0),
 ];
+
+/// What is above the range where rows of 10^12 and 1 cents weigh 10 each: a gross of 10^13 cents is the most.
+const GROSS_ABOVE: RangeFault = RangeFault {
+    which: RangeKind::DeltaGross,
+    value: 10_000_000_000_010,
+    limit: 10_000_000_000_000,
+};
 
 fn params(alloc: Global) -> Result<Params, Fail> {
     Ok(
@@ -64,6 +73,20 @@ fn read_name(alloc: Global, text: &str) -> Result<Name, Fail> {
     Ok(Name::read(alloc, text.as_bytes()).ok().ok_or("a name")?)
 }
 
+/// Two trades with a row each.
+fn two_trades(
+    alloc: Global,
+    first: (&str, i64),
+    second: (&str, i64),
+) -> Result<Vec<TradeRows>, Fail>
+    ensures { IfOk result (λ trades. length (rows_of trades.items) ≡ 2) }
+{
+    let mut trades = Vec::new(alloc);
+    trades.push(trade(alloc, "T1", first.0, first.1)?)?;
+    trades.push(trade(alloc, "T2", second.0, second.1)?)?;
+    Ok(trades)
+}
+
 /// The margin of two trades with a row each.
 fn margin_of(
     alloc: Global,
@@ -71,14 +94,12 @@ fn margin_of(
     first: (&str, i64),
     second: (&str, i64),
 ) -> Result<Result<Breakdown, MarginFault>, Fail> {
-    let mut trades = Vec::new(alloc);
-    trades.push(trade(alloc, "T1", first.0, first.1)?)?;
-    trades.push(trade(alloc, "T2", second.0, second.1)?)?;
+    let trades = two_trades(alloc, first, second)?;
     Ok(margin(alloc, params, trades.as_slice()))
 }
 
 #[test]
-fn margins(rt: HostRuntime) -> Result<(), Fail> {
+fn two_trades_have_the_margin_worked_out_by_hand(rt: HostRuntime) -> Result<(), Fail> {
     let alloc = rt.alloc();
     let params = params(alloc)?;
     for (first, amount, second, other, expected) in MARGINS {
@@ -92,18 +113,47 @@ fn margins(rt: HostRuntime) -> Result<(), Fail> {
 }
 
 #[test]
-fn range(rt: HostRuntime) -> Result<(), Fail> {
+fn a_gross_at_its_limit_has_a_margin_and_above_it_a_fault(rt: HostRuntime) -> Result<(), Fail> {
     let alloc = rt.alloc();
     let params = params(alloc)?;
     let whole = margin_of(alloc, &params, ("BRL", 1_000_000_000_000), ("USD", 5))?;
     let breakdown = whole.ok().ok_or("a margin")?;
     assert_eq!(rt; breakdown.total, 100_000_000_000_000);
     let above = margin_of(alloc, &params, ("BRL", 1_000_000_000_000), ("BRL", 1))?;
-    let fault = RangeFault {
-        which: RangeKind::DeltaGross,
-        value: 10_000_000_000_010,
-        limit: 10_000_000_000_000,
-    };
-    assert!(rt; above == Err(MarginFault::Range(fault)));
+    assert!(rt; above == Err(MarginFault::Range(GROSS_ABOVE)));
+    Ok(())
+}
+
+#[test]
+fn lent_rows_have_no_fault_in_range_and_one_above_it(rt: HostRuntime) -> Result<(), Fail> {
+    let alloc = rt.alloc();
+    let params = params(alloc)?;
+    let trades = two_trades(alloc, ("EUR", 100_000), ("GBP", -50_000))?;
+    let lent = lend(alloc, trades.as_slice())?;
+    assert!(rt; range_fault(alloc, &params, lent.as_slice())?.is_none());
+    let trades = two_trades(alloc, ("BRL", 1_000_000_000_000), ("BRL", 1))?;
+    let lent = lend(alloc, trades.as_slice())?;
+    assert!(rt; range_fault(alloc, &params, lent.as_slice())? == Some(GROSS_ABOVE));
+    Ok(())
+}
+
+/// The margin of lent rows that are in range.
+fn margin_of_lent(alloc: Global, params: &Params, lent: &[LentRows]) -> Result<Breakdown, Fail>
+    requires { length (all_rows lent.now) < 2 ^ 63 }
+{
+    match range_fault(alloc, params, lent)? {
+        Some(_) => Err("rows in range".into()),
+        None => Ok(margin_in_range(alloc, params, lent)?),
+    }
+}
+
+#[test]
+fn lent_rows_in_range_have_their_margin(rt: HostRuntime) -> Result<(), Fail> {
+    let alloc = rt.alloc();
+    let params = params(alloc)?;
+    let trades = two_trades(alloc, ("EUR", 100_000), ("GBP", -50_000))?;
+    let lent = lend(alloc, trades.as_slice())?;
+    let breakdown = margin_of_lent(alloc, &params, lent.as_slice())?;
+    assert_eq!(rt; breakdown.total, 640_859);
     Ok(())
 }

@@ -30,7 +30,7 @@ pub fn weigh(alloc: Global, params: &Params, nets: &[Net]) -> Result<Weighed, Al
     let mut items = Vec::with_capacity(alloc, nets.len())?;
     for net in nets {
         let place = place(params, net);
-        items.push(item(params, net, place.cr))?;
+        items.push(item(params, net, place))?;
         places.push(place)?;
     }
     Ok(Weighed { places, items })
@@ -47,14 +47,14 @@ fn place(params: &Params, net: &Net) -> Place
     }
 }
 
-fn item(params: &Params, net: &Net, cr: Corr6) -> Item
+fn item(params: &Params, net: &Net, place: Place) -> Item
     requires factor { IsFactor params.now (entry_of net.now) }
-    requires cr { cr ≡ (place_of params.now (entry_of net.now)).cr }
+    requires place { place ≡ place_of params.now (entry_of net.now) }
     ensures { result.w ≡ factor_weighted params.now (entry_of net.now) }
 {
     params.facts();
     Item {
-        w: weighted(params.weight(net.key), net.amount, cr),
+        w: weighted(params.fx_weight(place.category), net.amount, place.cr),
     }
 }
 
