@@ -1,5 +1,5 @@
 ghost use Rattle.std.specs.Prelude.{◌≡◌, IsTrue, if◌then◌else◌};
-ghost use Rattle.mh_io.specs.Faults.{Rises};
+ghost use Rattle.mh_io.specs.Faults.{IsCount, Rises};
 ghost use Rattle.mh_io.specs.Memory.{uncalled, is_due, with_call, with_fault};
 
 use std::marker::Model;
@@ -13,11 +13,14 @@ pub(crate) struct Calls {
 }
 
 impl Model for Calls {
+    ghost use Rattle.mh_io.specs.Faults.{IsCount};
     ghost use Rattle.mh_io.specs.Memory.{Counted};
 
     ghost Value = { Counted };
 
     ghost view = { λ c. record { failing = c.failing.items; made = c.made; faults = c.faults } };
+
+    ghost invariant = { λ c. IsCount c.faults };
 }
 
 impl Calls {
@@ -34,6 +37,7 @@ impl Calls {
 
     /// Counts a call, and answers whether it is to fail, which is a fault.
     pub(crate) fn next_fails(&mut self) -> bool
+        ensures counted { IsCount self.new.faults }
         ensures due { result ≡ is_due self.old }
         ensures after { self.new ≡ (if result then with_fault (with_call self.old) else with_call self.old) }
         ensures rises { IsTrue result → Rises self.old.faults self.new.faults }
@@ -48,6 +52,7 @@ impl Calls {
 
     /// Counts a fault.
     pub(crate) fn count_fault(&mut self)
+        ensures counted { IsCount self.new.faults }
         ensures after { self.new ≡ with_fault self.old }
         ensures rises { Rises self.old.faults self.new.faults }
     {

@@ -1,5 +1,5 @@
 ghost use Rattle.std.specs.Prelude.{◌≡◌, ℕ, ◌+◌, ◌<◌, ◌≤◌, Option, IfOk, IfSome};
-ghost use Rattle.mh_io.specs.Faults.{Rises, added_faults};
+ghost use Rattle.mh_io.specs.Faults.{IsCount, Rises, added_faults};
 ghost use Rattle.mh_io.specs.Folder.{Telling, told_after_find, due_after_find, IsFound, told_after_done};
 
 use crate::source::Source;
@@ -51,7 +51,9 @@ pub trait Folder {
     /// for want of memory; then the name isn't counted as asked for.
     fn find(&mut self, alloc: Global, name: &str) -> Result<Self::Src, FindRefused>
         ensures count { find_faults self.old ≤ find_faults self.new }
+        ensures counted { IsCount (find_faults self.new) }
         ensures reads_stand { read_faults self.new ≡ read_faults self.old }
+        ensures reads_counted { IsCount (read_faults self.new) }
         ensures due { due self.new ≡ due_after_find result (due self.old) }
         ensures told { told self.new ≡ told_after_find result name.now (told self.old) }
 
@@ -65,7 +67,9 @@ pub trait Folder {
     fn done(&mut self, source: Self::Src)
         requires { 0 < due self.old }
         ensures finds_stand { find_faults self.new ≡ find_faults self.old }
+        ensures finds_counted { IsCount (find_faults self.new) }
         ensures count { read_faults self.old ≤ read_faults self.new }
+        ensures counted { IsCount (read_faults self.new) }
         ensures rises { read_faults self.new ≡ added_faults (read_faults self.old) (Self.Src.faults source) }
         ensures due { due self.new + 1 ≡ due self.old }
         ensures told { told self.new

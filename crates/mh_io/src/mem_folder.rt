@@ -1,6 +1,6 @@
 ghost use Rattle.std.specs.Prelude.{◌≡◌, ℕ, ◌+◌, ◌<◌, ◌≤◌, [], Some, false, true, option_map, IfOk, IfSome, OnOk, OnErr};
 ghost use Rattle.std.specs.Vec.{vec_len, vec_capacity};
-ghost use Rattle.mh_io.specs.Faults.{Rises, added_faults};
+ghost use Rattle.mh_io.specs.Faults.{IsCount, Rises, added_faults};
 ghost use Rattle.mh_io.specs.Folder.{told_after_find, due_after_find, IsFound, told_after_done};
 ghost use Rattle.mh_io.specs.Memory.{uncalled, with_file, files_but, telling, opened, named_file, find_fails, after_find, after_done};
 
@@ -29,6 +29,7 @@ pub struct MemFolder {
 impl Model for MemFolder {
     ghost use Rattle.std.specs.Prelude.{◌+◌, ◌≤◌, map};
     ghost use Rattle.std.specs.Vec.{vec_len, vec_capacity};
+    ghost use Rattle.mh_io.specs.Faults.{IsCount};
     ghost use Rattle.mh_io.specs.Memory.{MemoryFolder, reading_of};
 
     ghost Value = { MemoryFolder };
@@ -42,7 +43,7 @@ impl Model for MemFolder {
       due = f.due;
     } };
 
-    ghost invariant = { λ f. vec_len f.reads + f.due ≤ vec_capacity f.reads };
+    ghost invariant = { λ f. (vec_len f.reads + f.due ≤ vec_capacity f.reads) × IsCount f.calls.faults × IsCount f.read_faults };
 }
 
 impl MemFolder {
@@ -125,7 +126,9 @@ impl Folder for MemFolder {
     /// It fails exactly at the finds that are to fail and at names that aren't there.
     fn find(&mut self, alloc: Global, name: &str) -> Result<MemSource, FindRefused>
         ensures count { self.old.calls.faults ≤ self.new.calls.faults }
+        ensures counted { IsCount self.new.calls.faults }
         ensures reads_stand { self.new.read_faults ≡ self.old.read_faults }
+        ensures reads_counted { IsCount self.new.read_faults }
         ensures due { self.new.due ≡ due_after_find result self.old.due }
         ensures told { Some (telling self.new) ≡ told_after_find result name.now (Some (telling self.old)) }
 
@@ -141,8 +144,8 @@ impl Folder for MemFolder {
         ensures after { self.new ≡ after_find result name.now self.old }
     {
         // What wants memory comes first, so that nothing has changed where there is none.
-        let asked = copied(alloc, name.as_bytes())?;
         let found = self.open(alloc, name)?;
+        let asked = copied(alloc, name.as_bytes())?;
         self.reads.reserve(self.due + 1)?;
         self.asked.push(asked).map_err(AllocError::from)?;
         if self.calls.next_fails() {
@@ -163,7 +166,9 @@ impl Folder for MemFolder {
     fn done(&mut self, source: MemSource)
         requires { 0 < self.old.due }
         ensures finds_stand { self.new.calls.faults ≡ self.old.calls.faults }
+        ensures finds_counted { IsCount self.new.calls.faults }
         ensures count { self.old.read_faults ≤ self.new.read_faults }
+        ensures counted { IsCount self.new.read_faults }
         ensures rises { self.new.read_faults ≡ added_faults self.old.read_faults source.calls.faults }
         ensures due { self.new.due + 1 ≡ self.old.due }
         ensures told { Some (telling self.new)

@@ -1,5 +1,5 @@
 ghost use Rattle.std.specs.Prelude.{◌≡◌, ℕ, ◌-◌, ◌<◌, ◌≤◌, [], Some, length, take, min, IfOk, OnErr, is_err, if◌then◌else◌};
-ghost use Rattle.mh_io.specs.Faults.{Rises};
+ghost use Rattle.mh_io.specs.Faults.{IsCount, Rises};
 ghost use Rattle.mh_io.specs.Told.{Appends};
 ghost use Rattle.mh_io.specs.Memory.{MemorySink, uncalled, put_fails, with_call, with_fault};
 
@@ -24,13 +24,14 @@ pub struct MemSink {
 impl Model for MemSink {
     ghost use Rattle.std.specs.Prelude.{◌≤◌};
     ghost use Rattle.std.specs.Vec.{vec_len, vec_capacity};
+    ghost use Rattle.mh_io.specs.Faults.{IsCount};
     ghost use Rattle.mh_io.specs.Memory.{MemorySink};
 
     ghost Value = { MemorySink };
 
     ghost view = { λ s. record { holds = s.held.items; room = s.room; most = s.most; calls = s.calls } };
 
-    ghost invariant = { λ s. (vec_len s.held ≤ s.room) × (s.room ≤ vec_capacity s.held) };
+    ghost invariant = { λ s. (vec_len s.held ≤ s.room) × (s.room ≤ vec_capacity s.held) × IsCount s.calls.faults };
 }
 
 impl MemSink {
@@ -71,6 +72,7 @@ impl Sink for MemSink {
     /// many bytes as come, as `most` allows and as the room holds.
     fn put(&mut self, bytes: &[u8]) -> Result<usize, Failed>
         ensures count { self.old.calls.faults ≤ self.new.calls.faults }
+        ensures counted { IsCount self.new.calls.faults }
 
         ensures within { IfOk result (λ n. n ≤ length bytes.now) }
         ensures advances { IfOk result (λ n. 0 < length bytes.now → 0 < n) }

@@ -1,6 +1,6 @@
 ghost use Rattle.std.specs.Prelude.{◌≡◌, ℕ, ◌<◌, ◌≤◌, [], Some, length, take, min, IfOk, OnErr, is_err, if◌then◌else◌};
 ghost use Rattle.std.specs.Io.KnownBytes.{IsAtEnd};
-ghost use Rattle.mh_io.specs.Faults.{Rises};
+ghost use Rattle.mh_io.specs.Faults.{IsCount, Rises};
 ghost use Rattle.mh_io.specs.Source.{Takes};
 ghost use Rattle.mh_io.specs.Memory.{MemorySource, uncalled, is_due, with_call, with_fault};
 
@@ -24,13 +24,14 @@ pub struct MemSource {
 
 impl Model for MemSource {
     ghost use Rattle.std.specs.Prelude.{ℕ, ◌<◌, ◌≤◌, length, take, drop};
+    ghost use Rattle.mh_io.specs.Faults.{IsCount};
     ghost use Rattle.mh_io.specs.Memory.{MemorySource};
 
     ghost Value = { MemorySource };
 
     ghost view = { λ s. record { name = s.name; gave = take s.given s.bytes; left = drop s.given s.bytes; most = s.most; calls = s.calls } };
 
-    ghost invariant = { λ s. (s.given ≤ length s.bytes) × (0 < s.most) };
+    ghost invariant = { λ s. (s.given ≤ length s.bytes) × (0 < s.most) × IsCount s.calls.faults };
 }
 
 impl MemSource {
@@ -81,6 +82,7 @@ impl Source for MemSource {
     fn take(&mut self, buf: &mut [u8]) -> Result<usize, Failed>
         requires { 0 < length buf.old }
         ensures count { self.old.calls.faults ≤ self.new.calls.faults }
+        ensures counted { IsCount self.new.calls.faults }
         ensures name { Some self.new.name ≡ Some self.old.name }
 
         ensures within { IfOk result (λ n. n ≤ length buf.old) }

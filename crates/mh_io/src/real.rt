@@ -18,11 +18,14 @@ pub struct RealSource<R: Read> {
 
 impl<R: Read> Model for RealSource<R> {
     ghost use Rattle.std.specs.Prelude.{ℕ};
+    ghost use Rattle.mh_io.specs.Faults.{IsCount};
 
     /// How many faults it met.
     ghost Value = { ℕ };
 
     ghost view = { λ s. s.faults };
+
+    ghost invariant = { λ s. IsCount s.faults };
 }
 
 impl<R: Read> RealSource<R> {
@@ -65,11 +68,14 @@ pub struct RealSink<W: Write> {
 
 impl<W: Write> Model for RealSink<W> {
     ghost use Rattle.std.specs.Prelude.{ℕ};
+    ghost use Rattle.mh_io.specs.Faults.{IsCount};
 
     /// How many faults it met.
     ghost Value = { ℕ };
 
     ghost view = { λ s. s.faults };
+
+    ghost invariant = { λ s. IsCount s.faults };
 }
 
 impl<W: Write> RealSink<W> {
@@ -109,11 +115,14 @@ pub struct RealFolder<R: Files> {
 }
 
 impl<R: Files> Model for RealFolder<R> {
+    ghost use Rattle.mh_io.specs.Faults.{IsCount};
     ghost use Rattle.mh_io.specs.Folder.{FolderCounts};
 
     ghost Value = { FolderCounts };
 
     ghost view = { λ f. record { find_faults = f.find_faults; read_faults = f.read_faults; due = f.due } };
+
+    ghost invariant = { λ f. IsCount f.find_faults × IsCount f.read_faults };
 }
 
 impl<R: Files> RealFolder<R> {

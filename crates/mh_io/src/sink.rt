@@ -1,5 +1,5 @@
 ghost use Rattle.std.specs.Prelude.{◌≡◌, ℕ, ◌<◌, ◌≤◌, List, Option, length, take, IfOk, OnErr};
-ghost use Rattle.mh_io.specs.Faults.{Rises};
+ghost use Rattle.mh_io.specs.Faults.{IsCount, Rises};
 ghost use Rattle.mh_io.specs.Told.{Appends};
 
 use crate::source::Failed;
@@ -20,6 +20,7 @@ pub trait Sink {
     /// `Failed` only where the count of faults rose in this call; then nothing went out.
     fn put(&mut self, bytes: &[u8]) -> Result<usize, Failed>
         ensures count { faults self.old ≤ faults self.new }
+        ensures counted { IsCount (faults self.new) }
 
         ensures within { IfOk result (λ n. n ≤ length bytes.now) }
         ensures advances { IfOk result (λ n. 0 < length bytes.now → 0 < n) }

@@ -1,6 +1,6 @@
 ghost use Rattle.std.specs.Prelude.{◌≡◌, ℕ, ◌<◌, ◌≤◌, List, Option, length, take, IfOk, OnErr};
 ghost use Rattle.std.specs.Io.KnownBytes.{IsAtEnd};
-ghost use Rattle.mh_io.specs.Faults.{Rises};
+ghost use Rattle.mh_io.specs.Faults.{IsCount, Rises};
 ghost use Rattle.mh_io.specs.Source.{Takes};
 
 /// A source or a sink failed at this call, and its count of faults rose.
@@ -29,6 +29,7 @@ pub trait Source: Drop {
     fn take(&mut self, buf: &mut [u8]) -> Result<usize, Failed>
         requires { 0 < length buf.old }
         ensures count { faults self.old ≤ faults self.new }
+        ensures counted { IsCount (faults self.new) }
         ensures name { name self.new ≡ name self.old }
 
         ensures within { IfOk result (λ n. n ≤ length buf.old) }
