@@ -32,7 +32,7 @@ weight_of _ p k = pos 0
 abbrev pub weight : Params → Key → ℤ
 weight p k = weight_of k.kind p k
 
--- a volatility sensitivity's volatility
+-- a volatility sensitivity's volatility: 0 as yet, since no such sensitivity is read
 abbrev pub sigma : Params → Key → ℤ
 sigma p k = pos 0
 
@@ -65,10 +65,10 @@ delta_rho_of _ p k l = pos 0
 abbrev pub delta_rho : Params → Key → Key → ℤ
 delta_rho p k l = if same_key k l then pos 1000000 else delta_rho_of k.kind p k l
 
--- the correlation of two buckets of a class, in millionths
+-- the correlation of two buckets of a class, in millionths: 0 of two different ones as yet, since each class that is read has one
 abbrev pub gamma : Params → RiskClass → BucketId → BucketId → ℤ
 gamma p class a b = if same_bucket a b then pos 1000000 else pos 0
 
--- the correlation of two risk classes
+-- the correlation of two risk classes, in ten-thousandths: 0 of two different ones as yet, since one class is read
 abbrev pub psi : Params → RiskClass → RiskClass → ℤ
 psi p a b = if same_class a b then pos 10000 else pos 0

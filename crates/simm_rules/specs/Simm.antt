@@ -23,7 +23,7 @@ products = product.RatesFX ∷ product.Credit ∷ product.Equity ∷ product.Com
 abbrev pub classes : List RiskClass
 classes = class.IR ∷ class.CreditQ ∷ class.CreditNonQ ∷ class.Equity ∷ class.Commodity ∷ class.FX ∷ []
 
--- the margin of a risk class in a product class
+-- the margin of a risk class in a product class: that of its delta sensitivities, since no others are read as yet
 abbrev pub class_margin : Params → List CrifRow → ProductClass → RiskClass → ℤ
 class_margin p rows product class = delta_margin p rows product class
 
