@@ -1,7 +1,7 @@
 ghost use Rattle.std.specs.Prelude.{◌≡◌};
 ghost use Rattle.simm_kinds.specs.Batch.{IsBatch, MakesBatch};
 
-use crate::batch_tests::first_fault;
+use crate::batch_faults::first_fault;
 use crate::{Listed, MakeFault, TradeRows};
 use std::alloc::Global;
 use std::marker::Model;

@@ -2,7 +2,7 @@
 #![tactic(auto)]
 
 mod batch;
-mod batch_tests;
+mod batch_faults;
 mod fault;
 mod key;
 mod kinds;

@@ -2,7 +2,7 @@ use Rattle.std.proofs.Common.{length, sym, arith}
 use Rattle.std.proofs.lemmas.Bool.{lt-ltb}
 use Rattle.simm_kinds.specs.Batch.{rows_of}
 use Rattle.simm_kinds.proofs.Rows.{length-flat_map_front}
-use Rattle.simm_kinds.proofs.batch_tests.has_too_many_rows.Goals as goal
+use Rattle.simm_kinds.proofs.batch_faults.has_too_many_rows.Goals as goal
 
 pub returns-then-more-count : goal.returns-then-more-count
 returns-then-more-count c =

@@ -1,6 +1,6 @@
 use Rattle.std.proofs.Common.{◌≡◌, map, take, ◌++◌}
 use Rattle.simm_kinds.specs.Batch.{single_params, params_in}
-use Rattle.simm_kinds.proofs.batch_tests.single_params.Given as goal
+use Rattle.simm_kinds.proofs.batch_faults.single_params.Given as goal
 
 abbrev pub invariant-loop-row : goal.invariant-loop-row
 invariant-loop-row l =

@@ -1,6 +1,6 @@
 use Rattle.std.proofs.Common.{◌≡◌, ◌≤◌, length, take}
 use Rattle.simm_kinds.specs.Batch.{rows_of}
-use Rattle.simm_kinds.proofs.batch_tests.has_too_many_rows.Given as goal
+use Rattle.simm_kinds.proofs.batch_faults.has_too_many_rows.Given as goal
 
 abbrev pub invariant-loop-trade : goal.invariant-loop-trade
 invariant-loop-trade l =

@@ -9,7 +9,7 @@ use Rattle.simm_kinds.specs.Repeats.{repeats}
 use Rattle.simm_kinds.specs.Batch.{single_params}
 use Rattle.simm_kinds.proofs.Orders.{derived_key_cmp, derived_keys}
 use Rattle.simm_kinds.proofs.Repeated.{repeats-map}
-use Rattle.simm_kinds.proofs.batch_tests.has_repeats.Goals as goal
+use Rattle.simm_kinds.proofs.batch_faults.has_repeats.Goals as goal
 
 names_repeat : (names refs : List (Bor Name)) → refs ≡ names → repeats (λ x y. is_eq (name_cmp x.now y.now)) refs ≡ repeats same_name (map (λ n. n.now) names)
 names_repeat names refs are = ap (repeats (λ x y. is_eq (name_cmp x.now y.now))) are ∙ repeats-map (λ n. n.now) same_name names
