@@ -19,7 +19,7 @@ pub use key::FactorKey;
 pub use kinds::{BucketId, Measure, ProductClass, RiskClass, RiskType, SubCurve, Tenor};
 pub use listed::Listed;
 pub use name::Name;
-pub use order_laws::{keys_are_exact, orders_are_defined};
+pub use order_laws::orders_are_defined;
 pub use row::{CrifRow, TradeRows};
 
 #[cfg(test)]
