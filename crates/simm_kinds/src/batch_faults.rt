@@ -55,7 +55,7 @@ fn has_repeats(alloc: Global, trades: &[TradeRows]) -> Result<bool, AllocError>
 fn names_of(alloc: Global, trades: &[TradeRows]) -> Result<Vec<&Name>, AllocError>
     ensures { IfOk result (λ names. map (λ n. n.now) names.items ≡ map (λ t. t.trade) trades.now) }
 {
-    let mut names = Vec::new(alloc);
+    let mut names = Vec::with_capacity(alloc, trades.len())?;
     for trade in trades {
         names.push(&trade.trade)?;
     }
