@@ -6,7 +6,7 @@ ghost use Rattle.simm_kinds.specs.Repeats.{repeats};
 ghost use Rattle.simm_kinds.specs.Batch.{rows_of, is_param, is_single_param, single_params, is_misplaced, is_amount_of, batch_fault};
 
 use crate::repeats::repeats;
-use crate::{CrifRow, FactorKey, MakeFault, Name, RiskType, TradeRows};
+use crate::{FactorKey, MakeFault, Name, RiskType, TradeRows};
 use std::alloc::{AllocError, Global};
 
 /// How many rows a batch has at most.
@@ -136,21 +136,21 @@ fn has_wrong_row(trade: &TradeRows) -> bool
 fn is_param(kind: RiskType) -> bool
     ensures { result ≡ is_param kind }
 {
-    match kind {
+    matches!(
+        kind,
         RiskType::AddOnNotionalFactor
-        | RiskType::AddOnFixedAmount
-        | RiskType::ProductClassMultiplier => true,
-        _ => false,
-    }
+            | RiskType::AddOnFixedAmount
+            | RiskType::ProductClassMultiplier
+    )
 }
 
 fn is_single_param(kind: RiskType) -> bool
     ensures { result ≡ is_single_param kind }
 {
-    match kind {
-        RiskType::AddOnNotionalFactor | RiskType::ProductClassMultiplier => true,
-        _ => false,
-    }
+    matches!(
+        kind,
+        RiskType::AddOnNotionalFactor | RiskType::ProductClassMultiplier
+    )
 }
 
 /// Whether an amount is in the range of its risk type.
@@ -158,8 +158,8 @@ fn is_amount_of(kind: RiskType, amount: i64) -> bool
     ensures { result ≡ is_amount_of kind amount }
 {
     match kind {
-        RiskType::ProductClassMultiplier => amount >= 10_000 && amount <= 100_000,
-        RiskType::AddOnNotionalFactor => amount >= 0 && amount <= 1_000_000,
+        RiskType::ProductClassMultiplier => (10_000..=100_000).contains(&amount),
+        RiskType::AddOnNotionalFactor => (0..=1_000_000).contains(&amount),
         RiskType::AddOnFixedAmount => amount >= 0 && amount.unsigned_abs() <= MOST_CENTS,
         _ => amount.unsigned_abs() <= MOST_CENTS,
     }

@@ -39,7 +39,7 @@ const LONGEST: usize = 64;
 fn is_printable(byte: u8) -> bool
     ensures { result ≡ is_printable byte }
 {
-    byte >= b' ' && byte != 0x7f
+    !byte.is_ascii_control()
 }
 
 fn are_printable(bytes: &[u8]) -> bool
@@ -52,10 +52,7 @@ fn are_printable(bytes: &[u8]) -> bool
 fn is_trimmed(bytes: &[u8]) -> bool
     ensures { result ≡ is_trimmed bytes.now }
 {
-    match bytes {
-        [] => true,
-        [first, ..] => *first != b' ' && bytes[bytes.len() - 1] != b' ',
-    }
+    bytes.first() != Some(&b' ') && bytes.last() != Some(&b' ')
 }
 
 fn is_utf8(bytes: &[u8]) -> bool

@@ -6,16 +6,10 @@ ghost use Rattle.simm_kinds.specs.Key.{is_single};
 
 use crate::{BucketId, Name, SubCurve, Tenor};
 
-fn is_upper(byte: u8) -> bool
-    ensures { result ≡ is_upper byte }
-{
-    byte >= b'A' && byte <= b'Z'
-}
-
 fn are_upper(bytes: &[u8]) -> bool
     ensures { result ≡ list_all is_upper bytes.now }
 {
-    bytes.iter().all(|b| is_upper(*b))
+    bytes.iter().all(u8::is_ascii_uppercase)
 }
 
 /// Whether the name is a currency: three letters in upper case.
@@ -29,10 +23,7 @@ fn is_currency(name: &Name) -> bool
 fn is_single(bucket: BucketId) -> bool
     ensures { result ≡ is_single bucket }
 {
-    match bucket {
-        BucketId::Single => true,
-        _ => false,
-    }
+    matches!(bucket, BucketId::Single)
 }
 
 /// A currency, and nothing else.
