@@ -51,15 +51,6 @@ pub fn mul_corr(a: Corr6, b: Corr6) -> Corr6
     ensures rule { IsTrunc (a.0 *ℤ b.0) (pos 1000000) result.0 }
     ensures size { unsigned_abs result.0 ≤ 1000000 }
 {
-    product(a, b)
-}
-
-fn product(a: Corr6, b: Corr6) -> Corr6
-    requires first { unsigned_abs a.0 ≤ 1000000 }
-    requires second { unsigned_abs b.0 ≤ 1000000 }
-    ensures value { result.0 ≡ trunc (a.0 *ℤ b.0) (pos 1000000) }
-    ensures size { unsigned_abs result.0 ≤ 1000000 }
-{
     Corr6(a.0 * b.0 / 1_000_000)
 }
 
