@@ -9,3 +9,8 @@ pub struct Rate4(pub i64);
 /// A figure in units of 1/1,000,000: a concentration, a correlation.
 #[derive(Clone, Copy, Debug, PartialEq, Eq, PartialOrd, Ord)]
 pub struct Corr6(pub i64);
+
+impl Corr6 {
+    /// A concentration or a correlation of 1.
+    pub const ONE: Corr6 = Corr6(1_000_000);
+}

@@ -51,7 +51,7 @@ pub fn mul_corr(a: Corr6, b: Corr6) -> Corr6
     ensures rule { IsTrunc (a.0 *ℤ b.0) (pos 1000000) result.0 }
     ensures size { unsigned_abs result.0 ≤ 1000000 }
 {
-    Corr6(a.0 * b.0 / 1_000_000)
+    Corr6(a.0 * b.0 / Corr6::ONE.0)
 }
 
 /// `x` held between `-k` and `k`, for `k >= 0`.
