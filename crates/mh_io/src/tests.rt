@@ -39,13 +39,19 @@ fn reads_a_source_whole(rt: HostRuntime) -> Result<(), Fail> {
     ];
     for (most, failing, faults) in cases {
         assert!(rt; most > 0);
-        let failing = vec![in rt.alloc(); failing]?;
-        let mut source = MemSource::new(rt.alloc(), bytes_of(rt.alloc(), text)?, most, failing);
-        match read_all(rt.alloc(), &mut source) {
-            Ok(bytes) => assert_eq!(rt; bytes.as_slice(), text.as_slice(), "at {most}"),
-            Err(fault) => assert_eq!(rt; fault, ReadAllFault::ReadFault, "at {most}"),
+        let bytes = bytes_of(rt.alloc(), text)?;
+        let mut source = MemSource::new(rt.alloc(), bytes, most, vec![in rt.alloc(); failing]?);
+        let read = read_all(rt.alloc(), &mut source);
+        if faults == 0 {
+            assert_eq!(rt; read?.as_slice(), text.as_slice(), "at {most}, {failing}");
+        } else {
+            assert_eq!(rt;
+                read.err(),
+                Some(ReadAllFault::ReadFault),
+                "at {most}, {failing}"
+            );
         }
-        assert_eq!(rt; source.faults(), faults, "at {most}");
+        assert_eq!(rt; source.faults(), faults, "at {most}, {failing}");
     }
     Ok(())
 }
@@ -88,7 +94,11 @@ fn reads_to_the_most_bytes(rt: HostRuntime) -> Result<(), Fail> {
     }
     // Of a source that never ends no byte too many is taken.
     let mut source = Zeros { left: usize::MAX };
-    assert!(rt; read_all(rt.alloc(), &mut source).is_err());
+    let read = read_all(rt.alloc(), &mut source);
+    assert_eq!(rt;
+        read.err(),
+        Some(ReadAllFault::TooLong { taken: 33_554_433 })
+    );
     assert_eq!(rt; source.left, usize::MAX - MOST_BYTES - 1);
     Ok(())
 }
