@@ -31,10 +31,6 @@ const WHOLE: [(&str, &str); 14] = [
     ),
 ];
 
-fn bytes_of(alloc: Global, bytes: &[u8]) -> Result<Bytes, AllocError> {
-    Ok(Bytes::from_vec(bytes.to_vec(alloc)?))
-}
-
 // The letter of a fault.
 fn letter(fault: LineFault) -> u8 {
     match fault {
@@ -81,7 +77,7 @@ fn gives_the_lines(rt: HostRuntime) -> Result<(), Fail> {
     for most in PIECES {
         assert!(rt; most > 0);
         for (input, wanted) in WHOLE {
-            let bytes = bytes_of(alloc, input.as_bytes())?;
+            let bytes = Bytes::from_slice(alloc, input.as_bytes())?;
             let source = MemSource::new(alloc, bytes, most, Vec::new(alloc));
             let all = all_told(alloc, source)?;
             assert_eq!(rt; all.as_slice(), wanted.as_bytes(), "{input:?} at {most}");
@@ -105,7 +101,7 @@ fn gives_the_lines_before_a_failure(rt: HostRuntime) -> Result<(), Fail> {
     let alloc = rt.alloc();
     for (call, wanted) in FAILING {
         let failing = vec![in alloc; call]?;
-        let source = MemSource::new(alloc, bytes_of(alloc, b"ab\nc\nd")?, 2, failing);
+        let source = MemSource::new(alloc, Bytes::from_slice(alloc, b"ab\nc\nd")?, 2, failing);
         let all = all_told(alloc, source)?;
         assert_eq!(rt; all.as_slice(), wanted.as_bytes(), "at {call}");
     }
@@ -210,11 +206,16 @@ fn hands_the_source_back(rt: HostRuntime) -> Result<(), Fail> {
 #[test]
 fn appends_a_line(rt: HostRuntime) -> Result<(), Fail> {
     let alloc = rt.alloc();
-    let source = MemSource::new(alloc, bytes_of(alloc, b"cd\r\n")?, 3, Vec::new(alloc));
+    let source = MemSource::new(
+        alloc,
+        Bytes::from_slice(alloc, b"cd\r\n")?,
+        3,
+        Vec::new(alloc),
+    );
     let Ok(mut lines) = lines_of(alloc, source) else {
         return Err(AllocError.into());
     };
-    let mut bytes = bytes_of(alloc, b"ab")?;
+    let mut bytes = Bytes::from_slice(alloc, b"ab")?;
     assert_eq!(rt; lines.append_line(&mut bytes), Ok(LineStep::Line));
     assert_eq!(rt; bytes.as_slice(), b"abcd".as_slice());
     assert_eq!(rt; lines.append_line(&mut bytes), Ok(LineStep::End));

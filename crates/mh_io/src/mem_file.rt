@@ -51,16 +51,9 @@ impl MemFile {
     pub(crate) fn open(&self, alloc: Global) -> Result<MemSource, AllocError>
         ensures { IfOk result (λ source. source ≡ opened self.now) }
     {
-        let name = copied(alloc, self.name.as_slice())?;
-        let bytes = copied(alloc, self.bytes.as_slice())?;
+        let name = Text::from_slice(alloc, self.name.as_slice())?;
+        let bytes = Bytes::from_slice(alloc, self.bytes.as_slice())?;
         let failing = Vec::from_slice(alloc, self.failing.as_slice())?;
         Ok(MemSource::named(name, bytes, self.most, failing))
     }
-}
-
-/// A copy of these bytes.
-pub(crate) fn copied(alloc: Global, bytes: &[u8]) -> Result<Bytes, AllocError>
-    ensures { IfOk result (λ copy. copy ≡ bytes.now) }
-{
-    Ok(Bytes::from_vec(Vec::from_slice(alloc, bytes)?))
 }

@@ -6,7 +6,7 @@ ghost use Rattle.mh_io.specs.Memory.{uncalled, with_file, files_but, telling, op
 
 use crate::calls::Calls;
 use crate::folder::{FindRefused, Folder};
-use crate::mem_file::{MemFile, copied};
+use crate::mem_file::MemFile;
 use crate::mem_source::MemSource;
 use mh_units::{Bytes, Text};
 use std::alloc::{AllocError, Global};
@@ -80,7 +80,8 @@ impl MemFolder {
         ensures err { OnErr result (self.new ≡ self.old) }
     {
         // What wants memory comes first, so that nothing has changed where there is none.
-        let file = MemFile::new(copied(alloc, name.as_bytes())?, bytes, most, failing);
+        let kept_name = Text::from_slice(alloc, name.as_bytes())?;
+        let file = MemFile::new(kept_name, bytes, most, failing);
         self.files.reserve(1)?;
         drop_named(&mut self.files, name);
         match self.files.insert(0, file) {
@@ -145,7 +146,7 @@ impl Folder for MemFolder {
     {
         // What wants memory comes first, so that nothing has changed where there is none.
         let found = self.open(alloc, name)?;
-        let asked = copied(alloc, name.as_bytes())?;
+        let asked = Text::from_slice(alloc, name.as_bytes())?;
         self.reads.reserve(self.due + 1)?;
         self.asked.push(asked).map_err(AllocError::from)?;
         if self.calls.next_fails() {

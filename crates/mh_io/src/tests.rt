@@ -10,10 +10,6 @@ use std::alloc::{AllocError, Global};
 use std::fs;
 use std::test::Fail;
 
-fn bytes_of(alloc: Global, bytes: &[u8]) -> Result<Bytes, AllocError> {
-    Ok(Bytes::from_vec(bytes.to_vec(alloc)?))
-}
-
 // Ten bytes come in pieces, and the call after the last of them is the end of input.
 #[test]
 fn reads_a_source_whole(rt: HostRuntime) -> Result<(), Fail> {
@@ -39,7 +35,7 @@ fn reads_a_source_whole(rt: HostRuntime) -> Result<(), Fail> {
     ];
     for (most, failing, faults) in cases {
         assert!(rt; most > 0);
-        let bytes = bytes_of(rt.alloc(), text)?;
+        let bytes = Bytes::from_slice(rt.alloc(), text)?;
         let mut source = MemSource::new(rt.alloc(), bytes, most, vec![in rt.alloc(); failing]?);
         let read = read_all(rt.alloc(), &mut source);
         if faults == 0 {
@@ -162,15 +158,12 @@ fn outcome(read: &Result<Result<Bytes, ReadAllFault>, FindRefused>) -> &[u8] {
 fn finds_files_over_memory(rt: HostRuntime) -> Result<(), Fail> {
     let alloc = rt.alloc();
     let mut folder = MemFolder::new(vec![in alloc; 3]?);
-    folder.add(alloc, "a.csv", bytes_of(alloc, b"old")?, 1, Vec::new(alloc))?;
-    folder.add(
-        alloc,
-        "b.csv",
-        bytes_of(alloc, b"two")?,
-        2,
-        vec![in alloc; 2]?,
-    )?;
-    folder.add(alloc, "a.csv", bytes_of(alloc, b"new")?, 1, Vec::new(alloc))?;
+    let old = Bytes::from_slice(alloc, b"old")?;
+    let two = Bytes::from_slice(alloc, b"two")?;
+    let new = Bytes::from_slice(alloc, b"new")?;
+    folder.add(alloc, "a.csv", old, 1, Vec::new(alloc))?;
+    folder.add(alloc, "b.csv", two, 2, vec![in alloc; 2]?)?;
+    folder.add(alloc, "a.csv", new, 1, Vec::new(alloc))?;
     let wanted = [
         ("a.csv", "new"),
         ("b.csv", "not read"),
@@ -204,8 +197,8 @@ fn added_twice(
 #[test]
 fn a_file_added_twice_has_the_later_bytes(rt: HostRuntime) -> Result<(), Fail> {
     let alloc = rt.alloc();
-    let early = bytes_of(alloc, b"early")?;
-    let late = bytes_of(alloc, b"late")?;
+    let early = Bytes::from_slice(alloc, b"early")?;
+    let late = Bytes::from_slice(alloc, b"late")?;
     let mut folder = added_twice(alloc, "a.csv", early, late)?;
     let read = read_file(alloc, &mut folder, "a.csv");
     assert_eq!(rt; outcome(&read), b"late".as_slice());
