@@ -84,10 +84,8 @@ impl MemFolder {
         let file = MemFile::new(kept_name, bytes, most, failing);
         self.files.reserve(1)?;
         drop_named(&mut self.files, name);
-        match self.files.insert(0, file) {
-            Ok(()) => Ok(()),
-            Err(_) => unreachable!(),
-        }
+        self.files.insert(0, file).unwrap();
+        Ok(())
     }
 
     /// A source of the file of this name, if there is one.
@@ -179,9 +177,6 @@ impl Folder for MemFolder {
     {
         self.read_faults = self.read_faults.saturating_add(source.faults());
         self.due -= 1;
-        match self.reads.push(source) {
-            Ok(()) => {}
-            Err(_) => unreachable!(),
-        }
+        self.reads.push(source).unwrap();
     }
 }

@@ -96,9 +96,7 @@ impl Sink for MemSink {
             self.calls.count_fault();
             return Err(Failed);
         }
-        match self.held.extend_from_slice(&bytes[..taken]) {
-            Ok(()) => Ok(taken),
-            Err(_) => unreachable!(),
-        }
+        self.held.extend_from_slice(&bytes[..taken]).unwrap();
+        Ok(taken)
     }
 }
