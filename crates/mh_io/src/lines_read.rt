@@ -42,16 +42,16 @@ pub fn lines_of<S: Source>(alloc: Global, source: S) -> Result<Lines<S>, MemoryB
     ensures ok { IfOk result (λ lines. lines ≡ record { source = source; pending = []; passed = 0; given = 0; supply = Supply.Open }) }
     ensures memory { IfErr result (λ memory. memory.back ≡ source) }
 {
-    match Window::new(alloc) {
-        Ok(window) => Ok(Lines {
-            source,
-            window,
-            passed: 0,
-            given: 0,
-            supply: Supply::Open,
-        }),
-        Err(_) => Err(MemoryBack { back: source }),
-    }
+    let Ok(window) = Window::new(alloc) else {
+        return Err(MemoryBack { back: source });
+    };
+    Ok(Lines {
+        source,
+        window,
+        passed: 0,
+        given: 0,
+        supply: Supply::Open,
+    })
 }
 
 /// The place of the first LF.
@@ -126,10 +126,8 @@ impl<S: Source> Lines<S> {
     {
         let mut looked = 0;
         loop {
-            match self.look(looked) {
-                Ok(None) => {}
-                Ok(Some(front)) => return Ok(front),
-                Err(fault) => return Err(fault),
+            if let Some(front) = self.look(looked)? {
+                return Ok(front);
             }
             looked = self.window.bytes().len();
             self.refill();
@@ -244,13 +242,6 @@ impl<S: Source> Lines<S> {
     pub fn give_back(self) -> S
         ensures { result ≡ self.source }
     {
-        let Lines {
-            source,
-            window: _,
-            passed: _,
-            given: _,
-            supply: _,
-        } = self;
-        source
+        self.source
     }
 }

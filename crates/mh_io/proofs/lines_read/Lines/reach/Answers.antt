@@ -18,8 +18,8 @@ pub loop-front-preserved : goal.loop-front-preserved
 loop-front-preserved g c =
     let held = c.loop-front.self in
     let bytes = c.bytes-looked.result.now in
-    let part = (rw c.in-Ok-None.field-0-is at c.in-Ok-None.ensures.shows).0 in
-    let is_open = (rw c.in-Ok-None.field-0-is at c.in-Ok-None.ensures.shows).1 in
+    let part = (rw c.in_default.is at c.in_ok-front.ensures.shows).0 in
+    let is_open = (rw c.in_default.is at c.in_ok-front.ensures.shows).1 in
     let more = c.refill.ensures.took in
     let pending : bytes ≡ held.pending = c.bytes-looked.ensures.value ∙ ap (λ h. h.pending) c.self.view_is in
     let front : take (length bytes) c.refill.new.self.pending ≡ held.pending = rw (pending, more.pending) (take-append_seam held.pending more.taken) in
