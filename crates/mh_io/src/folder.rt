@@ -30,6 +30,7 @@ impl From<AllocError> for FindRefused {
 /// A folder counts its faults at finds and those of the sources that came back, each at most to 2^64 - 1. It may tell
 /// its files, the names that it was asked for, and what was read.
 pub trait Folder {
+    /// What a find gives.
     type Src: Source + Send;
 
     // The faults that it met at finds. It never falls, and stays at 2^64 - 1 once it is there.

@@ -42,6 +42,7 @@ fn move_to_front(bytes: &mut Vec<u8>, start: usize, end: usize)
 }
 
 impl Window {
+    /// An empty window. The only error is want of memory.
     pub(crate) fn new(alloc: Global) -> Result<Window, AllocError>
         ensures { IfOk result (λ window. window ≡ []) }
     {
@@ -69,8 +70,8 @@ impl Window {
         self.start += count;
     }
 
-    /// Takes the next bytes of a source, at most so many, and adds them. No byte is moved twice before it is given where
-    /// each line is left off before more is taken.
+    /// Takes the next bytes of a source, at most so many, and adds them. The bytes that wait are moved to the front
+    /// first; none is moved twice where each whole line is left off before more is taken.
     pub(crate) fn fill<S: Source>(&mut self, source: &mut S, most: usize) -> Result<usize, Failed>
         requires some { 0 < most }
         requires room { length self.old < LINE_BYTES }

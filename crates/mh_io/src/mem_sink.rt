@@ -36,7 +36,7 @@ impl Model for MemSink {
 
 impl MemSink {
     /// An empty sink with room for so many bytes, that takes at most `most` of them at one call. `failing` holds the
-    /// numbers of the calls that are to fail; the first call is number 1.
+    /// numbers of the calls that are to fail; the first call is number 1. The only error is want of memory.
     pub fn new(
         alloc: Global,
         room: usize,

@@ -7,6 +7,7 @@ use itoa::Buffer;
 use std::alloc::{AllocError, Global};
 
 /// Writes the cents as an amount of money: an optional minus, whole units, a point and two digits, as in `-1.00`.
+/// The only error is want of memory.
 pub fn write_cents(alloc: Global, c: Cents) -> Result<Text, AllocError>
     ensures { IfOk result (λ text. text ≡ money_text c.0) }
 {
@@ -15,7 +16,8 @@ pub fn write_cents(alloc: Global, c: Cents) -> Result<Text, AllocError>
     Ok(text)
 }
 
-/// Adds the cents to a text, as `write_cents` writes them. For want of memory a front of them may have been added.
+/// Adds the cents to a text, as `write_cents` writes them. The only error is want of memory; a front of them may have been added
+/// then.
 #[tactic(auto, unfolding(crate::specs::Money::money_text))]
 pub fn push_cents(text: &mut Text, c: Cents) -> Result<(), AllocError>
     ensures { OnOk result (text.new ≡ text.old ++ money_text c.0) }

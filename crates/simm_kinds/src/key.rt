@@ -66,7 +66,7 @@ impl FactorKey {
         }
     }
 
-    /// An equal key.
+    /// An equal key. The only error is want of memory.
     pub fn copy(&self, alloc: Global) -> Result<FactorKey, AllocError>
         ensures { IfOk result (λ copy. copy ≡ self.now) }
     {

@@ -27,7 +27,7 @@ impl<T> Listed<T> {
         }
     }
 
-    /// An empty list with room for so many items.
+    /// An empty list with room for so many items. The only error is want of memory.
     pub fn with_capacity(alloc: Global, capacity: usize) -> Result<Self, AllocError>
         ensures { IfOk result (λ list. list ≡ []) }
     {
@@ -56,6 +56,7 @@ impl<T> Listed<T> {
         self.items.len()
     }
 
+    /// Whether there are no items.
     pub fn is_empty(&self) -> bool
         ensures { result ≡ nat_eq (length self.now) 0 }
     {

@@ -98,7 +98,7 @@ impl Name {
         }
     }
 
-    /// The name of these bytes, which the caller knows to be one.
+    /// The name of these bytes, which the caller knows to be one. The only error is want of memory.
     pub fn of_bytes(alloc: Global, bytes: &[u8]) -> Result<Name, AllocError>
         requires { IsName bytes.now }
         ensures { IfOk result (λ name. name ≡ bytes.now) }
@@ -116,7 +116,7 @@ impl Name {
         }
     }
 
-    /// An equal name.
+    /// An equal name. The only error is want of memory.
     pub fn copy(&self, alloc: Global) -> Result<Name, AllocError>
         ensures { IfOk result (λ copy. copy ≡ self.now) }
     {

@@ -19,7 +19,7 @@ pub struct TradeRows {
 }
 
 impl CrifRow {
-    /// An equal row.
+    /// An equal row. The only error is want of memory.
     pub fn copy(&self, alloc: Global) -> Result<CrifRow, AllocError>
         ensures { IfOk result (λ copy. copy ≡ self.now) }
     {
@@ -32,7 +32,7 @@ impl CrifRow {
 }
 
 impl TradeRows {
-    /// An equal trade.
+    /// An equal trade. The only error is want of memory.
     pub fn copy(&self, alloc: Global) -> Result<TradeRows, AllocError>
         ensures { IfOk result (λ copy. copy ≡ self.now) }
     {
