@@ -1,4 +1,4 @@
-ghost use Rattle.std.specs.Prelude.{◌≡◌, ℕ, ◌+◌, ◌-◌, ◌<◌, ◌≤◌, [], ◌∷◌, ◌++◌, take, drop, length, position, Ok, IfOk, IfErr, OnOk, OnErr};
+ghost use Rattle.std.specs.Prelude.{◌≡◌, ℕ, ◌+◌, ◌-◌, ◌<◌, ◌≤◌, [], ◌++◌, take, drop, length, position, Ok, IfOk, IfErr, OnOk, OnErr};
 ghost use Rattle.mh_io.specs.Lines.{Stop, is_lf, without_cr};
 ghost use Rattle.mh_io.specs.Lined.{Lined, Gave, IsStopped, ComesWhere, IsLineOnly, lines_given, answer_at};
 ghost use Rattle.mh_io.specs.LinesSteps.{HasNoLf, BeginsLine, IsPart, Shows, Reached, TookMore, turns_left, past};

@@ -1,4 +1,4 @@
-ghost use Rattle.std.specs.Prelude.{◌≡◌, ℕ, ◌-◌, ◌<◌, ◌≤◌, [], Some, length, take, min, IfOk, OnErr, is_err, if◌then◌else◌};
+ghost use Rattle.std.specs.Prelude.{◌≡◌, ◌-◌, ◌<◌, ◌≤◌, [], Some, length, take, min, IfOk, OnErr, is_err, if◌then◌else◌};
 ghost use Rattle.mh_io.specs.Faults.{IsCount, Rises};
 ghost use Rattle.mh_io.specs.Told.{Appends};
 ghost use Rattle.mh_io.specs.Memory.{MemorySink, uncalled, put_fails, with_call, with_fault};

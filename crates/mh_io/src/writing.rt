@@ -1,4 +1,4 @@
-ghost use Rattle.std.specs.Prelude.{◌≡◌, ℕ, ◌+◌, ◌-◌, ◌<◌, ◌≤◌, length, take, IfErr, OnOk, OnErr};
+ghost use Rattle.std.specs.Prelude.{◌≤◌, IfErr, OnOk, OnErr};
 ghost use Rattle.mh_io.specs.Faults.{Rises};
 ghost use Rattle.mh_io.specs.Told.{Appends};
 ghost use Rattle.mh_io.specs.Sink.{BreaksOff};

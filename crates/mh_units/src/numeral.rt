@@ -1,4 +1,4 @@
-ghost use Rattle.std.specs.Prelude.{◌≡◌, true, ◌^◌, ◌<◌, ◌≤◌, ◌≤ℤ◌, length, unsigned_abs, IfOk, IfSome, MatchOption};
+ghost use Rattle.std.specs.Prelude.{◌≡◌, true, ◌^◌, ◌<◌, ◌≤◌, length, unsigned_abs, IfOk, IfSome, MatchOption};
 ghost use Rattle.mh_units.specs.Scan.{is_numeral};
 ghost use Rattle.mh_units.specs.Numeral.{fault_number, number_of, cents_of, rate4_of, fixed_of, with_sign, IsAnswer, IsRounded, IsFixed, IsExact};
 
