@@ -17,39 +17,22 @@ use toml::{Table, Value};
 fn text(value: Option<&Value>) -> Result<&str, ValueFault>
     ensures { Tells (λ s. s.now) result (text_of (option_map (λ v. view v.now) value.entry)) }
 {
-    let Some(value) = value else {
-        return Err(ValueFault::Missing);
-    };
-    match value.as_str() {
-        Some(text) => Ok(text),
-        None => Err(ValueFault::Missing),
-    }
+    value.and_then(Value::as_str).ok_or(ValueFault::Missing)
 }
 
 /// The places of an array.
 pub fn array(value: Option<&Value>) -> Result<&[Value], ValueFault>
     ensures { Tells (λ a. items_view a.now) result (array_of (option_map (λ v. view v.now) value.entry)) }
 {
-    let Some(value) = value else {
-        return Err(ValueFault::Missing);
-    };
-    match value.as_array() {
-        Some(array) => Ok(array.as_slice()),
-        None => Err(ValueFault::Missing),
-    }
+    let array = value.and_then(Value::as_array).ok_or(ValueFault::Missing)?;
+    Ok(array.as_slice())
 }
 
 /// A table.
 pub fn table(value: Option<&Value>) -> Result<&Table, ValueFault>
     ensures { Tells (λ t. table_view t.now) result (table_of (option_map (λ v. view v.now) value.entry)) }
 {
-    let Some(value) = value else {
-        return Err(ValueFault::Missing);
-    };
-    match value.as_table() {
-        Some(table) => Ok(table),
-        None => Err(ValueFault::Missing),
-    }
+    value.and_then(Value::as_table).ok_or(ValueFault::Missing)
 }
 
 /// A name, which may be empty.
@@ -83,9 +66,7 @@ pub fn money(range: Range, value: Option<&Value>) -> Result<Cents, ValueFault>
     ensures within { IfOk result (λ c. IsWithin range c.0) }
 {
     let text = text(value)?;
-    let Ok(cents) = read_cents(text.as_bytes()) else {
-        return Err(ValueFault::BadNumber);
-    };
+    let cents = read_cents(text.as_bytes()).map_err(|_| ValueFault::BadNumber)?;
     if !range.has(cents.0) {
         return Err(ValueFault::OutOfRange(cents.0));
     }
@@ -99,9 +80,7 @@ pub fn rate(range: Range, value: Option<&Value>) -> Result<Rate4, ValueFault>
     ensures within { IfOk result (λ r. IsWithin range r.0) }
 {
     let text = text(value)?;
-    let Some(rate) = read_fixed(text.as_bytes(), 4) else {
-        return Err(ValueFault::BadNumber);
-    };
+    let rate = read_fixed(text.as_bytes(), 4).ok_or(ValueFault::BadNumber)?;
     let number = i128::from(rate);
     if !range.has(number) {
         return Err(ValueFault::OutOfRange(number));
@@ -116,10 +95,7 @@ pub fn minute(value: Option<&Value>) -> Result<u16, ValueFault>
     ensures within { IfOk result (λ n. n < 1440) }
 {
     let text = text(value)?;
-    match minute_in(text.as_bytes()) {
-        Some(minute) => Ok(minute),
-        None => Err(ValueFault::BadDate),
-    }
+    minute_in(text.as_bytes()).ok_or(ValueFault::BadDate)
 }
 
 /// A date `YYYY-MM-DD`, as a day counted from 1970-01-01.
@@ -129,8 +105,5 @@ pub fn date(value: Option<&Value>) -> Result<i32, ValueFault>
     ensures calendar { IfOk result IsCalendarDay }
 {
     let text = text(value)?;
-    match date_in(text.as_bytes()) {
-        Some(day) => Ok(day),
-        None => Err(ValueFault::BadDate),
-    }
+    date_in(text.as_bytes()).ok_or(ValueFault::BadDate)
 }

@@ -16,30 +16,22 @@ use toml::{Table, Value};
 pub fn value_at<'a>(table: &'a Table, key: &str) -> Result<&'a Value, ParamFault>
     ensures { Gives (λ v. view v.now) result (get_member key.now (table_view table.now)) }
 {
-    match table.get(key) {
-        Some(value) => Ok(value),
-        None => Err(ParamFault::Refused),
-    }
+    table.get(key).ok_or(ParamFault::Refused)
 }
 
 /// The table at a key of a table.
 pub fn table_at<'a>(table: &'a Table, key: &str) -> Result<&'a Table, ParamFault>
     ensures { Gives (λ t. table_view t.now) result (table_at key.now (table_view table.now)) }
 {
-    match value_at(table, key)?.as_table() {
-        Some(table) => Ok(table),
-        None => Err(ParamFault::Refused),
-    }
+    value_at(table, key)?.as_table().ok_or(ParamFault::Refused)
 }
 
 /// The array at a key of a table.
 pub fn array_at<'a>(table: &'a Table, key: &str) -> Result<&'a [Value], ParamFault>
     ensures { Gives (λ a. items_view a.now) result (array_at key.now (table_view table.now)) }
 {
-    match value_at(table, key)?.as_array() {
-        Some(array) => Ok(array.as_slice()),
-        None => Err(ParamFault::Refused),
-    }
+    let array = value_at(table, key)?.as_array().ok_or(ParamFault::Refused)?;
+    Ok(array.as_slice())
 }
 
 /// The array at a key of a table, which has to have `count` places.
@@ -59,20 +51,14 @@ pub fn places_at<'a>(count: usize, key: &str, table: &'a Table) -> Result<&'a [V
 fn place_at(array: &[Value], place: usize) -> Result<&Value, ParamFault>
     ensures { Gives (λ v. view v.now) result (get_item place (items_view array.now)) }
 {
-    match array.get(place) {
-        Some(value) => Ok(value),
-        None => Err(ParamFault::Refused),
-    }
+    array.get(place).ok_or(ParamFault::Refused)
 }
 
 /// The text of a value.
 fn text(value: &Value) -> Result<&str, ParamFault>
     ensures { Gives (λ s. s.now) result (as_str (view value.now)) }
 {
-    match value.as_str() {
-        Some(text) => Ok(text),
-        None => Err(ParamFault::Refused),
-    }
+    value.as_str().ok_or(ParamFault::Refused)
 }
 
 /// A currency.
@@ -81,10 +67,7 @@ pub fn currency(value: &Value) -> Result<Currency, ParamFault>
     ensures { Gives (λ c. c) result (currency_of (view value.now)) }
 {
     let text = text(value)?;
-    match Currency::read(text.as_bytes()) {
-        Some(currency) => Ok(currency),
-        None => Err(ParamFault::Refused),
-    }
+    Currency::read(text.as_bytes()).ok_or(ParamFault::Refused)
 }
 
 /// A currency at each place; one may stand twice.

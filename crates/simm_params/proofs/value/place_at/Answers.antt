@@ -1,13 +1,9 @@
-use Rattle.std.proofs.Common.{sym}
+use Rattle.toml.specs.View.{view}
 use Rattle.simm_params.proofs.Places.{get_item-found}
+use Rattle.simm_params.proofs.Steps.{Gives-ok_or}
 use Rattle.simm_params.proofs.value.place_at.Goals as goal
 
-pub returns-in-Some : goal.returns-in-Some
-returns-in-Some c =
+pub returns : goal.returns
+returns c =
     let found = get_item-found c.args.array.now c.args.place c.get.result c.get.ensures.lookup in
-    sym (rw c.in-Some.is at found)
-
-pub returns-in-None : goal.returns-in-None
-returns-in-None c =
-    let found = get_item-found c.args.array.now c.args.place c.get.result c.get.ensures.lookup in
-    sym (rw c.in-None.is at found)
+    rw c.ok_or.ensures.value (Gives-ok_or (λ v. view v.now) c.get.result _ found)

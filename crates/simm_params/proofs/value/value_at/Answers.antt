@@ -1,13 +1,9 @@
-use Rattle.std.proofs.Common.{sym}
+use Rattle.toml.specs.View.{view}
 use Rattle.toml.proofs.Views.{table_get}
+use Rattle.simm_params.proofs.Steps.{Gives-ok_or}
 use Rattle.simm_params.proofs.value.value_at.Goals as goal
 
-pub returns-in-Some : goal.returns-in-Some
-returns-in-Some c =
+pub returns : goal.returns
+returns c =
     let found = table_get c.get.result c.args.key.now c.args.table.now.entries c.get.ensures.value in
-    sym (rw c.in-Some.is at found)
-
-pub returns-in-None : goal.returns-in-None
-returns-in-None c =
-    let found = table_get c.get.result c.args.key.now c.args.table.now.entries c.get.ensures.value in
-    sym (rw c.in-None.is at found)
+    rw c.ok_or.ensures.value (Gives-ok_or (λ v. view v.now) c.get.result _ found)
