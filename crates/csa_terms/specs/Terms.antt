@@ -1,7 +1,7 @@
 -- The terms of an agreement for collateral, by which a netting set's calls are reckoned.
 -- (ISDA 2016 Credit Support Annex for Initial Margin: threshold, minimum transfer amount, rounding, notification time,
 -- valuation percentages, FX haircut percentage, local business days.)
-use Rattle.std.specs.Prelude.{◌^◌, ◌<◌, ◌≤◌, ℕ, List, [], ◌∷◌, length, map, Bool, Option, Some, None, ℤ, pos, neg_ℤ, ◌≤ℤ◌, if◌then◌else◌}
+use Rattle.std.specs.Prelude.{◌<◌, ◌≤◌, ℕ, List, [], ◌∷◌, length, map, Bool, Option, Some, None, ℤ, pos, neg_ℤ, ◌≤ℤ◌, if◌then◌else◌}
 use Rattle.std.specs.Ordering.{int_eq}
 use Rattle.std.specs.List.{AllByRecursion, IsDistinct, list_any}
 use Rattle.simm_kinds.specs.NameText.{IsName}
