@@ -4,6 +4,7 @@ pub mod SetView
 pub mod Calendar
 pub mod Ranges
 pub mod Faults
+pub mod Paths
 pub mod Dates
 pub mod Values
 pub mod Grammar

@@ -9,7 +9,7 @@ ghost use Rattle.csa_terms.specs.Grammar.{members_count, haircut_of_entry, hairc
 use crate::fault::TermsFault;
 use crate::haircut_table::HaircutTable;
 use crate::keyed::{at_most, entry_count, table_at};
-use crate::path::haircut_path;
+use crate::path::{Path, at_path};
 use crate::range::SHARE;
 use crate::value::{name, rate};
 use mh_units::Rate4;
@@ -31,20 +31,14 @@ fn class_of(alloc: Global, set: usize, class: &str) -> Result<Name, TermsFault>
     ensures value { Gives (λ n. n) result (at (part_path set (codes "haircuts") class.now) (name_of class.now)) }
     ensures same { IfOk result (λ n. n ≡ class.now) }
 {
-    match name(alloc, class) {
-        Ok(name) => Ok(name),
-        Err(fault) => Err(fault.at(haircut_path(alloc, set, class)?)),
-    }
+    at_path(alloc, Path::Haircut(set, class), name(alloc, class))
 }
 
 fn rate_of(alloc: Global, set: usize, class: &str, value: &Value) -> Result<Rate4, TermsFault>
     ensures value { Gives (λ r. r.0) result (at (part_path set (codes "haircuts") class.now) (rate_of shares (Some (view value.now)))) }
     ensures share { IfOk result (λ r. IsShare r.0) }
 {
-    match rate(SHARE, Some(value)) {
-        Ok(rate) => Ok(rate),
-        Err(fault) => Err(fault.at(haircut_path(alloc, set, class)?)),
-    }
+    at_path(alloc, Path::Haircut(set, class), rate(SHARE, Some(value)))
 }
 
 #[tactic(auto, unfolding(crate::specs::Grammar::haircut_of_entry))]

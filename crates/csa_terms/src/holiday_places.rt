@@ -8,7 +8,7 @@ ghost use Rattle.csa_terms.specs.Grammar.{items_count, holidays_of, holiday_list
 use crate::fault::TermsFault;
 use crate::holiday_list::HolidayList;
 use crate::keyed::{array_at, at_most, place_count};
-use crate::path::holiday_path;
+use crate::path::{Path, at_path};
 use crate::value::date;
 use std::alloc::Global;
 use toml::{Table, Value};
@@ -21,10 +21,7 @@ fn read_place(alloc: Global, set: usize, place: usize, value: &Value) -> Result<
     ensures value { Gives (λ d. d) result (at (part_path set (codes "holidays") (decimal place)) (date_of (Some (view value.now)))) }
     ensures calendar { IfOk result IsCalendarDay }
 {
-    match date(Some(value)) {
-        Ok(day) => Ok(day),
-        Err(fault) => Err(fault.at(holiday_path(alloc, set, place)?)),
-    }
+    at_path(alloc, Path::Holiday(set, place), date(Some(value)))
 }
 
 /// The holidays of an array's places.

@@ -7,7 +7,7 @@ ghost use Rattle.csa_terms.specs.Values.{array_of, table_of, set_name_of, rate_o
 ghost use Rattle.csa_terms.specs.Grammar.{members_count, items_count, at_most, money_at};
 
 use crate::fault::TermsFault;
-use crate::path::key_path;
+use crate::path::{Path, at_path};
 use crate::range::{Range, SHARE};
 use crate::value::{array, minute, money, rate, set_name, table};
 use mh_units::{Cents, Rate4};
@@ -41,10 +41,11 @@ pub fn name_at(alloc: Global, set: usize, key: &str, terms: &Table) -> Result<Na
     ensures value { Gives (λ n. n) result (at (key_path set key.now) (set_name_of (get_member key.now (table_view terms.now)))) }
     ensures named { IfOk result (λ n. 0 < length n) }
 {
-    match set_name(alloc, member(terms, key)) {
-        Ok(name) => Ok(name),
-        Err(fault) => Err(fault.at(key_path(alloc, set, key)?)),
-    }
+    at_path(
+        alloc,
+        Path::Key(set, key),
+        set_name(alloc, member(terms, key)),
+    )
 }
 
 /// An amount of money in the range, at a set's key.
@@ -58,10 +59,7 @@ pub fn money_at(
     ensures value { Gives (λ c. c.0) result (money_at set key.now (table_view terms.now) range) }
     ensures within { IfOk result (λ c. IsWithin range c.0) }
 {
-    match money(range, member(terms, key)) {
-        Ok(cents) => Ok(cents),
-        Err(fault) => Err(fault.at(key_path(alloc, set, key)?)),
-    }
+    at_path(alloc, Path::Key(set, key), money(range, member(terms, key)))
 }
 
 /// A rate from 0 to 1, at a set's key.
@@ -69,10 +67,7 @@ pub fn share_at(alloc: Global, set: usize, key: &str, terms: &Table) -> Result<R
     ensures value { Gives (λ r. r.0) result (at (key_path set key.now) (rate_of shares (get_member key.now (table_view terms.now)))) }
     ensures within { IfOk result (λ r. IsWithin shares r.0) }
 {
-    match rate(SHARE, member(terms, key)) {
-        Ok(rate) => Ok(rate),
-        Err(fault) => Err(fault.at(key_path(alloc, set, key)?)),
-    }
+    at_path(alloc, Path::Key(set, key), rate(SHARE, member(terms, key)))
 }
 
 /// A time of day, in minutes from midnight, at a set's key.
@@ -80,10 +75,7 @@ pub fn minute_at(alloc: Global, set: usize, key: &str, terms: &Table) -> Result<
     ensures value { Gives (λ n. n) result (at (key_path set key.now) (minute_of (get_member key.now (table_view terms.now)))) }
     ensures within { IfOk result (λ n. n < 1440) }
 {
-    match minute(member(terms, key)) {
-        Ok(minute) => Ok(minute),
-        Err(fault) => Err(fault.at(key_path(alloc, set, key)?)),
-    }
+    at_path(alloc, Path::Key(set, key), minute(member(terms, key)))
 }
 
 /// The places of an array, at a set's key.
@@ -95,10 +87,7 @@ pub fn array_at<'a>(
 ) -> Result<&'a [Value], TermsFault>
     ensures { Gives (λ a. items_view a.now) result (at (key_path set key.now) (array_of (get_member key.now (table_view terms.now)))) }
 {
-    match array(member(terms, key)) {
-        Ok(places) => Ok(places),
-        Err(fault) => Err(fault.at(key_path(alloc, set, key)?)),
-    }
+    at_path(alloc, Path::Key(set, key), array(member(terms, key)))
 }
 
 /// A table, at a set's key.
@@ -110,10 +99,7 @@ pub fn table_at<'a>(
 ) -> Result<&'a Table, TermsFault>
     ensures { Gives (λ t. table_view t.now) result (at (key_path set key.now) (table_of (get_member key.now (table_view terms.now)))) }
 {
-    match table(member(terms, key)) {
-        Ok(table) => Ok(table),
-        Err(fault) => Err(fault.at(key_path(alloc, set, key)?)),
-    }
+    at_path(alloc, Path::Key(set, key), table(member(terms, key)))
 }
 
 /// Refuses more than the most entries or places at a set's key, with their count.
@@ -128,7 +114,7 @@ pub fn at_most(
     ensures few { OnOk result (count ≤ most) }
 {
     if most < count {
-        return Err(TermsFault::OutOfRange(key_path(alloc, set, key)?, count as i128));
+        return Err(TermsFault::OutOfRange(Path::Key(set, key).text(alloc)?, count as i128));
     }
     Ok(())
 }

@@ -1,69 +1,60 @@
-ghost use Rattle.std.specs.Prelude.{◌≡◌, IfOk, string_bytes, decimal, codes};
-ghost use Rattle.csa_terms.specs.Faults.{set_path, key_path, part_path};
+ghost use Rattle.std.specs.Prelude.{◌≡◌, Ok, IfOk, string_bytes};
+ghost use Rattle.csa_terms.specs.Faults.{at, Gives};
+ghost use Rattle.csa_terms.specs.Paths.{path_text};
 
+use crate::fault::TermsFault;
+use crate::value_fault::ValueFault;
 use mh_units::Text;
 use std::alloc::{AllocError, Global};
 
-/// The path of the array of sets.
-pub fn sets_path(alloc: Global) -> Result<Text, AllocError>
-    ensures { IfOk result (λ path. path ≡ codes "set") }
-{
-    let text = String::from_str(alloc, "set")?;
-    Ok(Text::from_vec(text.into_bytes()))
+/// Where a value stands in the file. Sets and places count from 1.
+#[derive(Clone, Copy, Debug)]
+pub enum Path<'a> {
+    /// The array of sets.
+    Sets,
+    /// A set.
+    Set(usize),
+    /// A set's key.
+    Key(usize, &'a str),
+    /// An entry of a set's haircuts.
+    Haircut(usize, &'a str),
+    /// A place of a set's holidays.
+    Holiday(usize, usize),
 }
 
-/// The path of a set.
-pub fn set_path(alloc: Global, set: usize) -> Result<Text, AllocError>
-    ensures { IfOk result (λ path. path ≡ set_path set) }
-{
-    let text = format_set(alloc, set)?;
-    Ok(Text::from_vec(text.into_bytes()))
+impl Path<'_> {
+    /// The path's text. The only error is want of memory.
+    pub fn text(self, alloc: Global) -> Result<Text, AllocError>
+        ensures { IfOk result (λ path. path ≡ path_text self.entry) }
+    {
+        Ok(Text::from_vec(self.string(alloc)?.into_bytes()))
+    }
+
+    fn string(self, alloc: Global) -> Result<String, AllocError>
+        ensures { IfOk result (λ text. string_bytes text ≡ path_text self.entry) }
+    {
+        match self {
+            Path::Sets => String::from_str(alloc, "set"),
+            Path::Set(set) => format!(in alloc; "set.{set}"),
+            Path::Key(set, key) => format!(in alloc; "set.{set}.{key}"),
+            Path::Haircut(set, class) => format!(in alloc; "set.{set}.haircuts.{class}"),
+            Path::Holiday(set, place) => format!(in alloc; "set.{set}.holidays.{place}"),
+        }
+    }
 }
 
-/// The path of a set's key.
-pub fn key_path(alloc: Global, set: usize, key: &str) -> Result<Text, AllocError>
-    ensures { IfOk result (λ path. path ≡ key_path set key.now) }
+/// What is told of the value at the path, with the path in a fault. Where there is no memory for the path, the fault is
+/// want of memory.
+pub fn at_path<T>(
+    alloc: Global,
+    path: Path<'_>,
+    told: Result<T, ValueFault>,
+) -> Result<T, TermsFault>
+    ensures value { Gives (λ x. x) result (at (path_text path.entry) told) }
+    ensures same { IfOk result (λ x. told ≡ Ok x) }
 {
-    let text = format_key(alloc, set, key)?;
-    Ok(Text::from_vec(text.into_bytes()))
-}
-
-/// The path of an entry of a set's haircuts.
-pub fn haircut_path(alloc: Global, set: usize, class: &str) -> Result<Text, AllocError>
-    ensures { IfOk result (λ path. path ≡ part_path set (codes "haircuts") class.now) }
-{
-    let text = format_haircut(alloc, set, class)?;
-    Ok(Text::from_vec(text.into_bytes()))
-}
-
-/// The path of a place of a set's holidays.
-pub fn holiday_path(alloc: Global, set: usize, place: usize) -> Result<Text, AllocError>
-    ensures { IfOk result (λ path. path ≡ part_path set (codes "holidays") (decimal place)) }
-{
-    let text = format_holiday(alloc, set, place)?;
-    Ok(Text::from_vec(text.into_bytes()))
-}
-
-fn format_set(alloc: Global, set: usize) -> Result<String, AllocError>
-    ensures { IfOk result (λ text. string_bytes text ≡ set_path set) }
-{
-    format!(in alloc; "set.{set}")
-}
-
-fn format_key(alloc: Global, set: usize, key: &str) -> Result<String, AllocError>
-    ensures { IfOk result (λ text. string_bytes text ≡ key_path set key.now) }
-{
-    format!(in alloc; "set.{set}.{key}")
-}
-
-fn format_haircut(alloc: Global, set: usize, class: &str) -> Result<String, AllocError>
-    ensures { IfOk result (λ text. string_bytes text ≡ part_path set (codes "haircuts") class.now) }
-{
-    format!(in alloc; "set.{set}.haircuts.{class}")
-}
-
-fn format_holiday(alloc: Global, set: usize, place: usize) -> Result<String, AllocError>
-    ensures { IfOk result (λ text. string_bytes text ≡ part_path set (codes "holidays") (decimal place)) }
-{
-    format!(in alloc; "set.{set}.holidays.{place}")
+    match told {
+        Ok(value) => Ok(value),
+        Err(fault) => Err(fault.at(path.text(alloc)?)),
+    }
 }

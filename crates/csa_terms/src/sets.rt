@@ -9,7 +9,7 @@ ghost use Rattle.csa_terms.specs.Grammar.{items_count, few_sets, has_table, some
 use crate::fault::TermsFault;
 use crate::keyed::{member, place_count};
 use crate::names::check_names;
-use crate::path::{set_path, sets_path};
+use crate::path::{Path, at_path};
 use crate::set_reader::read_set;
 use crate::set_terms::SetTerms;
 use crate::terms::Terms;
@@ -23,10 +23,7 @@ const MOST: usize = 16;
 fn set_places(alloc: Global, root: &Table) -> Result<&[Value], TermsFault>
     ensures { Gives (λ a. items_view a.now) result (at (codes "set") (array_of (get_member (codes "set") (table_view root.now)))) }
 {
-    match array(member(root, "set")) {
-        Ok(places) => Ok(places),
-        Err(fault) => Err(fault.at(sets_path(alloc)?)),
-    }
+    at_path(alloc, Path::Sets, array(member(root, "set")))
 }
 
 fn check_count(places: &[Value]) -> Result<(), TermsFault>
@@ -58,7 +55,7 @@ fn check_tables(alloc: Global, places: &[Value]) -> Result<(), TermsFault>
     ensures some { OnOk result (0 < items_count (items_view places.now)) }
 {
     if !has_table(places) {
-        return Err(TermsFault::Missing(sets_path(alloc)?));
+        return Err(TermsFault::Missing(Path::Sets.text(alloc)?));
     }
     Ok(())
 }
@@ -66,10 +63,7 @@ fn check_tables(alloc: Global, places: &[Value]) -> Result<(), TermsFault>
 fn set_table<'a>(alloc: Global, number: usize, value: &'a Value) -> Result<&'a Table, TermsFault>
     ensures { Gives (λ t. table_view t.now) result (at (set_path number) (table_of (Some (view value.now)))) }
 {
-    match table(Some(value)) {
-        Ok(table) => Ok(table),
-        Err(fault) => Err(fault.at(set_path(alloc, number)?)),
-    }
+    at_path(alloc, Path::Set(number), table(Some(value)))
 }
 
 #[tactic(auto, unfolding(crate::specs::Grammar::set_at))]
