@@ -76,10 +76,9 @@ impl HolidayList {
     pub fn copy(&self, alloc: Global) -> Result<HolidayList, AllocError>
         ensures { IfOk result (λ l. l ≡ self.now) }
     {
-        let mut copy = HolidayList::with_capacity(alloc, self.listed.len())?;
-        for day in &self.listed {
-            copy.push(*day)?;
-        }
-        Ok(copy)
+        Ok(HolidayList {
+            listed: Vec::from_slice(alloc, &self.listed)?,
+            different: self.different.clone()?,
+        })
     }
 }
