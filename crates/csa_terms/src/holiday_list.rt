@@ -59,7 +59,7 @@ impl HolidayList {
     }
 
     /// Whether the day, counted from 1970-01-01, is one of them.
-    pub fn has(&self, day: i32) -> bool
+    pub fn contains(&self, day: i32) -> bool
         ensures { result ≡ is_among self.now day }
     {
         self.different.contains(&day)

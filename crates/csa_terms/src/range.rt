@@ -27,7 +27,8 @@ pub const SHARE: Range = Range {
 };
 
 impl Range {
-    pub fn has(self, number: i128) -> bool
+    /// Whether the number is one of the range.
+    pub fn contains(self, number: i128) -> bool
         ensures value { result ≡ is_within self number }
         ensures within { IsTrue result → IsWithin self number }
     {

@@ -155,6 +155,6 @@ impl SetTerms {
     pub fn is_holiday(&self, day: i32) -> bool
         ensures { result ≡ is_holiday self.now day }
     {
-        self.holidays.has(day)
+        self.holidays.contains(day)
     }
 }

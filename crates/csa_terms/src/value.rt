@@ -67,7 +67,7 @@ pub fn money(range: Range, value: Option<&Value>) -> Result<Cents, ValueFault>
 {
     let text = text(value)?;
     let cents = read_cents(text.as_bytes()).map_err(|_| ValueFault::BadNumber)?;
-    if !range.has(cents.0) {
+    if !range.contains(cents.0) {
         return Err(ValueFault::OutOfRange(cents.0));
     }
     Ok(cents)
@@ -82,7 +82,7 @@ pub fn rate(range: Range, value: Option<&Value>) -> Result<Rate4, ValueFault>
     let text = text(value)?;
     let rate = read_fixed(text.as_bytes(), 4).ok_or(ValueFault::BadNumber)?;
     let number = i128::from(rate);
-    if !range.has(number) {
+    if !range.contains(number) {
         return Err(ValueFault::OutOfRange(number));
     }
     Ok(Rate4(rate))

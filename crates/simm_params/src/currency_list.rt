@@ -61,7 +61,7 @@ impl CurrencyList {
     }
 
     /// Whether the list has a currency of this name.
-    pub fn has(&self, name: &[u8]) -> bool
+    pub fn contains(&self, name: &[u8]) -> bool
         ensures { result ≡ is_listed self.now name.now }
     {
         match Currency::new(name) {

@@ -81,7 +81,7 @@ impl Params {
     pub fn volatility_category(&self, key: &FactorKey) -> VolatilityCategory
         ensures { result ≡ volatility self.now key.now.qualifier }
     {
-        if self.fx.high.has(key.qualifier().bytes()) {
+        if self.fx.high.contains(key.qualifier().bytes()) {
             VolatilityCategory::High
         } else {
             VolatilityCategory::Regular
@@ -93,9 +93,9 @@ impl Params {
         ensures { result ≡ concentration self.now key.now.qualifier }
     {
         let currency = key.qualifier().bytes();
-        if self.fx.first.has(currency) {
+        if self.fx.first.contains(currency) {
             ConcentrationCategory::First
-        } else if self.fx.second.has(currency) {
+        } else if self.fx.second.contains(currency) {
             ConcentrationCategory::Second
         } else {
             ConcentrationCategory::Third

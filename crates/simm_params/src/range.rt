@@ -27,9 +27,10 @@ pub const DOLLARS: Range = Range {
 };
 
 impl Range {
-    pub fn has(self, number: i64) -> bool
+    /// Whether the number is one of the range.
+    pub fn contains(self, number: i64) -> bool
         ensures { result ≡ is_within self number }
     {
-        self.least <= number && number <= self.most
+        (self.least..=self.most).contains(&number)
     }
 }

@@ -91,7 +91,7 @@ fn new_currency(
     ensures { Gives (λ c. c) result (new_currency_of (earlier.now ++ list.now) (view value.now)) }
 {
     let currency = currency(value)?;
-    if earlier.has(currency.letters()) || list.has(currency.letters()) {
+    if earlier.contains(currency.letters()) || list.contains(currency.letters()) {
         return Err(ParamFault::Refused);
     }
     Ok(currency)
@@ -119,7 +119,7 @@ fn rate(range: Range, value: &Value) -> Result<Rate4, ParamFault>
 {
     let text = text(value)?;
     match read_fixed(text.as_bytes(), 4) {
-        Some(number) if range.has(number) => Ok(Rate4(number)),
+        Some(number) if range.contains(number) => Ok(Rate4(number)),
         _ => Err(ParamFault::Refused),
     }
 }
@@ -137,7 +137,7 @@ fn threshold(value: &Value) -> Result<i64, ParamFault>
     ensures { Gives (λ t. t) result (threshold_of (view value.now)) }
 {
     match value.as_integer() {
-        Some(dollars) if DOLLARS.has(dollars) => Ok(100 * dollars),
+        Some(dollars) if DOLLARS.contains(dollars) => Ok(100 * dollars),
         _ => Err(ParamFault::Refused),
     }
 }

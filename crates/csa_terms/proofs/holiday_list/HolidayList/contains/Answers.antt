@@ -2,7 +2,7 @@ use Rattle.std.proofs.Common.{◌∙◌, ap, w32, int_cmp}
 use Rattle.std.specs.BTreeSet.{contains_by}
 use Rattle.std.proofs.lemmas.Int.{to_z-of_z}
 use Rattle.csa_terms.specs.Terms.{is_among}
-use Rattle.csa_terms.proofs.holiday_list.HolidayList.has.Goals as goal
+use Rattle.csa_terms.proofs.holiday_list.HolidayList.contains.Goals as goal
 
 pub returns : goal.returns
 returns c =

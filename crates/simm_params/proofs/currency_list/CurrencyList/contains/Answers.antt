@@ -2,7 +2,7 @@ use Rattle.std.proofs.Common.{◌≡◌, false, sym, ap, ◌∙◌}
 use Rattle.simm_kinds.specs.NameText.{is_currency}
 use Rattle.simm_rules.specs.Lookups.{is_listed}
 use Rattle.simm_params.proofs.Listing.{not_listed, not_currency}
-use Rattle.simm_params.proofs.currency_list.CurrencyList.has.Goals as goal
+use Rattle.simm_params.proofs.currency_list.CurrencyList.contains.Goals as goal
 
 pub returns-in-None : goal.returns-in-None
 returns-in-None c =
