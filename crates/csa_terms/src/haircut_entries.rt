@@ -38,7 +38,7 @@ fn rate_of(alloc: Global, set: usize, class: &str, value: &Value) -> Result<Rate
     ensures value { Gives (λ r. r.0) result (at (part_path set (codes "haircuts") class.now) (rate_of shares (Some (view value.now)))) }
     ensures share { IfOk result (λ r. IsShare r.0) }
 {
-    at_path(alloc, Path::Haircut(set, class), rate(SHARE, Some(value)))
+    at_path(alloc, Path::Haircut(set, class), rate(Some(value), SHARE))
 }
 
 #[tactic(auto, unfolding(crate::specs::Grammar::haircut_of_entry))]
@@ -72,7 +72,7 @@ fn read_entries(alloc: Global, set: usize, entries: &Table) -> Result<HaircutTab
 pub fn read_haircuts(alloc: Global, set: usize, terms: &Table) -> Result<HaircutTable, TermsFault>
     ensures { Gives (λ t. t) result (haircut_table_of set (table_view terms.now)) }
 {
-    let entries = table_at(alloc, set, "haircuts", terms)?;
+    let entries = table_at(alloc, set, terms, "haircuts")?;
     at_most(alloc, set, "haircuts", MOST, entry_count(entries))?;
     read_entries(alloc, set, entries)
 }

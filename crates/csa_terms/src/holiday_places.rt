@@ -41,7 +41,7 @@ fn read_places(alloc: Global, set: usize, places: &[Value]) -> Result<HolidayLis
 pub fn read_holidays(alloc: Global, set: usize, terms: &Table) -> Result<HolidayList, TermsFault>
     ensures { Gives (λ l. l) result (holiday_list_of set (table_view terms.now)) }
 {
-    let places = array_at(alloc, set, "holidays", terms)?;
+    let places = array_at(alloc, set, terms, "holidays")?;
     at_most(alloc, set, "holidays", MOST, place_count(places))?;
     read_places(alloc, set, places)
 }

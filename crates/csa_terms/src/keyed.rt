@@ -37,7 +37,7 @@ pub fn place_count(places: &[Value]) -> usize
 }
 
 /// A name that isn't empty, at a set's key.
-pub fn name_at(alloc: Global, set: usize, key: &str, terms: &Table) -> Result<Name, TermsFault>
+pub fn name_at(alloc: Global, set: usize, terms: &Table, key: &str) -> Result<Name, TermsFault>
     ensures value { Gives (λ n. n) result (at (key_path set key.now) (set_name_of (get_member key.now (table_view terms.now)))) }
     ensures named { IfOk result (λ n. 0 < length n) }
 {
@@ -52,26 +52,26 @@ pub fn name_at(alloc: Global, set: usize, key: &str, terms: &Table) -> Result<Na
 pub fn money_at(
     alloc: Global,
     set: usize,
-    key: &str,
     terms: &Table,
+    key: &str,
     range: Range,
 ) -> Result<Cents, TermsFault>
     ensures value { Gives (λ c. c.0) result (money_at set key.now (table_view terms.now) range) }
     ensures within { IfOk result (λ c. IsWithin range c.0) }
 {
-    at_path(alloc, Path::Key(set, key), money(range, member(terms, key)))
+    at_path(alloc, Path::Key(set, key), money(member(terms, key), range))
 }
 
 /// A rate from 0 to 1, at a set's key.
-pub fn share_at(alloc: Global, set: usize, key: &str, terms: &Table) -> Result<Rate4, TermsFault>
+pub fn share_at(alloc: Global, set: usize, terms: &Table, key: &str) -> Result<Rate4, TermsFault>
     ensures value { Gives (λ r. r.0) result (at (key_path set key.now) (rate_of shares (get_member key.now (table_view terms.now)))) }
     ensures within { IfOk result (λ r. IsWithin shares r.0) }
 {
-    at_path(alloc, Path::Key(set, key), rate(SHARE, member(terms, key)))
+    at_path(alloc, Path::Key(set, key), rate(member(terms, key), SHARE))
 }
 
 /// A time of day, in minutes from midnight, at a set's key.
-pub fn minute_at(alloc: Global, set: usize, key: &str, terms: &Table) -> Result<u16, TermsFault>
+pub fn minute_at(alloc: Global, set: usize, terms: &Table, key: &str) -> Result<u16, TermsFault>
     ensures value { Gives (λ n. n) result (at (key_path set key.now) (minute_of (get_member key.now (table_view terms.now)))) }
     ensures within { IfOk result (λ n. n < 1440) }
 {
@@ -82,8 +82,8 @@ pub fn minute_at(alloc: Global, set: usize, key: &str, terms: &Table) -> Result<
 pub fn array_at<'a>(
     alloc: Global,
     set: usize,
-    key: &str,
     terms: &'a Table,
+    key: &str,
 ) -> Result<&'a [Value], TermsFault>
     ensures { Gives (λ a. items_view a.now) result (at (key_path set key.now) (array_of (get_member key.now (table_view terms.now)))) }
 {
@@ -94,8 +94,8 @@ pub fn array_at<'a>(
 pub fn table_at<'a>(
     alloc: Global,
     set: usize,
-    key: &str,
     terms: &'a Table,
+    key: &str,
 ) -> Result<&'a Table, TermsFault>
     ensures { Gives (λ t. table_view t.now) result (at (key_path set key.now) (table_of (get_member key.now (table_view terms.now)))) }
 {

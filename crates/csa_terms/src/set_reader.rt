@@ -18,10 +18,10 @@ fn read_amounts(alloc: Global, set: usize, terms: &Table) -> Result<Amounts, Ter
     ensures value { Gives (λ a. (a.threshold.0, a.mta_delivery.0, a.mta_return.0, a.rounding.0)) result (amounts_of set (table_view terms.now)) }
     ensures amounts { IfOk result (λ a. IsAmount a.threshold.0 × IsAmount a.mta_delivery.0 × IsAmount a.mta_return.0 × IsRounding a.rounding.0) }
 {
-    let threshold = money_at(alloc, set, "threshold", terms, AMOUNT)?;
-    let mta_delivery = money_at(alloc, set, "mta_delivery", terms, AMOUNT)?;
-    let mta_return = money_at(alloc, set, "mta_return", terms, AMOUNT)?;
-    let rounding = money_at(alloc, set, "rounding", terms, UNIT)?;
+    let threshold = money_at(alloc, set, terms, "threshold", AMOUNT)?;
+    let mta_delivery = money_at(alloc, set, terms, "mta_delivery", AMOUNT)?;
+    let mta_return = money_at(alloc, set, terms, "mta_return", AMOUNT)?;
+    let rounding = money_at(alloc, set, terms, "rounding", UNIT)?;
     Ok(Amounts {
         threshold,
         mta_delivery,
@@ -35,10 +35,10 @@ fn read_amounts(alloc: Global, set: usize, terms: &Table) -> Result<Amounts, Ter
 pub fn read_set(alloc: Global, set: usize, terms: &Table) -> Result<SetTerms, TermsFault>
     ensures { Gives (λ t. t) result (set_of set (table_view terms.now)) }
 {
-    let name = name_at(alloc, set, "name", terms)?;
+    let name = name_at(alloc, set, terms, "name")?;
     let amounts = read_amounts(alloc, set, terms)?;
-    let notification = minute_at(alloc, set, "notification", terms)?;
-    let fx_haircut = share_at(alloc, set, "fx_haircut", terms)?;
+    let notification = minute_at(alloc, set, terms, "notification")?;
+    let fx_haircut = share_at(alloc, set, terms, "fx_haircut")?;
     let haircuts = read_haircuts(alloc, set, terms)?;
     let holidays = read_holidays(alloc, set, terms)?;
     Ok(SetTerms::of_parts(name, amounts, notification, fx_haircut, haircuts, holidays))

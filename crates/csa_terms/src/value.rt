@@ -61,7 +61,7 @@ pub fn set_name(alloc: Global, value: Option<&Value>) -> Result<Name, ValueFault
 
 /// An amount of money in the range.
 #[tactic(auto, unfolding(crate::specs::Values::money_of))]
-pub fn money(range: Range, value: Option<&Value>) -> Result<Cents, ValueFault>
+pub fn money(value: Option<&Value>, range: Range) -> Result<Cents, ValueFault>
     ensures value { Tells (λ c. c.0) result (money_of range (option_map (λ v. view v.now) value.entry)) }
     ensures within { IfOk result (λ c. IsWithin range c.0) }
 {
@@ -75,7 +75,7 @@ pub fn money(range: Range, value: Option<&Value>) -> Result<Cents, ValueFault>
 
 /// A rate in the range.
 #[tactic(auto, unfolding(crate::specs::Values::rate_of))]
-pub fn rate(range: Range, value: Option<&Value>) -> Result<Rate4, ValueFault>
+pub fn rate(value: Option<&Value>, range: Range) -> Result<Rate4, ValueFault>
     ensures value { Tells (λ r. r.0) result (rate_of range (option_map (λ v. view v.now) value.entry)) }
     ensures within { IfOk result (λ r. IsWithin range r.0) }
 {

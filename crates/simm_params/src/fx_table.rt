@@ -15,9 +15,9 @@ use toml::Table;
 fn weights(fx: &Table) -> Result<FxWeights, ParamFault>
     ensures { Gives (λ w. (w.regular.0, w.high.0)) result (fx_weights (table_view fx.now)) }
 {
-    let places = places_at(2, "weight", fx)?;
-    let regular = rate_at(WEIGHT, 0, places)?;
-    let high = rate_at(WEIGHT, 1, places)?;
+    let places = places_at(fx, "weight", 2)?;
+    let regular = rate_at(places, 0, WEIGHT)?;
+    let high = rate_at(places, 1, WEIGHT)?;
     Ok(FxWeights { regular, high })
 }
 
@@ -25,10 +25,10 @@ fn weights(fx: &Table) -> Result<FxWeights, ParamFault>
 fn rhos(fx: &Table) -> Result<FxRhos, ParamFault>
     ensures { Gives (λ r. (r.regular.0, r.mixed.0, r.high.0)) result (fx_rhos (table_view fx.now)) }
 {
-    let places = places_at(3, "rho", fx)?;
-    let regular = rate_at(CORRELATION, 0, places)?;
-    let mixed = rate_at(CORRELATION, 1, places)?;
-    let high = rate_at(CORRELATION, 2, places)?;
+    let places = places_at(fx, "rho", 3)?;
+    let regular = rate_at(places, 0, CORRELATION)?;
+    let mixed = rate_at(places, 1, CORRELATION)?;
+    let high = rate_at(places, 2, CORRELATION)?;
     Ok(FxRhos {
         regular,
         mixed,
@@ -40,10 +40,10 @@ fn rhos(fx: &Table) -> Result<FxRhos, ParamFault>
 fn thresholds(fx: &Table) -> Result<FxThresholds, ParamFault>
     ensures { Gives (λ t. (t.first, t.second, t.third)) result (fx_thresholds (table_view fx.now)) }
 {
-    let places = places_at(3, "threshold", fx)?;
-    let first = threshold_at(0, places)?;
-    let second = threshold_at(1, places)?;
-    let third = threshold_at(2, places)?;
+    let places = places_at(fx, "threshold", 3)?;
+    let first = threshold_at(places, 0)?;
+    let second = threshold_at(places, 1)?;
+    let third = threshold_at(places, 2)?;
     Ok(FxThresholds {
         first,
         second,

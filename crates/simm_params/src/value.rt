@@ -36,7 +36,7 @@ pub fn array_at<'a>(table: &'a Table, key: &str) -> Result<&'a [Value], ParamFau
 
 /// The array at a key of a table, which has to have `count` places.
 #[tactic(auto, unfolding(crate::specs::Values::places_at))]
-pub fn places_at<'a>(count: usize, key: &str, table: &'a Table) -> Result<&'a [Value], ParamFault>
+pub fn places_at<'a>(table: &'a Table, key: &str, count: usize) -> Result<&'a [Value], ParamFault>
     ensures { Gives (λ a. items_view a.now) result (places_at count key.now (table_view table.now)) }
 {
     let array = array_at(table, key)?;
@@ -114,7 +114,7 @@ pub fn new_currencies(
 
 /// A rate in the range.
 #[tactic(auto, unfolding(crate::specs::Values::rate_of))]
-fn rate(range: Range, value: &Value) -> Result<Rate4, ParamFault>
+fn rate(value: &Value, range: Range) -> Result<Rate4, ParamFault>
     ensures { Gives (λ r. r.0) result (rate_of range (view value.now)) }
 {
     let text = text(value)?;
@@ -125,10 +125,10 @@ fn rate(range: Range, value: &Value) -> Result<Rate4, ParamFault>
 }
 
 /// A rate in the range, at a place of an array.
-pub fn rate_at(range: Range, place: usize, array: &[Value]) -> Result<Rate4, ParamFault>
+pub fn rate_at(array: &[Value], place: usize, range: Range) -> Result<Rate4, ParamFault>
     ensures { Gives (λ r. r.0) result (rate_at range place (items_view array.now)) }
 {
-    rate(range, place_at(array, place)?)
+    rate(place_at(array, place)?, range)
 }
 
 /// A threshold in cents, which the file has in whole dollars.
@@ -143,7 +143,7 @@ fn threshold(value: &Value) -> Result<i64, ParamFault>
 }
 
 /// A threshold in cents, at a place of an array.
-pub fn threshold_at(place: usize, array: &[Value]) -> Result<i64, ParamFault>
+pub fn threshold_at(array: &[Value], place: usize) -> Result<i64, ParamFault>
     ensures { Gives (λ t. t) result (threshold_at place (items_view array.now)) }
 {
     threshold(place_at(array, place)?)
