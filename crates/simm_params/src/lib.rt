@@ -13,8 +13,7 @@ mod range;
 mod reading;
 mod value;
 
-pub use category::{ConcentrationCategory, VolatilityCategory};
-pub use currency::Currency;
+pub use category::VolatilityCategory;
 pub use fault::ParamFault;
 pub use params::Params;
 pub use reading::read_params;

@@ -89,7 +89,7 @@ impl Params {
     }
 
     /// The concentration category of a key's currency.
-    pub fn concentration_category(&self, key: &FactorKey) -> ConcentrationCategory
+    pub(crate) fn concentration_category(&self, key: &FactorKey) -> ConcentrationCategory
         ensures { result ≡ concentration self.now key.now.qualifier }
     {
         let currency = key.qualifier().bytes();
@@ -128,7 +128,7 @@ impl Params {
     }
 
     /// The threshold of a concentration category, in cents.
-    pub fn fx_threshold(&self, category: ConcentrationCategory) -> i64
+    pub(crate) fn fx_threshold(&self, category: ConcentrationCategory) -> i64
         ensures { result ≡ category_threshold self.now category }
     {
         match category {

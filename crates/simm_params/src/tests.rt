@@ -1,4 +1,5 @@
-use crate::{Currency, ParamFault, Params, VolatilityCategory, read_params};
+use crate::currency::Currency;
+use crate::{ParamFault, Params, VolatilityCategory, read_params};
 use mh_units::{Corr6, Rate4};
 use simm_kinds::{BucketId, FactorKey, Name, ProductClass, RiskType};
 use std::alloc::{AllocError, Global};
