@@ -72,9 +72,7 @@ impl Params {
     pub fn is_calculation_currency(&self, name: &Name) -> bool
         ensures { result ≡ same_name name.now self.now.calculation_currency }
     {
-        name.bytes()
-            .cmp(self.calculation_currency.letters())
-            .is_eq()
+        name.bytes() == self.calculation_currency.letters()
     }
 
     /// The volatility category of a key's currency.
