@@ -36,19 +36,13 @@ pub fn due_day(moment: Moment, terms: &SetTerms) -> Result<i32, DayRange>
     Ok(day + i32::from(later))
 }
 
-fn has_calling_number(day: i32) -> bool
-    ensures { IsTrue result ↔ IsBetween (neg_ℤ (pos 719162)) (pos 2568019) day }
-{
-    FIRST_DAY <= day && day <= LAST_DAY
-}
-
 /// Whether the day is in the years 1 to 9000.
 fn is_calling_day(day: i32) -> bool
     ensures calling { IsTrue result ↔ IsCallingDay day }
     ensures numbers { IsTrue result ↔ IsBetween (neg_ℤ (pos 719162)) (pos 2568019) day }
     ensures years { (y : ℤ) (m d : ℕ) → IsCivilDate y m d → days_from_civil y m d ≡ day → IsTrue result ↔ IsBetween (pos 1) (pos 9000) y }
 {
-    has_calling_number(day)
+    (FIRST_DAY..=LAST_DAY).contains(&day)
 }
 
 fn business_days_to_wait(moment: Moment, terms: &SetTerms) -> u16
@@ -62,7 +56,7 @@ fn business_days_to_wait(moment: Moment, terms: &SetTerms) -> u16
     }
 }
 
-/// How many days after the day the business days are there that are to be waited for.
+/// The least number of days after `day` in which `count` business days fall.
 fn days_until(day: i32, count: u16, terms: &SetTerms) -> u16
     requires low { neg_ℤ (pos 719162) ≤ℤ day }
     requires high { day ≤ℤ pos 2568019 }
