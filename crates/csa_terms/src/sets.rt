@@ -1,10 +1,10 @@
-ghost use Rattle.std.specs.Prelude.{◌≡◌, ◌≤◌, ◌<◌, Some, is_some, codes, length, IsTrue, IfOk, OnOk};
+ghost use Rattle.std.specs.Prelude.{◌≡◌, ◌≤◌, ◌<◌, Some, is_some, codes, length, IfOk, OnOk};
 ghost use Rattle.toml.specs.Data.{get_member, as_table};
 ghost use Rattle.std.specs.List.{list_any};
 ghost use Rattle.toml.specs.View.{view, items_view, table_view};
 ghost use Rattle.csa_terms.specs.Faults.{set_path, at, Gives};
 ghost use Rattle.csa_terms.specs.Values.{array_of, table_of};
-ghost use Rattle.csa_terms.specs.Grammar.{items_count, few_sets, has_table, some_table, set_at, sets_of, terms_of_table};
+ghost use Rattle.csa_terms.specs.Grammar.{items_count, few_sets, some_table, set_at, sets_of, terms_of_table};
 
 use crate::fault::TermsFault;
 use crate::keyed::{member, place_count};
@@ -37,17 +37,10 @@ fn check_count(places: &[Value]) -> Result<(), TermsFault>
     Ok(())
 }
 
-fn any_table(places: &[Value]) -> bool
+fn has_table(places: &[Value]) -> bool
     ensures { result ≡ list_any (λ v. is_some (as_table (view v))) places.now }
 {
     places.iter().any(|value| value.as_table().is_some())
-}
-
-fn has_table(places: &[Value]) -> bool
-    ensures value { result ≡ has_table (items_view places.now) }
-    ensures some { IsTrue result → 0 < items_count (items_view places.now) }
-{
-    any_table(places)
 }
 
 fn check_tables(alloc: Global, places: &[Value]) -> Result<(), TermsFault>
