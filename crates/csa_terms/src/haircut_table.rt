@@ -39,7 +39,8 @@ impl HaircutTable {
         }
     }
 
-    /// Sets the haircut of a class, 0 to 10,000 ten-thousandths. For want of memory nothing changes.
+    /// Sets the haircut of a class, 0 to 10,000 ten-thousandths. The only error is want of memory, and then nothing
+    /// changes.
     pub fn put(&mut self, class: Name, rate: Rate4) -> Result<(), AllocError>
         requires few { length self.old < 256 }
         requires share { IsShare rate.0 }

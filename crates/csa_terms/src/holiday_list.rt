@@ -35,7 +35,7 @@ impl HolidayList {
         }
     }
 
-    /// No holiday, with room for so many in the list.
+    /// No holiday, with room for `count` in the list. The only error is want of memory.
     pub fn with_capacity(alloc: Global, count: usize) -> Result<Self, AllocError>
         ensures { IfOk result (λ l. l ≡ []) }
     {
@@ -45,7 +45,7 @@ impl HolidayList {
         })
     }
 
-    /// Adds a day at the end, counted from 1970-01-01. For want of memory nothing changes.
+    /// Adds a day at the end, counted from 1970-01-01. The only error is want of memory, and then nothing changes.
     pub fn push(&mut self, day: i32) -> Result<(), AllocError>
         requires few { length self.old < 4096 }
         requires calendar { IsCalendarDay day }

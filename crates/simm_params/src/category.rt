@@ -1,14 +1,19 @@
 /// How volatile a currency is: whether the file lists it as one of high volatility.
 #[derive(Clone, Copy, Debug, PartialEq, Eq)]
 pub enum VolatilityCategory {
+    /// The file doesn't list it.
     Regular,
+    /// The file lists it.
     High,
 }
 
 /// Which concentration threshold a currency has: that of the file's first list, of its second, or of all others.
 #[derive(Clone, Copy, Debug, PartialEq, Eq)]
 pub enum ConcentrationCategory {
+    /// The file's first list has it.
     First,
+    /// The file's second list has it.
     Second,
+    /// Neither list has it.
     Third,
 }

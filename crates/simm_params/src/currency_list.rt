@@ -36,7 +36,7 @@ impl CurrencyList {
         }
     }
 
-    /// No currency, with room for so many in the list.
+    /// No currency, with room for `count` in the list. The only error is want of memory.
     pub fn with_capacity(alloc: Global, count: usize) -> Result<Self, AllocError>
         ensures { IfOk result (λ l. l ≡ []) }
     {
@@ -46,7 +46,7 @@ impl CurrencyList {
         })
     }
 
-    /// Adds a currency at the end. For want of memory nothing changes.
+    /// Adds a currency at the end. The only error is want of memory, and then nothing changes.
     pub fn push(&mut self, currency: Currency) -> Result<(), AllocError>
         ensures ok { OnOk result (self.new ≡ self.old ++ currency ∷ []) }
         ensures err { OnErr result (self.new ≡ self.old) }
@@ -70,7 +70,7 @@ impl CurrencyList {
         }
     }
 
-    /// The same currencies once more.
+    /// The same currencies once more. The only error is want of memory.
     pub fn copy(&self, alloc: Global) -> Result<CurrencyList, AllocError>
         ensures { IfOk result (λ l. l ≡ self.now) }
     {

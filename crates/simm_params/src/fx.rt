@@ -31,10 +31,13 @@ pub struct FxThresholds {
 /// The parameters of foreign exchange.
 #[derive(Debug, Drop)]
 pub struct FxParams {
+    /// The currencies of high volatility; all others are regular.
     pub high: CurrencyList,
     pub weights: FxWeights,
     pub rhos: FxRhos,
+    /// The currencies of the first concentration category.
     pub first: CurrencyList,
+    /// The currencies of the second concentration category; all others are in the third.
     pub second: CurrencyList,
     pub thresholds: FxThresholds,
 }
@@ -58,7 +61,7 @@ impl FxParams {
             .all(|threshold| is_thick(least, *threshold))
     }
 
-    /// The same parameters once more.
+    /// The same parameters once more. The only error is want of memory.
     pub fn copy(&self, alloc: Global) -> Result<FxParams, AllocError>
         ensures { IfOk result (λ fx. fx_view fx ≡ fx_view self.now) }
     {

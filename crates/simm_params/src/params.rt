@@ -58,7 +58,7 @@ impl Params {
         let _fx = &self.fx;
     }
 
-    /// Equal parameters once more.
+    /// Equal parameters once more. The only error is want of memory.
     pub fn copy(&self, alloc: Global) -> Result<Params, AllocError>
         ensures { IfOk result (λ p. p ≡ self.now) }
     {

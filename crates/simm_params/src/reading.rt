@@ -25,7 +25,7 @@ fn read_table(alloc: Global, root: &Table) -> Result<Params, ParamFault>
 /// The parameters that a file has. `Refused` comes exactly where the file isn't UTF-8 text of a TOML document, or
 /// where a test of the grammar fails: a key that is missing, a value of another type or out of its range, an array of
 /// another length, a currency that stands twice among the concentration categories, a threshold that is too thin
-/// beside a weight.
+/// beside a weight. `Memory` may come at any test and says nothing of the file.
 #[tactic(auto, unfolding(crate::specs::Grammar::params_of))]
 pub fn read_params(alloc: Global, bytes: &[u8]) -> Result<Params, ParamFault>
     ensures exact { Gives (λ p. p) result (params_of bytes.now) }
