@@ -60,14 +60,6 @@ none_each f h c =
 
 -- ---- the range
 
-pub range_some : (p : Params) (rows : List CrifRow) (sums : List (Key × Sums)) (fault : RangeFault) → FxRows rows → sums ≡ sums_of rows → count_fault rows ≡ None → nets_fault p sums ≡ Some fault → range p rows ≡ Some fault
-range_some p rows sums fault h is none some =
-    range-sums p rows h ∙ ap (λ o. either_first o (nets_fault p (sums_of rows))) none ∙ ap (nets_fault p) (sym is) ∙ some
-
-pub range_none : (p : Params) (rows : List CrifRow) (sums : List (Key × Sums)) → FxRows rows → sums ≡ sums_of rows → count_fault rows ≡ None → nets_fault p sums ≡ None → range p rows ≡ None
-range_none p rows sums h is none some =
-    range-sums p rows h ∙ ap (λ o. either_first o (nets_fault p (sums_of rows))) none ∙ ap (nets_fault p) (sym is) ∙ some
-
 pub range_from : (p : Params) (rows : List CrifRow) (sums : List (Key × Sums)) (answer : Option RangeFault) → FxRows rows → sums ≡ sums_of rows → count_fault rows ≡ None → answer ≡ nets_fault p sums → answer ≡ range p rows
 range_from p rows sums answer h is none e =
     e ∙ ap (nets_fault p) is ∙ sym (range-sums p rows h ∙ ap (λ o. either_first o (nets_fault p (sums_of rows))) none)

@@ -1,8 +1,6 @@
-ghost use Rattle.std.specs.Prelude.{◌≡◌, ◌^◌, ◌<◌, ◌≤◌, List, None, Some, Err, IfOk, length};
+ghost use Rattle.std.specs.Prelude.{◌≡◌, ◌^◌, ◌<◌, ◌≤◌, List, None, IfOk, length};
 ghost use Rattle.simm_kinds.specs.declared.kinds.ProductClass.{ProductClass as Product};
 ghost use Rattle.simm_kinds.specs.declared.row.CrifRow.{CrifRow as Row};
-ghost use Rattle.simm_kinds.specs.Batch.{rows_of};
-ghost use Rattle.simm_rules.specs.declared.values.RangeFault.{RangeFault as Fault};
 ghost use Rattle.simm_rules.specs.Simm.{simm};
 ghost use Rattle.simm_rules.specs.Range.{range};
 ghost use Rattle.simm_plain.specs.Bucket.{IsBucket, factors};
@@ -12,34 +10,16 @@ ghost use Rattle.simm_plain.specs.Nets.{nets_in, sums_of, AreRows};
 
 use crate::breakdown::breakdown;
 use crate::bucket::fx_margin;
-use crate::fault::MarginFault;
-use crate::lent::{LentRows, lend};
+use crate::lent::LentRows;
 use crate::netting::Nets;
 use crate::range::{count_fault, nets_fault};
-use simm_kinds::{ProductClass, TradeRows};
+use simm_kinds::ProductClass;
 use simm_params::Params;
 use simm_rules::{Breakdown, RangeFault};
 use std::alloc::{AllocError, Global};
 
-/// The margin of the rows of the trades: whether they are in range, and their margin if they are, in one call.
-///
-/// # Errors
-///
-/// `Range` for a book out of range, with the first quantity that is above its limit, and `Memory` for want of memory.
-pub fn margin(
-    alloc: Global,
-    params: &Params,
-    trades: &[TradeRows],
-) -> Result<Breakdown, MarginFault>
-    requires { length (rows_of trades.now) < 2 ^ 63 }
-    ensures ok { IfOk result (λ b. (range params.now (rows_of trades.now) ≡ None) × (b ≡ simm params.now (rows_of trades.now))) }
-    ensures range { (fault : Fault) → result ≡ Err (MarginFault.Range fault) → range params.now (rows_of trades.now) ≡ Some fault }
-{
-    let lent = lend(alloc, trades)?;
-    margin_of(alloc, params, lent.as_slice())
-}
-
-/// The first quantity of a book of lent rows that is above its limit; none for a book in range.
+/// The first quantity of a book of lent rows that is above its limit; none for a book in range. Want of memory is the
+/// only error.
 pub fn range_fault(
     alloc: Global,
     params: &Params,
@@ -56,7 +36,7 @@ pub fn range_fault(
     Ok(nets_fault(params, &nets))
 }
 
-/// The margin of a book of lent rows, which the caller knows to be in range.
+/// The margin of a book of lent rows, which the caller knows to be in range. Want of memory is the only error.
 pub fn margin_in_range(
     alloc: Global,
     params: &Params,
@@ -68,22 +48,6 @@ pub fn margin_in_range(
     let nets = Nets::of_rows(alloc, lent)?;
     params.facts();
     nets_margin(alloc, params, &nets)
-}
-
-fn margin_of(alloc: Global, params: &Params, lent: &[LentRows]) -> Result<Breakdown, MarginFault>
-    requires { length (all_rows lent.now) < 2 ^ 63 }
-    ensures ok { IfOk result (λ b. (range params.now (all_rows lent.now) ≡ None) × (b ≡ simm params.now (all_rows lent.now))) }
-    ensures range { (fault : Fault) → result ≡ Err (MarginFault.Range fault) → range params.now (all_rows lent.now) ≡ Some fault }
-{
-    if let Some(fault) = count_fault(lent) {
-        return Err(MarginFault::Range(fault));
-    }
-    let nets = Nets::of_rows(alloc, lent)?;
-    if let Some(fault) = nets_fault(params, &nets) {
-        return Err(MarginFault::Range(fault));
-    }
-    params.facts();
-    Ok(nets_margin(alloc, params, &nets)?)
 }
 
 // The margin of a book in range, by its nets.

@@ -1,11 +1,11 @@
-//! The margin of a batch of foreign exchange rows, computed in the plain way, and proved to be the written rule.
+//! The range and the margin of a book of foreign exchange rows, computed in the plain way, and proved to be the written
+//! rule.
 #![tactic(auto)]
 
 mod book;
 mod breakdown;
 mod bucket;
 mod correlation;
-mod fault;
 mod laws;
 mod lent;
 mod net;
@@ -16,8 +16,7 @@ mod rhos;
 mod sums;
 mod weighing;
 
-pub use book::{margin, margin_in_range, range_fault};
-pub use fault::MarginFault;
+pub use book::{margin_in_range, range_fault};
 pub use laws::fewer_are_in_range;
 pub use lent::LentRows;
 

@@ -1,10 +1,8 @@
-ghost use Rattle.std.specs.Prelude.{◌≡◌, ◌^◌, ◌<◌, IfOk, length};
-ghost use Rattle.simm_kinds.specs.Batch.{rows_of};
+ghost use Rattle.std.specs.Prelude.{◌^◌, ◌<◌, length};
 ghost use Rattle.simm_plain.specs.Lent.{all_rows};
 
-use crate::lent::{LentRows, lend};
-use crate::{MarginFault, margin, margin_in_range, range_fault};
-use simm_kinds::{BucketId, CrifRow, FactorKey, Listed, Name, ProductClass, RiskType, TradeRows};
+use crate::{LentRows, margin_in_range, range_fault};
+use simm_kinds::{BucketId, CrifRow, FactorKey, Name, ProductClass, RiskType};
 use simm_params::{Params, read_params};
 use simm_rules::{Breakdown, RangeFault, RangeKind};
 use std::alloc::Global;
@@ -50,9 +48,8 @@ fn params(alloc: Global) -> Result<Params, Fail> {
     )
 }
 
-fn trade(alloc: Global, name: &str, currency: &str, amount: i64) -> Result<TradeRows, Fail>
-    ensures { IfOk result (λ t. length t.rows ≡ 1) }
-{
+/// A row of a currency, with its amount in cents.
+fn row(alloc: Global, currency: &str, amount: i64) -> Result<CrifRow, Fail> {
     let key = FactorKey::make(
         ProductClass::RatesFX,
         RiskType::Fx,
@@ -63,39 +60,38 @@ fn trade(alloc: Global, name: &str, currency: &str, amount: i64) -> Result<Trade
         Name::empty(alloc),
     );
     let key = key.ok_or("a key")?;
-    let mut rows = Listed::new(alloc);
-    rows.push(CrifRow { key, amount })?;
-    let trade = read_name(alloc, name)?;
-    Ok(TradeRows { trade, rows })
+    Ok(CrifRow { key, amount })
 }
 
 fn read_name(alloc: Global, text: &str) -> Result<Name, Fail> {
     Ok(Name::read(alloc, text.as_bytes()).ok().ok_or("a name")?)
 }
 
-/// Two trades with a row each.
-fn two_trades(
+/// The margin of lent rows, or what is above the range.
+fn margin_of_lent(
     alloc: Global,
-    first: (&str, i64),
-    second: (&str, i64),
-) -> Result<Vec<TradeRows>, Fail>
-    ensures { IfOk result (λ trades. length (rows_of trades.items) ≡ 2) }
+    params: &Params,
+    lent: &[LentRows],
+) -> Result<Result<Breakdown, RangeFault>, Fail>
+    requires { length (all_rows lent.now) < 2 ^ 63 }
 {
-    let mut trades = Vec::new(alloc);
-    trades.push(trade(alloc, "T1", first.0, first.1)?)?;
-    trades.push(trade(alloc, "T2", second.0, second.1)?)?;
-    Ok(trades)
+    match range_fault(alloc, params, lent)? {
+        Some(fault) => Ok(Err(fault)),
+        None => Ok(Ok(margin_in_range(alloc, params, lent)?)),
+    }
 }
 
-/// The margin of two trades with a row each.
+/// The margin of two trades with a row each, or what is above the range.
 fn margin_of(
     alloc: Global,
     params: &Params,
     first: (&str, i64),
     second: (&str, i64),
-) -> Result<Result<Breakdown, MarginFault>, Fail> {
-    let trades = two_trades(alloc, first, second)?;
-    Ok(margin(alloc, params, trades.as_slice()))
+) -> Result<Result<Breakdown, RangeFault>, Fail> {
+    let first = [row(alloc, first.0, first.1)?];
+    let second = [row(alloc, second.0, second.1)?];
+    let lent = [LentRows { rows: &first }, LentRows { rows: &second }];
+    margin_of_lent(alloc, params, &lent)
 }
 
 #[test]
@@ -120,40 +116,6 @@ fn a_gross_at_its_limit_has_a_margin_and_above_it_a_fault(rt: HostRuntime) -> Re
     let breakdown = whole.ok().ok_or("a margin")?;
     assert_eq!(rt; breakdown.total, 100_000_000_000_000);
     let above = margin_of(alloc, &params, ("BRL", 1_000_000_000_000), ("BRL", 1))?;
-    assert!(rt; above == Err(MarginFault::Range(GROSS_ABOVE)));
-    Ok(())
-}
-
-#[test]
-fn lent_rows_have_no_fault_in_range_and_one_above_it(rt: HostRuntime) -> Result<(), Fail> {
-    let alloc = rt.alloc();
-    let params = params(alloc)?;
-    let trades = two_trades(alloc, ("EUR", 100_000), ("GBP", -50_000))?;
-    let lent = lend(alloc, trades.as_slice())?;
-    assert!(rt; range_fault(alloc, &params, lent.as_slice())?.is_none());
-    let trades = two_trades(alloc, ("BRL", 1_000_000_000_000), ("BRL", 1))?;
-    let lent = lend(alloc, trades.as_slice())?;
-    assert!(rt; range_fault(alloc, &params, lent.as_slice())? == Some(GROSS_ABOVE));
-    Ok(())
-}
-
-/// The margin of lent rows that are in range.
-fn margin_of_lent(alloc: Global, params: &Params, lent: &[LentRows]) -> Result<Breakdown, Fail>
-    requires { length (all_rows lent.now) < 2 ^ 63 }
-{
-    match range_fault(alloc, params, lent)? {
-        Some(_) => Err("rows in range".into()),
-        None => Ok(margin_in_range(alloc, params, lent)?),
-    }
-}
-
-#[test]
-fn lent_rows_in_range_have_their_margin(rt: HostRuntime) -> Result<(), Fail> {
-    let alloc = rt.alloc();
-    let params = params(alloc)?;
-    let trades = two_trades(alloc, ("EUR", 100_000), ("GBP", -50_000))?;
-    let lent = lend(alloc, trades.as_slice())?;
-    let breakdown = margin_of_lent(alloc, &params, lent.as_slice())?;
-    assert_eq!(rt; breakdown.total, 640_859);
+    assert!(rt; above == Err(GROSS_ABOVE));
     Ok(())
 }
