@@ -63,7 +63,7 @@ fn is_delivery(excess: i128, terms: &SetTerms) -> bool
     excess > 0 && excess >= terms.mta_delivery().0
 }
 
-// What is too much reaches the minimum, and the rounding, so that some multiple of it is in it.
+// Whether the excess booked reaches the minimum of a return and one unit of rounding, below which the return would be 0.
 fn is_return(excess: i128, terms: &SetTerms) -> bool
     requires { unsigned_abs excess ≤ 10 ^ 18 }
     ensures { result ≡ is_return excess terms.now }

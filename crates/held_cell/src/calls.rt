@@ -1,4 +1,4 @@
-// Calls in the name of a seat's first caller.
+//! Calls in the name of a seat's first caller.
 ghost use Rattle.std.specs.Prelude.{◌≡◌, ◌+◌};
 ghost use Rattle.held_cell.specs.Seats.{IsSeatOf};
 ghost use Rattle.held_cell.specs.Calls.{Answers, TryAnswers, outcome_of};
@@ -10,7 +10,7 @@ use std::sync::Wait;
 use std::thread;
 use std::time::Duration;
 
-// A call that finds its cell taken yields so often before it sleeps.
+// How often a call that finds its cell taken yields before it sleeps.
 const YIELDS: u32 = 16;
 
 // How long it then sleeps at most, in microseconds.

@@ -1,4 +1,4 @@
-// A seat's range of callers, cut in two and put together.
+//! A seat's range of callers, cut in two and put together.
 ghost use Rattle.std.specs.Prelude.{◌≡◌, ◌+◌, ◌<◌};
 ghost use Rattle.held_cell.specs.Seats.{IsSeatOf, IsJoined, left_seat, right_seat};
 

@@ -1,4 +1,4 @@
-// The single steps of a seat on the word and the slot of its cell. What each tells is an equation on the seat's view.
+//! The single steps of a seat on the word and the slot of its cell. What each tells is an equation on the seat's view.
 ghost use Rattle.std.specs.Prelude.{◌≡◌, ◌*◌, ◌%◌, ◌<◌, ◌==◌, ◌∷◌, [], length, false, MatchBool, Some, None, OnOk, IfErr};
 ghost use Rattle.held_cell.specs.Views.{given, missed};
 ghost use Rattle.held_cell.specs.Rule.{Looks, Takes};

@@ -1,4 +1,4 @@
-// A machine that multiplies.
+//! A machine that multiplies.
 ghost use Rattle.std.specs.Prelude.{◌≡◌, ◌+◌, ◌*◌, ◌<◌, ◌≤◌, ◌⊎◌, length, sum_by, All, IsTrue, ◌↔◌, vec_len, IfErr, IfOk, OnOk, OnErr, [], ◌∷◌, ◌++◌};
 ghost use Rattle.std.proofs.lemmas.List.Elements.{All-nil};
 
