@@ -16,7 +16,7 @@ pub enum LedgerFault {
     CallUnknown,
     /// The value, in cents, is below 0 or above 10^15.
     LotRange(i64),
-    /// There are as many lots as there may be, which is shown.
+    /// There are as many lots as there may be, this many.
     LotsFull(u32),
     /// There is no memory for it.
     Memory,

@@ -24,7 +24,7 @@ const GREATEST_VALUE: i64 = 1_000_000_000_000_000;
 /// the calls that are outstanding, in the order of their numbers. There are 0 to 4,096 lots of different names, each of a class
 /// that the terms have a haircut for and with a value of 0 to 10^15 cents. Contracts see the plain record.
 ///
-/// A lot is found by its name in O(1) steps, as a hash table is; to take one out moves those after it. A call is found in
+/// A lot is found by its name in O(1) steps on average; to take one out moves those after it. A call is found in
 /// O(log n) steps for n calls.
 #[derive(Drop)]
 pub struct Ledger {

@@ -50,6 +50,7 @@ impl Lots {
         &self.terms
     }
 
+    /// How many lots are held.
     pub fn len(&self) -> usize
         ensures { result ≡ length self.now.lots }
     {
