@@ -51,13 +51,6 @@ impl Ledger {
         }
     }
 
-    /// Lends the terms, which stay those that the ledger was made with.
-    pub fn terms(&self) -> &SetTerms
-        ensures { result.now ≡ self.now.terms }
-    {
-        self.lots.terms()
-    }
-
     /// What each ledger keeps. It does nothing.
     pub fn facts(&self)
         ensures { IsLedger self.now }

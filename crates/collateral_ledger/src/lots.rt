@@ -43,13 +43,6 @@ impl Lots {
         }
     }
 
-    /// Lends the terms.
-    pub fn terms(&self) -> &SetTerms
-        ensures { result.now ≡ self.now.terms }
-    {
-        &self.terms
-    }
-
     /// How many lots are held.
     pub fn len(&self) -> usize
         ensures { result ≡ length self.now.lots }
