@@ -16,11 +16,9 @@ use Rattle.simm_rules.specs.Params.{Params}
 use Rattle.simm_rules.specs.Lookups.{weight, delta_threshold, delta_rho_of, is_high}
 use Rattle.simm_rules.specs.Concentration.{one, ratio, cr}
 use Rattle.simm_rules.specs.Delta.{combined}
-use Rattle.simm_params.specs.declared.category.VolatilityCategory.{VolatilityCategory}
 use Rattle.simm_params.specs.declared.category.VolatilityCategory.TheVariants.{Regular, High}
 use Rattle.simm_params.specs.Categories.{volatility, category_rho}
 use Rattle.simm_params.specs.Facts.{IsParams}
-use Rattle.simm_plain.specs.declared.rhos.Rhos.{Rhos}
 use Rattle.simm_plain.specs.declared.place.Place.{Place}
 use Rattle.simm_plain.specs.FxKeys.{fx_key, IsFxKey}
 use Rattle.simm_plain.specs.Bucket.{factor_cr, factor_weighted, factor_corr, factor_sum, Ascends, IsFactor}
@@ -63,23 +61,15 @@ rho_once : (t : Bool) (x f : ℤ) → (if t then one else combined x f) ≡ (if 
 rho_once true x f = refl
 rho_once false x f = refl
 
--- the table's correlation is the parameters'
-table_rho : (p : Params) (rhos : Rhos) → ((a b : VolatilityCategory) → rho_of rhos a b ≡ pos 100 *ℤ category_rho p a b) → (k l : Key) → IsFxKey k → rho_of rhos (volatility p k.qualifier) (volatility p l.qualifier) ≡ delta_rho_of k.kind p k l
-table_rho p rhos table k l f =
-    table (volatility p k.qualifier) (volatility p l.qualifier) ∙ ap (λ z. pos 100 *ℤ z) (by_category p (is_high p k.qualifier) (is_high p l.qualifier))
-    ∙ sym (ap (λ x. delta_rho_of x.kind p x l) f)
+-- the correlation by category is that of the keys
+key_rho : (p : Params) (k l : Key) → IsFxKey k → rho_of p (volatility p k.qualifier) (volatility p l.qualifier) ≡ delta_rho_of k.kind p k l
+key_rho p k l f = ap (λ z. pos 100 *ℤ z) (by_category p (is_high p k.qualifier) (is_high p l.qualifier)) ∙ sym (ap (λ x. delta_rho_of x.kind p x l) f)
 
-pub table_of : (p : Params) (rhos : Rhos) → rhos.regular.0 ≡ pos 100 *ℤ p.fx.regular_rho → rhos.mixed.0 ≡ pos 100 *ℤ p.fx.mixed_rho → rhos.high.0 ≡ pos 100 *ℤ p.fx.high_rho → (a b : VolatilityCategory) → rho_of rhos a b ≡ pos 100 *ℤ category_rho p a b
-table_of p rhos r m h High High = h
-table_of p rhos r m h High Regular = m
-table_of p rhos r m h Regular High = m
-table_of p rhos r m h Regular Regular = r
+module _ (p : Params) where
+  corr_is : (e f : Key × ℤ) → IsFxKey e.0 → place_corr p (place_of p e) (place_of p f) ≡ combined (delta_rho_of e.0.kind p e.0 f.0) (ratio (factor_cr p e) (factor_cr p f))
+  corr_is e f g = ap (λ z. combined z (ratio (factor_cr p e) (factor_cr p f))) (key_rho p e.0 f.0 g)
 
-module _ (p : Params) (rhos : Rhos) (table : (a b : VolatilityCategory) → rho_of rhos a b ≡ pos 100 *ℤ category_rho p a b) where
-  corr_is : (e f : Key × ℤ) → IsFxKey e.0 → place_corr rhos (place_of p e) (place_of p f) ≡ combined (delta_rho_of e.0.kind p e.0 f.0) (ratio (factor_cr p e) (factor_cr p f))
-  corr_is e f g = ap (λ z. combined z (ratio (factor_cr p e) (factor_cr p f))) (table_rho p rhos table e.0 f.0 g)
-
-  places_corr : (es : List (Key × ℤ)) (places : List Place) (d : Key × ℤ) → places ≡ map (place_of p) es → AllByRecursion (IsFactor p) es → Ascends key_cmp (map (λ e. e.0) es) → (i j : ℕ) → i < length es → j < length es → corr_at rhos places i j ≡ factor_corr p (get_or es i d) (get_or es j d)
+  places_corr : (es : List (Key × ℤ)) (places : List Place) (d : Key × ℤ) → places ≡ map (place_of p) es → AllByRecursion (IsFactor p) es → Ascends key_cmp (map (λ e. e.0) es) → (i j : ℕ) → i < length es → j < length es → corr_at p places i j ≡ factor_corr p (get_or es i d) (get_or es j d)
   places_corr es places d e each s i j l m =
       let first : place_at places i ≡ place_of p (get_or es i d) = ap (λ ps. get_or ps i no_place) e ∙ get_or-map (place_of p) es i d no_place l in
       let second : place_at places j ≡ place_of p (get_or es j d) = ap (λ ps. get_or ps j no_place) e ∙ get_or-map (place_of p) es j d no_place m in
@@ -89,16 +79,16 @@ module _ (p : Params) (rhos : Rhos) (table : (a b : VolatilityCategory) → rho_
       let same : same_key (get_or es i d).0 (get_or es j d).0 ≡ (i == j) =
       ap (λ k. same_key k (get_or es j d).0) (sym key_i) ∙ ap (λ k. same_key (get_or (map (λ (x : Key × ℤ). x.0) es) i d.0) k) (sym key_j)
       ∙ same_place (map (λ (x : Key × ℤ). x.0) es) i j d.0 s (omega arith) (omega arith) in
-      ap (λ a. if i == j then one else place_corr rhos a (place_at places j)) first
-      ∙ ap (λ b. if i == j then one else place_corr rhos (place_of p (get_or es i d)) b) second
+      ap (λ a. if i == j then one else place_corr p a (place_at places j)) first
+      ∙ ap (λ b. if i == j then one else place_corr p (place_of p (get_or es i d)) b) second
       ∙ ap (λ z. if i == j then one else z) (corr_is (get_or es i d) (get_or es j d) (each_at (IsFactor p) es i d each l).fx)
       ∙ ap (λ t. if t then one else combined (delta_rho_of (get_or es i d).0.kind p (get_or es i d).0 (get_or es j d).0) (ratio (factor_cr p (get_or es i d)) (factor_cr p (get_or es j d)))) (sym same)
       ∙ rho_once (same_key (get_or es i d).0 (get_or es j d).0) (delta_rho_of (get_or es i d).0.kind p (get_or es i d).0 (get_or es j d).0) (ratio (factor_cr p (get_or es i d)) (factor_cr p (get_or es j d)))
 
   -- the sum over places is that over factors
-  pub sum_is : (es : List (Key × ℤ)) (places : List Place) (ws : List ℤ) → places ≡ map (place_of p) es → ws ≡ map (factor_weighted p) es → AllByRecursion (IsFactor p) es → Ascends key_cmp (map (λ e. e.0) es) → pair_total (corr_at rhos places) ws ≡ factor_sum p es
+  pub sum_is : (es : List (Key × ℤ)) (places : List Place) (ws : List ℤ) → places ≡ map (place_of p) es → ws ≡ map (factor_weighted p) es → AllByRecursion (IsFactor p) es → Ascends key_cmp (map (λ e. e.0) es) → pair_total (corr_at p places) ws ≡ factor_sum p es
   sum_is es places ws e w each s =
-      pair_total-keys (factor_corr p) (factor_weighted p) es (fx_key product.RatesFX [], pos 0) (corr_at rhos places) ws w (places_corr es places (fx_key product.RatesFX [], pos 0) e each s)
+      pair_total-keys (factor_corr p) (factor_weighted p) es (fx_key product.RatesFX [], pos 0) (corr_at p places) ws w (places_corr es places (fx_key product.RatesFX [], pos 0) e each s)
 
 -- ---- concentrations of places
 

@@ -9,23 +9,28 @@ use Rattle.mh_units.proofs.Integers.{product_size, unsigned_abs-neg}
 use Rattle.concentration.proofs.Factors.{ratio_bounds}
 use Rattle.simm_rules.specs.Concentration.{one, ratio}
 use Rattle.simm_rules.specs.Delta.{combined}
+use Rattle.simm_rules.specs.Params.{Params}
 use Rattle.simm_params.specs.declared.category.VolatilityCategory.{VolatilityCategory}
 use Rattle.simm_params.specs.declared.category.VolatilityCategory.TheVariants.{Regular, High}
-use Rattle.simm_plain.specs.declared.rhos.Rhos.{Rhos}
+use Rattle.simm_params.specs.Categories.{category_rho}
+use Rattle.simm_params.specs.Facts.{IsParams}
 use Rattle.simm_plain.specs.declared.place.Place.{Place}
 use Rattle.simm_plain.specs.Correlated.{rho_of, place_corr, place_at, corr_at}
 
-rho_of-symmetric : (rhos : Rhos) (a b : VolatilityCategory) → rho_of rhos a b ≡ rho_of rhos b a
-rho_of-symmetric rhos High High = refl
-rho_of-symmetric rhos High Regular = refl
-rho_of-symmetric rhos Regular High = refl
-rho_of-symmetric rhos Regular Regular = refl
+rho_of-symmetric : (p : Params) (a b : VolatilityCategory) → rho_of p a b ≡ rho_of p b a
+rho_of-symmetric p High High = refl
+rho_of-symmetric p High Regular = refl
+rho_of-symmetric p Regular High = refl
+rho_of-symmetric p Regular Regular = refl
 
-rho_of-small : (rhos : Rhos) (a b : VolatilityCategory) → unsigned_abs rhos.regular.0 ≤ 1000000 → unsigned_abs rhos.mixed.0 ≤ 1000000 → unsigned_abs rhos.high.0 ≤ 1000000 → unsigned_abs (rho_of rhos a b) ≤ 1000000
-rho_of-small rhos High High r m h = h
-rho_of-small rhos High Regular r m h = m
-rho_of-small rhos Regular High r m h = m
-rho_of-small rhos Regular Regular r m h = r
+category_rho-small : (p : Params) (a b : VolatilityCategory) → IsParams p → unsigned_abs (category_rho p a b) ≤ 10000
+category_rho-small p High High facts = omega (arith, ints, facts.fx.high_rho.low, facts.fx.high_rho.high)
+category_rho-small p High Regular facts = omega (arith, ints, facts.fx.mixed_rho.low, facts.fx.mixed_rho.high)
+category_rho-small p Regular High facts = omega (arith, ints, facts.fx.mixed_rho.low, facts.fx.mixed_rho.high)
+category_rho-small p Regular Regular facts = omega (arith, ints, facts.fx.regular_rho.low, facts.fx.regular_rho.high)
+
+rho_of-small : (p : Params) (a b : VolatilityCategory) → IsParams p → unsigned_abs (rho_of p a b) ≤ 1000000
+rho_of-small p a b facts = product_size (pos 100) (category_rho p a b) 100 10000 (omega arith) (category_rho-small p a b facts)
 
 min_symmetric : (a b : ℤ) → int_min a b ≡ int_min b a
 min_symmetric a b = omega (arith, ints, clamps)
@@ -45,13 +50,13 @@ trunc_small : (a : ℤ) → unsigned_abs a ≤ 1000000 * 1000000 → unsigned_ab
 trunc_small (pos n) h = omega (arith, div_below n 1000000 1000001 (omega arith) (omega arith))
 trunc_small (negsuc n) h = omega (arith, ints, unsigned_abs-neg (pos (suc n / 1000000)), div_below (suc n) 1000000 1000001 (omega arith) (omega arith))
 
-place_corr-small : (rhos : Rhos) (a b : Place) → unsigned_abs rhos.regular.0 ≤ 1000000 → unsigned_abs rhos.mixed.0 ≤ 1000000 → unsigned_abs rhos.high.0 ≤ 1000000 → one ≤ℤ a.cr.0 → one ≤ℤ b.cr.0 → unsigned_abs (place_corr rhos a b) ≤ 1000000
-place_corr-small rhos a b r m h p q =
-    trunc_small (rho_of rhos a.category b.category *ℤ ratio a.cr.0 b.cr.0) (product_size (rho_of rhos a.category b.category) (ratio a.cr.0 b.cr.0) 1000000 1000000 (rho_of-small rhos a.category b.category r m h) (ratio-small a.cr.0 b.cr.0 p q))
+place_corr-small : (p : Params) (a b : Place) → IsParams p → one ≤ℤ a.cr.0 → one ≤ℤ b.cr.0 → unsigned_abs (place_corr p a b) ≤ 1000000
+place_corr-small p a b facts low_a low_b =
+    trunc_small (rho_of p a.category b.category *ℤ ratio a.cr.0 b.cr.0) (product_size (rho_of p a.category b.category) (ratio a.cr.0 b.cr.0) 1000000 1000000 (rho_of-small p a.category b.category facts) (ratio-small a.cr.0 b.cr.0 low_a low_b))
 
-place_corr-symmetric : (rhos : Rhos) (a b : Place) → place_corr rhos a b ≡ place_corr rhos b a
-place_corr-symmetric rhos a b =
-    ap (λ z. combined z (ratio a.cr.0 b.cr.0)) (rho_of-symmetric rhos a.category b.category) ∙ ap (λ z. combined (rho_of rhos b.category a.category) z) (ratio-symmetric a.cr.0 b.cr.0)
+place_corr-symmetric : (p : Params) (a b : Place) → place_corr p a b ≡ place_corr p b a
+place_corr-symmetric p a b =
+    ap (λ z. combined z (ratio a.cr.0 b.cr.0)) (rho_of-symmetric p a.category b.category) ∙ ap (λ z. combined (rho_of p b.category a.category) z) (ratio-symmetric a.cr.0 b.cr.0)
 
 chosen_symmetric : (s t : Bool) (x y : ℤ) → s ≡ t → x ≡ y → (if s then one else x) ≡ (if t then one else y)
 chosen_symmetric s t x y e f = ap (λ b. if b then one else x) e ∙ ap (λ z. if t then one else z) f
@@ -59,18 +64,18 @@ chosen_symmetric s t x y e f = ap (λ b. if b then one else x) e ∙ ap (λ z. i
 same_place : (i j : ℕ) → (i == j) ≡ (j == i)
 same_place i j = grind (arith, nat_tests)
 
-pub corr_at-symmetric : (rhos : Rhos) (places : List Place) (i j : ℕ) → corr_at rhos places i j ≡ corr_at rhos places j i
-corr_at-symmetric rhos places i j = chosen_symmetric (i == j) (j == i) _ _ (same_place i j) (place_corr-symmetric rhos (place_at places i) (place_at places j))
+pub corr_at-symmetric : (p : Params) (places : List Place) (i j : ℕ) → corr_at p places i j ≡ corr_at p places j i
+corr_at-symmetric p places i j = chosen_symmetric (i == j) (j == i) _ _ (same_place i j) (place_corr-symmetric p (place_at places i) (place_at places j))
 
 chosen_small : (t : Bool) (x : ℤ) → unsigned_abs x ≤ 1000000 → unsigned_abs (if t then one else x) ≤ 1000000
 chosen_small true x h = omega arith
 chosen_small false x h = h
 
-pub corr_at-small : (rhos : Rhos) (places : List Place) (i j : ℕ) → unsigned_abs rhos.regular.0 ≤ 1000000 → unsigned_abs rhos.mixed.0 ≤ 1000000 → unsigned_abs rhos.high.0 ≤ 1000000 → one ≤ℤ (place_at places i).cr.0 → one ≤ℤ (place_at places j).cr.0 → unsigned_abs (corr_at rhos places i j) ≤ 1000000
-corr_at-small rhos places i j r m h p q = chosen_small (i == j) (place_corr rhos (place_at places i) (place_at places j)) (place_corr-small rhos (place_at places i) (place_at places j) r m h p q)
+pub corr_at-small : (p : Params) (places : List Place) (i j : ℕ) → IsParams p → one ≤ℤ (place_at places i).cr.0 → one ≤ℤ (place_at places j).cr.0 → unsigned_abs (corr_at p places i j) ≤ 1000000
+corr_at-small p places i j facts low_i low_j = chosen_small (i == j) (place_corr p (place_at places i) (place_at places j)) (place_corr-small p (place_at places i) (place_at places j) facts low_i low_j)
 
 itself : (i : ℕ) → (i == i) ≡ true
 itself i = grind (arith, nat_tests)
 
-pub corr_at-one : (rhos : Rhos) (places : List Place) (i : ℕ) → corr_at rhos places i i ≡ one
-corr_at-one rhos places i = ap (λ b. if b then one else place_corr rhos (place_at places i) (place_at places i)) (itself i)
+pub corr_at-one : (p : Params) (places : List Place) (i : ℕ) → corr_at p places i i ≡ one
+corr_at-one p places i = ap (λ b. if b then one else place_corr p (place_at places i) (place_at places i)) (itself i)

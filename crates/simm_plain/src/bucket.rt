@@ -7,7 +7,6 @@ ghost use Rattle.simm_plain.specs.Nets.{nets_in};
 use crate::correlation::FxCorrelation;
 use crate::net::Net;
 use crate::netting::Nets;
-use crate::rhos::Rhos;
 use crate::weighing::weigh;
 use pair_sum::{Steps, bucket_root, pair_sum};
 use simm_kinds::ProductClass;
@@ -50,7 +49,7 @@ fn bucket_sum<L: Ledger>(
     params.facts();
     let weighed = weigh(alloc, params, nets)?;
     let correlation = FxCorrelation {
-        rhos: Rhos::of(params),
+        params,
         places: weighed.places,
     };
     let mut steps = Steps::<L>::new(blank);

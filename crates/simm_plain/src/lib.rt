@@ -12,7 +12,6 @@ mod net;
 mod netting;
 mod place;
 mod range;
-mod rhos;
 mod sums;
 mod weighing;
 
