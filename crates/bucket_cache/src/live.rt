@@ -129,13 +129,6 @@ impl LiveMargin {
         Some(rows.as_slice())
     }
 
-    /// The parameters of the margin.
-    pub fn params(&self) -> &Params
-        ensures { result.now ≡ self.now.params }
-    {
-        &self.params
-    }
-
     // What keeps the book with this batch from being in range.
     fn fault_after(
         &self,

@@ -191,13 +191,3 @@ fn a_replaced_trade_keeps_its_place(rt: HostRuntime) -> Result<(), Fail> {
     assert!(rt; has_amount(&live, &first, 7));
     Ok(())
 }
-
-#[test]
-fn its_parameters_tell_the_calculation_currency(rt: HostRuntime) -> Result<(), Fail> {
-    let alloc = rt.alloc();
-    let live = live(alloc)?;
-    let params = live.params();
-    assert!(rt; params.is_calculation_currency(&read_name(alloc, "USD")?));
-    assert!(rt; !params.is_calculation_currency(&read_name(alloc, "EUR")?));
-    Ok(())
-}
