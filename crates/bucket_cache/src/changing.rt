@@ -1,4 +1,4 @@
-//! Changes of the current trades, none of which needs memory.
+//! Changes of the current trades. Only the copies of trades and the list of different names take memory.
 ghost use Rattle.std.specs.Prelude.{◌≡◌, ◌+◌, ◌≤◌, ◌<◌, ◌^◌, ℕ, List, length, not, position, IfOk};
 ghost use Rattle.std.specs.List.{list_any, filter};
 ghost use Rattle.indexmap.specs.IndexMap.{spare};

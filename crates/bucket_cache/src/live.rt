@@ -39,7 +39,7 @@ impl Model for LiveMargin {
 }
 
 impl LiveMargin {
-    /// A live margin without trades.
+    /// A live margin without trades. Want of memory is the only error.
     pub fn new(alloc: Global, params: Params) -> Result<LiveMargin, AllocError>
         ensures { IfOk result (λ live. live ≡ record { params = params; book = [] }) }
     {
@@ -96,7 +96,7 @@ impl LiveMargin {
         Ok(())
     }
 
-    /// The margin of the current trades, with all of its parts.
+    /// The margin of the current trades, with all of its parts. Want of memory is the only error.
     pub fn margin(&mut self, alloc: Global) -> Result<Breakdown, AllocError>
         ensures value { IfOk result (λ b. b ≡ simm self.old.params (rows_of self.old.book)) }
         ensures unchanged { self.new ≡ self.old }

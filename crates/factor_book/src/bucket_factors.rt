@@ -37,6 +37,7 @@ impl BucketFactors {
         }
     }
 
+    /// Whether there are no factors.
     pub fn is_empty(&self) -> bool
         ensures { IsTrue result ↔ (self.now ≡ []) }
     {

@@ -87,7 +87,7 @@ impl Factors {
     }
 
     /// The keys of the rows of one bucket, in order, among them that of a calculation currency. The cost is that
-    /// bucket's keys, and not the book's.
+    /// bucket's keys, and not the book's. Want of memory is the only error.
     pub fn keys_of(
         &self,
         alloc: Global,
