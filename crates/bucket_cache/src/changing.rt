@@ -1,4 +1,4 @@
-//! Changes of the current trades. Only the copies of trades and the list of different names take memory.
+//! Changes of the current trades. Only `copies_of` and `distinct_names` take memory.
 ghost use Rattle.std.specs.Prelude.{◌≡◌, ◌+◌, ◌≤◌, ◌<◌, ◌^◌, ℕ, List, length, not, position, IfOk};
 ghost use Rattle.std.specs.List.{list_any, filter};
 ghost use Rattle.indexmap.specs.IndexMap.{spare};
@@ -62,29 +62,29 @@ fn is_current(current: &IndexMap<Name, Listed<CrifRow>>, name: &Name) -> bool
 }
 
 /// The different names.
-pub fn set_of(alloc: Global, names: &[Name]) -> Result<IndexSet<&Name>, AllocError>
-    ensures { IfOk result (λ set. (name : List ℕ) → is_among set.keys name ≡ list_any (same_name name) names.now) }
+pub fn distinct_names(alloc: Global, names: &[Name]) -> Result<IndexSet<&Name>, AllocError>
+    ensures { IfOk result (λ distinct. (name : List ℕ) → is_among distinct.keys name ≡ list_any (same_name name) names.now) }
 {
-    let mut set = IndexSet::with_capacity(alloc, names.len())?;
+    let mut distinct = IndexSet::with_capacity(alloc, names.len())?;
     for name in names {
-        set.insert(name)?;
+        distinct.insert(name)?;
     }
-    Ok(set)
+    Ok(distinct)
 }
 
-/// Keeps the trades whose names are not in the set.
-pub fn keep_others(current: &mut IndexMap<Name, Listed<CrifRow>>, set: &IndexSet<&Name>)
-    ensures { current.new.entries ≡ filter (λ e. not (is_among set.now.keys e.0)) current.old.entries }
+/// Keeps the trades whose names are not among these.
+pub fn keep_others(current: &mut IndexMap<Name, Listed<CrifRow>>, names: &IndexSet<&Name>)
+    ensures { current.new.entries ≡ filter (λ e. not (is_among names.now.keys e.0)) current.old.entries }
 {
     current.retain(
         |name: &Name, rows: &mut Listed<CrifRow>| -> bool
-            ensures { (result ≡ not (is_among set.entry.now.keys name.now)) × (rows.new ≡ rows.old) }
-        { !has_name(set, name) },
+            ensures { (result ≡ not (is_among names.entry.now.keys name.now)) × (rows.new ≡ rows.old) }
+        { !has_name(names, name) },
     );
 }
 
-fn has_name(set: &IndexSet<&Name>, name: &Name) -> bool
-    ensures { result ≡ is_among set.now.keys name.now }
+fn has_name(names: &IndexSet<&Name>, name: &Name) -> bool
+    ensures { result ≡ is_among names.now.keys name.now }
 {
-    set.contains(&name)
+    names.contains(&name)
 }

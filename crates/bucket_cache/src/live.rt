@@ -8,7 +8,7 @@ ghost use Rattle.simm_rules.specs.Range.{range};
 ghost use Rattle.simm_rules.specs.Simm.{simm};
 ghost use Rattle.bucket_cache.specs.Live.{put_trades, without, first_unknown, name_at, rows_named};
 
-use crate::changing::{copies_of, first_unknown, keep_others, put_all, set_of};
+use crate::changing::{copies_of, distinct_names, first_unknown, keep_others, put_all};
 use crate::fault::{SubmitFault, WithdrawFault};
 use crate::lending::{lend_after, lend_current};
 use indexmap::IndexMap;
@@ -90,7 +90,7 @@ impl LiveMargin {
         if let Some(place) = first_unknown(&self.trades, names) {
             return Err(WithdrawFault::UnknownTrade { place });
         }
-        let named = set_of(alloc, names)?;
+        let named = distinct_names(alloc, names)?;
         fewer_are_in_range(&self.params);
         keep_others(&mut self.trades, &named);
         Ok(())
