@@ -5,7 +5,7 @@ ghost use Rattle.std.specs.BTreeMap.{is_at};
 ghost use Rattle.simm_kinds.specs.Key.{Key};
 ghost use Rattle.simm_kinds.specs.Order.{same_key};
 ghost use Rattle.factor_book.specs.Holdings.{CanGrow, CanShrink, grown, shrunk};
-ghost use Rattle.factor_book.specs.Place.{place_cmp};
+ghost use Rattle.factor_book.specs.Place.{place_of, place_cmp};
 ghost use Rattle.factor_book.specs.Filing.{AreFiled, found};
 
 use crate::bucket_factors::BucketFactors;
@@ -47,41 +47,23 @@ pub fn take_row(filed: &mut BTreeMap<Place, BucketFactors>, row: &CrifRow)
     ensures taken { (k : Key) → found filed.new.entries k
         ≡ cond (same_key row.now.key k) (shrunk (found filed.old.entries row.now.key) row.now.amount) (found filed.old.entries k) }
 {
-    take_filed(filed, row);
-    drop_empty(filed, Place::of(&row.key));
+    if take_filed(filed, row) {
+        filed.remove(&Place::of(&row.key));
+    }
 }
 
-/// Takes a row of a key that is there; its place stays.
-fn take_filed(filed: &mut BTreeMap<Place, BucketFactors>, row: &CrifRow)
+/// Takes a row of a key that is there, and tells whether its place is left without factors; the place stays.
+fn take_filed(filed: &mut BTreeMap<Place, BucketFactors>, row: &CrifRow) -> bool
     requires filing { AreFiled filed.old.entries }
     requires held { IsSomeAnd (found filed.old.entries row.now.key) CanShrink }
     ensures filing { AreFiled filed.new.entries }
     ensures taken { (k : Key) → found filed.new.entries k
         ≡ cond (same_key row.now.key k) (shrunk (found filed.old.entries row.now.key) row.now.amount) (found filed.old.entries k) }
+    ensures emptied { IsTrue result → lookup (is_at (place_cmp (place_of row.now.key))) filed.new.entries ≡ Some [] }
 {
-    match filed.get_mut(&Place::of(&row.key)) {
-        Some(factors) => factors.take(row),
-        None => {}
-    }
-}
-
-/// Drops a place without factors.
-fn drop_empty(filed: &mut BTreeMap<Place, BucketFactors>, place: Place)
-    requires { AreFiled filed.old.entries }
-    ensures filing { AreFiled filed.new.entries }
-    ensures same { (k : Key) → found filed.new.entries k ≡ found filed.old.entries k }
-{
-    if is_empty_at(filed, place) {
-        filed.remove(&place);
-    }
-}
-
-/// Whether a place is there, without factors.
-fn is_empty_at(filed: &BTreeMap<Place, BucketFactors>, place: Place) -> bool
-    ensures { IsTrue result → lookup (is_at (place_cmp place)) filed.now.entries ≡ Some [] }
-{
-    match filed.get(&place) {
-        Some(factors) => factors.is_empty(),
-        None => false,
-    }
+    let Some(factors) = filed.get_mut(&Place::of(&row.key)) else {
+        return false;
+    };
+    factors.take(row);
+    factors.is_empty()
 }

@@ -8,7 +8,7 @@ use Rattle.factor_book.specs.declared.holding.Holding.{Holding}
 use Rattle.factor_book.specs.Place.{place_of, place_cmp}
 use Rattle.factor_book.specs.Holdings.{CanShrink, shrunk}
 use Rattle.factor_book.specs.Filing.{found, found_in}
-use Rattle.factor_book.proofs.Standing.{lookup_place, updated_place, ordered_places}
+use Rattle.factor_book.proofs.Standing.{own_place, lookup_place, updated_place, ordered_places}
 use Rattle.factor_book.proofs.Filed.{filed_written, found_written, found_at}
 use Rattle.factor_book.proofs.filing.take_filed.Goals as goal
 
@@ -18,8 +18,8 @@ take-requires c =
     c.in-Some.ensures.value ∙ lookup_place c.of.result c.args.filed.now.entries ∙ ap (λ p. lookup (is_at (place_cmp p)) c.args.filed.now.entries) c.of.ensures in
     subst (λ (o : Option Holding). IsSomeAnd o CanShrink) (sym (found_at c.args.filed.now.entries c.args.row.now.key c.in-Some.factors.now at)) c.requires.held
 
-pub returns-in-Some : goal.returns-in-Some
-returns-in-Some c =
+pub returns : goal.returns
+returns c =
     let old = c.args.filed.now.entries in
     let now = c.take.new.self in
     let new = (c.get_mut.follows.lender now).entries in
@@ -34,12 +34,13 @@ returns-in-Some c =
     record {
       filing = filed_written old new key c.in-Some.factors.now now (shrunk (found old key) c.args.row.now.amount) c.requires.filing at (ordered_places new writes.4) update put;
       taken = found_written old new key c.in-Some.factors.now now (shrunk (found old key) c.args.row.now.amount) at update put;
+      emptied = λ left. update (place_of key) ∙ ap (λ b. cond b (Some now) (lookup (is_at (place_cmp (place_of key))) old)) (own_place (place_of key)) ∙ ap Some (c.is_empty.ensures.0 left);
     }
 
 none_found : (old : List (Place × List (Key × Holding))) (key : Key) (place : Place) → None ≡ lookup (is_at (place_cmp place)) old → place ≡ place_of key → IsSomeAnd (found old key) CanShrink → ⊥
 none_found old key place at same held =
     subst (λ (o : Option (List (Key × Holding))). IsSomeAnd (found_in o key) CanShrink) (sym (at ∙ ap (λ p. lookup (is_at (place_cmp p)) old) same)) held
 
-pub returns-in-None : goal.returns-in-None
-returns-in-None c =
-    absurd (none_found c.args.filed.now.entries c.args.row.now.key c.of.result (c.in-None.ensures.value ∙ lookup_place c.of.result c.args.filed.now.entries) c.of.ensures c.requires.held)
+pub returns-in_default : goal.returns-in_default
+returns-in_default c =
+    absurd (none_found c.args.filed.now.entries c.args.row.now.key c.of.result (c.in_default.ensures.value ∙ lookup_place c.of.result c.args.filed.now.entries) c.of.ensures c.requires.held)
