@@ -92,16 +92,15 @@ impl BucketFactors {
         ensures { (k : Key) → lookup (same_key k) self.new
             ≡ cond (same_key row.now.key k) (shrunk (lookup (same_key row.now.key) self.old) row.now.amount) (lookup (same_key k) self.old) }
     {
-        match self.by_key.get_mut(&row.key) {
-            Some(holding) => match holding.shrunk(row.amount) {
+        if let Some(holding) = self.by_key.get_mut(&row.key) {
+            match holding.shrunk(row.amount) {
                 Some(left) => {
                     *holding = left;
                 }
                 None => {
                     self.by_key.remove(&row.key);
                 }
-            },
-            None => {}
+            }
         }
     }
 }
