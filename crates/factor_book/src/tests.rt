@@ -130,18 +130,19 @@ fn turned_rows(alloc: Global) -> Result<Factors, Fail> {
 #[test]
 fn rows_in_another_order_make_the_same_book(rt: HostRuntime) -> Result<(), Fail> {
     let alloc = rt.alloc();
-    let straight = first_rows(alloc, ROWS.len())?;
     let turned = turned_rows(alloc)?;
     turned.facts();
     order_is_free();
-    for (_, product, currency, _) in NETS {
-        let key = key(alloc, product, currency)?;
-        assert_eq!(rt; turned.net(&key), straight.net(&key));
+    for (stay, product, currency, net) in NETS {
+        if stay == ROWS.len() {
+            assert_eq!(rt; turned.net(&key(alloc, product, currency)?), net);
+        }
     }
-    for (_, product, measure, _) in KEYS {
-        let wanted = currencies(alloc, &straight, product, measure)?;
-        let found = currencies(alloc, &turned, product, measure)?;
-        assert_eq!(rt; found.as_slice(), wanted.as_slice());
+    for (stay, product, measure, text) in KEYS {
+        if stay == ROWS.len() {
+            let found = currencies(alloc, &turned, product, measure)?;
+            assert_eq!(rt; found.as_slice(), text.as_bytes());
+        }
     }
     Ok(())
 }
