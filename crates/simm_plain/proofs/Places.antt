@@ -19,11 +19,11 @@ use Rattle.simm_rules.specs.Delta.{combined}
 use Rattle.simm_params.specs.declared.category.VolatilityCategory.TheVariants.{Regular, High}
 use Rattle.simm_params.specs.Categories.{volatility, category_rho}
 use Rattle.simm_params.specs.Facts.{IsParams}
-use Rattle.simm_plain.specs.declared.place.Place.{Place}
+use Rattle.simm_plain.specs.declared.currency_traits.CurrencyTraits.{CurrencyTraits}
 use Rattle.simm_plain.specs.FxKeys.{fx_key, IsFxKey}
 use Rattle.simm_plain.specs.Bucket.{factor_cr, factor_weighted, factor_corr, factor_sum, Ascends, IsFactor}
-use Rattle.simm_plain.specs.Correlated.{rho_of, place_corr, no_place, place_at, corr_at}
-use Rattle.simm_plain.specs.Weighing.{place_of}
+use Rattle.simm_plain.specs.Correlated.{rho_of, traits_corr, no_traits, traits_at, corr_at}
+use Rattle.simm_plain.specs.Weighing.{traits_of}
 use Rattle.simm_plain.proofs.Keys.{same_key_refl, same_key_sym}
 use Rattle.simm_plain.proofs.Weights.{weighed, net_thick, cr_size}
 
@@ -66,29 +66,29 @@ key_rho : (p : Params) (k l : Key) → IsFxKey k → rho_of p (volatility p k.qu
 key_rho p k l f = ap (λ z. pos 100 *ℤ z) (by_category p (is_high p k.qualifier) (is_high p l.qualifier)) ∙ sym (ap (λ x. delta_rho_of x.kind p x l) f)
 
 module _ (p : Params) where
-  corr_is : (e f : Key × ℤ) → IsFxKey e.0 → place_corr p (place_of p e) (place_of p f) ≡ combined (delta_rho_of e.0.kind p e.0 f.0) (ratio (factor_cr p e) (factor_cr p f))
+  corr_is : (e f : Key × ℤ) → IsFxKey e.0 → traits_corr p (traits_of p e) (traits_of p f) ≡ combined (delta_rho_of e.0.kind p e.0 f.0) (ratio (factor_cr p e) (factor_cr p f))
   corr_is e f g = ap (λ z. combined z (ratio (factor_cr p e) (factor_cr p f))) (key_rho p e.0 f.0 g)
 
-  places_corr : (es : List (Key × ℤ)) (places : List Place) (d : Key × ℤ) → places ≡ map (place_of p) es → AllByRecursion (IsFactor p) es → Ascends key_cmp (map (λ e. e.0) es) → (i j : ℕ) → i < length es → j < length es → corr_at p places i j ≡ factor_corr p (get_or es i d) (get_or es j d)
-  places_corr es places d e each s i j l m =
-      let first : place_at places i ≡ place_of p (get_or es i d) = ap (λ ps. get_or ps i no_place) e ∙ get_or-map (place_of p) es i d no_place l in
-      let second : place_at places j ≡ place_of p (get_or es j d) = ap (λ ps. get_or ps j no_place) e ∙ get_or-map (place_of p) es j d no_place m in
+  places_corr : (es : List (Key × ℤ)) (currencies : List CurrencyTraits) (d : Key × ℤ) → currencies ≡ map (traits_of p) es → AllByRecursion (IsFactor p) es → Ascends key_cmp (map (λ e. e.0) es) → (i j : ℕ) → i < length es → j < length es → corr_at p currencies i j ≡ factor_corr p (get_or es i d) (get_or es j d)
+  places_corr es currencies d e each s i j l m =
+      let first : traits_at currencies i ≡ traits_of p (get_or es i d) = ap (λ ps. get_or ps i no_traits) e ∙ get_or-map (traits_of p) es i d no_traits l in
+      let second : traits_at currencies j ≡ traits_of p (get_or es j d) = ap (λ ps. get_or ps j no_traits) e ∙ get_or-map (traits_of p) es j d no_traits m in
       let count : length (map (λ (x : Key × ℤ). x.0) es) ≡ length es = length-map es (λ (x : Key × ℤ). x.0) in
       let key_i : get_or (map (λ (x : Key × ℤ). x.0) es) i d.0 ≡ (get_or es i d).0 = get_or-map (λ (x : Key × ℤ). x.0) es i d d.0 l in
       let key_j : get_or (map (λ (x : Key × ℤ). x.0) es) j d.0 ≡ (get_or es j d).0 = get_or-map (λ (x : Key × ℤ). x.0) es j d d.0 m in
       let same : same_key (get_or es i d).0 (get_or es j d).0 ≡ (i == j) =
       ap (λ k. same_key k (get_or es j d).0) (sym key_i) ∙ ap (λ k. same_key (get_or (map (λ (x : Key × ℤ). x.0) es) i d.0) k) (sym key_j)
       ∙ same_place (map (λ (x : Key × ℤ). x.0) es) i j d.0 s (omega arith) (omega arith) in
-      ap (λ a. if i == j then one else place_corr p a (place_at places j)) first
-      ∙ ap (λ b. if i == j then one else place_corr p (place_of p (get_or es i d)) b) second
+      ap (λ a. if i == j then one else traits_corr p a (traits_at currencies j)) first
+      ∙ ap (λ b. if i == j then one else traits_corr p (traits_of p (get_or es i d)) b) second
       ∙ ap (λ z. if i == j then one else z) (corr_is (get_or es i d) (get_or es j d) (each_at (IsFactor p) es i d each l).fx)
       ∙ ap (λ t. if t then one else combined (delta_rho_of (get_or es i d).0.kind p (get_or es i d).0 (get_or es j d).0) (ratio (factor_cr p (get_or es i d)) (factor_cr p (get_or es j d)))) (sym same)
       ∙ rho_once (same_key (get_or es i d).0 (get_or es j d).0) (delta_rho_of (get_or es i d).0.kind p (get_or es i d).0 (get_or es j d).0) (ratio (factor_cr p (get_or es i d)) (factor_cr p (get_or es j d)))
 
   -- the sum over places is that over factors
-  pub sum_is : (es : List (Key × ℤ)) (places : List Place) (ws : List ℤ) → places ≡ map (place_of p) es → ws ≡ map (factor_weighted p) es → AllByRecursion (IsFactor p) es → Ascends key_cmp (map (λ e. e.0) es) → pair_total (corr_at p places) ws ≡ factor_sum p es
-  sum_is es places ws e w each s =
-      pair_total-keys (factor_corr p) (factor_weighted p) es (fx_key product.RatesFX [], pos 0) (corr_at p places) ws w (places_corr es places (fx_key product.RatesFX [], pos 0) e each s)
+  pub sum_is : (es : List (Key × ℤ)) (currencies : List CurrencyTraits) (ws : List ℤ) → currencies ≡ map (traits_of p) es → ws ≡ map (factor_weighted p) es → AllByRecursion (IsFactor p) es → Ascends key_cmp (map (λ e. e.0) es) → pair_total (corr_at p currencies) ws ≡ factor_sum p es
+  sum_is es currencies ws e w each s =
+      pair_total-keys (factor_corr p) (factor_weighted p) es (fx_key product.RatesFX [], pos 0) (corr_at p currencies) ws w (places_corr es currencies (fx_key product.RatesFX [], pos 0) e each s)
 
 -- ---- concentrations of places
 
@@ -101,14 +101,14 @@ factor_thick p e facts f = net_thick e.1 (weight p e.0) (delta_threshold p e.0) 
 pub factor_cr_size : (p : Params) (e : Key × ℤ) → IsParams p → IsFactor p e → unsigned_abs (factor_cr p e) ≤ 346999999
 factor_cr_size p e facts f = cr_size e.1 (delta_threshold p e.0) (weighed p e.0 facts f.fx f.risky).low (factor_thick p e facts f)
 
-each_place : (P : Place → Type 0) (p : Params) (es : List (Key × ℤ)) → ((e : Key × ℤ) → IsFactor p e → P (place_of p e)) → AllByRecursion (IsFactor p) es → AllByRecursion P (map (place_of p) es)
-each_place P p [] f h = tt
-each_place P p (e ∷ es) f h = (f e h.0, each_place P p es f h.1)
+each_traits : (P : CurrencyTraits → Type 0) (p : Params) (es : List (Key × ℤ)) → ((e : Key × ℤ) → IsFactor p e → P (traits_of p e)) → AllByRecursion (IsFactor p) es → AllByRecursion P (map (traits_of p) es)
+each_traits P p [] f h = tt
+each_traits P p (e ∷ es) f h = (f e h.0, each_traits P p es f h.1)
 
-pub places_from_one : (p : Params) (es : List (Key × ℤ)) (places : List Place) → places ≡ map (place_of p) es → AllByRecursion (IsFactor p) es → All (λ place. one ≤ℤ place.cr.0) places
-places_from_one p es places e each =
-    All-from_recursion (λ (place : Place). one ≤ℤ place.cr.0) places (subst (AllByRecursion (λ (place : Place). one ≤ℤ place.cr.0)) (sym e) (each_place (λ place. one ≤ℤ place.cr.0) p es (λ x f. cr_low x.1 (delta_threshold p x.0)) each))
+pub traits_from_one : (p : Params) (es : List (Key × ℤ)) (currencies : List CurrencyTraits) → currencies ≡ map (traits_of p) es → AllByRecursion (IsFactor p) es → All (λ traits. one ≤ℤ traits.cr.0) currencies
+traits_from_one p es currencies e each =
+    All-from_recursion (λ (traits : CurrencyTraits). one ≤ℤ traits.cr.0) currencies (subst (AllByRecursion (λ (traits : CurrencyTraits). one ≤ℤ traits.cr.0)) (sym e) (each_traits (λ traits. one ≤ℤ traits.cr.0) p es (λ x f. cr_low x.1 (delta_threshold p x.0)) each))
 
-pub places_below : (p : Params) (es : List (Key × ℤ)) (places : List Place) → IsParams p → places ≡ map (place_of p) es → AllByRecursion (IsFactor p) es → All (λ place. place.cr.0 <ℤ pos 347000000) places
-places_below p es places facts e each =
-    All-from_recursion (λ (place : Place). place.cr.0 <ℤ pos 347000000) places (subst (AllByRecursion (λ (place : Place). place.cr.0 <ℤ pos 347000000)) (sym e) (each_place (λ place. place.cr.0 <ℤ pos 347000000) p es (λ x f. omega (arith, ints, factor_cr_size p x facts f)) each))
+pub traits_below : (p : Params) (es : List (Key × ℤ)) (currencies : List CurrencyTraits) → IsParams p → currencies ≡ map (traits_of p) es → AllByRecursion (IsFactor p) es → All (λ traits. traits.cr.0 <ℤ pos 347000000) currencies
+traits_below p es currencies facts e each =
+    All-from_recursion (λ (traits : CurrencyTraits). traits.cr.0 <ℤ pos 347000000) currencies (subst (AllByRecursion (λ (traits : CurrencyTraits). traits.cr.0 <ℤ pos 347000000)) (sym e) (each_traits (λ traits. traits.cr.0 <ℤ pos 347000000) p es (λ x f. omega (arith, ints, factor_cr_size p x facts f)) each))

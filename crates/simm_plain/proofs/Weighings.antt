@@ -6,13 +6,13 @@ use Rattle.pair_sum.specs.PairTotal.{weights}
 use Rattle.simm_kinds.specs.Key.{Key}
 use Rattle.simm_rules.specs.Params.{Params}
 use Rattle.simm_plain.specs.declared.net.Net.{Net}
-use Rattle.simm_plain.specs.declared.place.Place.{Place}
+use Rattle.simm_plain.specs.declared.currency_traits.CurrencyTraits.{CurrencyTraits}
 use Rattle.simm_plain.specs.Bucket.{IsFactor, factor_weighted}
 use Rattle.simm_plain.specs.Entries.{entry_of, entries}
-use Rattle.simm_plain.specs.Weighing.{place_of}
+use Rattle.simm_plain.specs.Weighing.{traits_of}
 
-pub record AreWeighed (p : Params) (es : List (Key × ℤ)) (places : List Place) (items : List Item) : Type 0 where
-  pub placed : places ≡ map (place_of p) es
+pub record AreWeighed (p : Params) (es : List (Key × ℤ)) (currencies : List CurrencyTraits) (items : List Item) : Type 0 where
+  pub placed : currencies ≡ map (traits_of p) es
   pub weighed : weights items ≡ map (factor_weighted p) es
 
 pub factor_at : (p : Params) (nets : List Net) (i : ℕ) (n : Net) → AllByRecursion (IsFactor p) (entries nets) → i < length nets → n ≡ get_or nets i n → IsFactor p (entry_of n)

@@ -14,8 +14,8 @@ use Rattle.simm_params.specs.declared.category.VolatilityCategory.{VolatilityCat
 use Rattle.simm_params.specs.declared.category.VolatilityCategory.TheVariants.{Regular, High}
 use Rattle.simm_params.specs.Categories.{category_rho}
 use Rattle.simm_params.specs.Facts.{IsParams}
-use Rattle.simm_plain.specs.declared.place.Place.{Place}
-use Rattle.simm_plain.specs.Correlated.{rho_of, place_corr, place_at, corr_at}
+use Rattle.simm_plain.specs.declared.currency_traits.CurrencyTraits.{CurrencyTraits}
+use Rattle.simm_plain.specs.Correlated.{rho_of, traits_corr, traits_at, corr_at}
 
 rho_of-symmetric : (p : Params) (a b : VolatilityCategory) → rho_of p a b ≡ rho_of p b a
 rho_of-symmetric p High High = refl
@@ -50,12 +50,12 @@ trunc_small : (a : ℤ) → unsigned_abs a ≤ 1000000 * 1000000 → unsigned_ab
 trunc_small (pos n) h = omega (arith, div_below n 1000000 1000001 (omega arith) (omega arith))
 trunc_small (negsuc n) h = omega (arith, ints, unsigned_abs-neg (pos (suc n / 1000000)), div_below (suc n) 1000000 1000001 (omega arith) (omega arith))
 
-place_corr-small : (p : Params) (a b : Place) → IsParams p → one ≤ℤ a.cr.0 → one ≤ℤ b.cr.0 → unsigned_abs (place_corr p a b) ≤ 1000000
-place_corr-small p a b facts low_a low_b =
+traits_corr-small : (p : Params) (a b : CurrencyTraits) → IsParams p → one ≤ℤ a.cr.0 → one ≤ℤ b.cr.0 → unsigned_abs (traits_corr p a b) ≤ 1000000
+traits_corr-small p a b facts low_a low_b =
     trunc_small (rho_of p a.category b.category *ℤ ratio a.cr.0 b.cr.0) (product_size (rho_of p a.category b.category) (ratio a.cr.0 b.cr.0) 1000000 1000000 (rho_of-small p a.category b.category facts) (ratio-small a.cr.0 b.cr.0 low_a low_b))
 
-place_corr-symmetric : (p : Params) (a b : Place) → place_corr p a b ≡ place_corr p b a
-place_corr-symmetric p a b =
+traits_corr-symmetric : (p : Params) (a b : CurrencyTraits) → traits_corr p a b ≡ traits_corr p b a
+traits_corr-symmetric p a b =
     ap (λ z. combined z (ratio a.cr.0 b.cr.0)) (rho_of-symmetric p a.category b.category) ∙ ap (λ z. combined (rho_of p b.category a.category) z) (ratio-symmetric a.cr.0 b.cr.0)
 
 chosen_symmetric : (s t : Bool) (x y : ℤ) → s ≡ t → x ≡ y → (if s then one else x) ≡ (if t then one else y)
@@ -64,18 +64,18 @@ chosen_symmetric s t x y e f = ap (λ b. if b then one else x) e ∙ ap (λ z. i
 same_place : (i j : ℕ) → (i == j) ≡ (j == i)
 same_place i j = grind (arith, nat_tests)
 
-pub corr_at-symmetric : (p : Params) (places : List Place) (i j : ℕ) → corr_at p places i j ≡ corr_at p places j i
-corr_at-symmetric p places i j = chosen_symmetric (i == j) (j == i) _ _ (same_place i j) (place_corr-symmetric p (place_at places i) (place_at places j))
+pub corr_at-symmetric : (p : Params) (currencies : List CurrencyTraits) (i j : ℕ) → corr_at p currencies i j ≡ corr_at p currencies j i
+corr_at-symmetric p currencies i j = chosen_symmetric (i == j) (j == i) _ _ (same_place i j) (traits_corr-symmetric p (traits_at currencies i) (traits_at currencies j))
 
 chosen_small : (t : Bool) (x : ℤ) → unsigned_abs x ≤ 1000000 → unsigned_abs (if t then one else x) ≤ 1000000
 chosen_small true x h = omega arith
 chosen_small false x h = h
 
-pub corr_at-small : (p : Params) (places : List Place) (i j : ℕ) → IsParams p → one ≤ℤ (place_at places i).cr.0 → one ≤ℤ (place_at places j).cr.0 → unsigned_abs (corr_at p places i j) ≤ 1000000
-corr_at-small p places i j facts low_i low_j = chosen_small (i == j) (place_corr p (place_at places i) (place_at places j)) (place_corr-small p (place_at places i) (place_at places j) facts low_i low_j)
+pub corr_at-small : (p : Params) (currencies : List CurrencyTraits) (i j : ℕ) → IsParams p → one ≤ℤ (traits_at currencies i).cr.0 → one ≤ℤ (traits_at currencies j).cr.0 → unsigned_abs (corr_at p currencies i j) ≤ 1000000
+corr_at-small p currencies i j facts low_i low_j = chosen_small (i == j) (traits_corr p (traits_at currencies i) (traits_at currencies j)) (traits_corr-small p (traits_at currencies i) (traits_at currencies j) facts low_i low_j)
 
 itself : (i : ℕ) → (i == i) ≡ true
 itself i = grind (arith, nat_tests)
 
-pub corr_at-one : (p : Params) (places : List Place) (i : ℕ) → corr_at p places i i ≡ one
-corr_at-one p places i = ap (λ b. if b then one else place_corr p (place_at places i) (place_at places i)) (itself i)
+pub corr_at-one : (p : Params) (currencies : List CurrencyTraits) (i : ℕ) → corr_at p currencies i i ≡ one
+corr_at-one p currencies i = ap (λ b. if b then one else traits_corr p (traits_at currencies i) (traits_at currencies i)) (itself i)

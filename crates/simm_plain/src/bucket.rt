@@ -50,7 +50,7 @@ fn bucket_sum<L: Ledger>(
     let weighed = weigh(alloc, params, nets)?;
     let correlation = FxCorrelation {
         params,
-        places: weighed.places,
+        currencies: weighed.currencies,
     };
     let mut steps = Steps::<L>::new(blank);
     Ok(pair_sum(weighed.items.as_slice(), &correlation, &mut steps))

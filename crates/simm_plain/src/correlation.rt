@@ -1,10 +1,10 @@
 ghost use Rattle.std.specs.Prelude.{◌≡◌, ◌≤◌, ◌<◌, length, All, unsigned_abs, ◌≤ℤ◌, ◌<ℤ◌, pos, ◌*ℤ◌};
 ghost use Rattle.simm_rules.specs.Concentration.{one};
 ghost use Rattle.simm_params.specs.Facts.{IsParams};
-ghost use Rattle.simm_plain.specs.Correlated.{rho_of, place_corr, place_at, corr_at};
+ghost use Rattle.simm_plain.specs.Correlated.{rho_of, traits_corr, traits_at, corr_at};
 ghost use Rattle.simm_plain.specs.CorrelatedLaws.{corr_at-symmetric, corr_at-small, corr_at-one};
 
-use crate::place::Place;
+use crate::currency_traits::CurrencyTraits;
 use concentration::{combine, ratio};
 use mh_units::{Corr6, Rate4};
 use pair_sum::Correlation;
@@ -14,10 +14,10 @@ use simm_params::{Params, VolatilityCategory};
 #[derive(Drop)]
 pub struct FxCorrelation<'a> {
     pub params: &'a Params,
-    pub places: Vec<Place>,
+    pub currencies: Vec<CurrencyTraits>,
     ghost params_in_range: { IsParams params.now },
-    ghost from_one: { All (λ place. one ≤ℤ place.cr.0) places.items },
-    ghost below: { All (λ place. place.cr.0 <ℤ pos 347000000) places.items },
+    ghost from_one: { All (λ traits. one ≤ℤ traits.cr.0) currencies.items },
+    ghost below: { All (λ traits. traits.cr.0 <ℤ pos 347000000) currencies.items },
 }
 
 impl FxCorrelation<'_> {
@@ -31,26 +31,26 @@ impl FxCorrelation<'_> {
 }
 
 impl Correlation for FxCorrelation<'_> {
-    ghost size = { λ x. length x.places.items };
+    ghost size = { λ x. length x.currencies.items };
 
-    ghost corr = { λ x. corr_at x.params.now x.places.items };
+    ghost corr = { λ x. corr_at x.params.now x.currencies.items };
 
-    ghost symmetric = { λ x i j _ _. corr_at-symmetric x.params.now x.places.items i j };
+    ghost symmetric = { λ x i j _ _. corr_at-symmetric x.params.now x.currencies.items i j };
 
-    ghost at_most_one = { λ x i j p q. corr_at-small x.params.now x.places.items i j x.params_in_range (x.from_one i _ p) (x.from_one j _ q) };
+    ghost at_most_one = { λ x i j p q. corr_at-small x.params.now x.currencies.items i j x.params_in_range (x.from_one i _ p) (x.from_one j _ q) };
 
-    ghost one_with_itself = { λ x i _. corr_at-one x.params.now x.places.items i };
+    ghost one_with_itself = { λ x i _. corr_at-one x.params.now x.currencies.items i };
 
     fn size(&self) -> usize {
-        self.places.len()
+        self.currencies.len()
     }
 
     fn corr(&self, i: usize, j: usize) -> Corr6 {
         if i == j {
             return Corr6(1_000_000);
         }
-        let a = self.places[i];
-        let b = self.places[j];
+        let a = self.currencies[i];
+        let b = self.currencies[j];
         combine(self.rho(a.category, b.category), ratio(a.cr, b.cr))
     }
 }

@@ -3,58 +3,58 @@ ghost use Rattle.std.specs.List.{AllByRecursion};
 ghost use Rattle.pair_sum.specs.PairTotal.{weights};
 ghost use Rattle.simm_plain.specs.Bucket.{IsFactor, factor_weighted, weighted_net};
 ghost use Rattle.simm_plain.specs.Entries.{entry_of, entries};
-ghost use Rattle.simm_plain.specs.Weighing.{place_of};
+ghost use Rattle.simm_plain.specs.Weighing.{traits_of};
 
+use crate::currency_traits::CurrencyTraits;
 use crate::net::Net;
-use crate::place::Place;
 use concentration::cr;
 use mh_units::{Corr6, Rate4, div_away};
 use pair_sum::Item;
 use simm_params::Params;
 use std::alloc::{AllocError, Global};
 
-/// The factors of a bucket, each with its place and its weighted sensitivity.
+/// The factors of a bucket, each with the traits of its currency and its weighted sensitivity.
 #[derive(Drop)]
 pub struct Weighed {
-    pub places: Vec<Place>,
+    pub currencies: Vec<CurrencyTraits>,
     pub items: Vec<Item>,
 }
 
 /// Looks up what each factor needs, once, and weighs it.
 pub fn weigh(alloc: Global, params: &Params, nets: &[Net]) -> Result<Weighed, AllocError>
     requires { AllByRecursion (IsFactor params.now) (entries nets.now) }
-    ensures places { IfOk result (λ w. w.places.items ≡ map (place_of params.now) (entries nets.now)) }
+    ensures currencies { IfOk result (λ w. w.currencies.items ≡ map (traits_of params.now) (entries nets.now)) }
     ensures items { IfOk result (λ w. weights w.items.items ≡ map (factor_weighted params.now) (entries nets.now)) }
 {
-    let mut places = Vec::with_capacity(alloc, nets.len())?;
+    let mut currencies = Vec::with_capacity(alloc, nets.len())?;
     let mut items = Vec::with_capacity(alloc, nets.len())?;
     for net in nets {
-        let place = place(params, net);
-        items.push(item(params, net, place))?;
-        places.push(place)?;
+        let traits = traits(params, net);
+        items.push(item(params, net, traits))?;
+        currencies.push(traits)?;
     }
-    Ok(Weighed { places, items })
+    Ok(Weighed { currencies, items })
 }
 
-fn place(params: &Params, net: &Net) -> Place
+fn traits(params: &Params, net: &Net) -> CurrencyTraits
     requires { IsFactor params.now (entry_of net.now) }
-    ensures { result ≡ place_of params.now (entry_of net.now) }
+    ensures { result ≡ traits_of params.now (entry_of net.now) }
 {
     params.facts();
-    Place {
+    CurrencyTraits {
         category: params.volatility_category(net.key),
         cr: cr(net.amount, params.delta_threshold(net.key)),
     }
 }
 
-fn item(params: &Params, net: &Net, place: Place) -> Item
+fn item(params: &Params, net: &Net, traits: CurrencyTraits) -> Item
     requires factor { IsFactor params.now (entry_of net.now) }
-    requires place { place ≡ place_of params.now (entry_of net.now) }
+    requires traits { traits ≡ traits_of params.now (entry_of net.now) }
     ensures { result.w ≡ factor_weighted params.now (entry_of net.now) }
 {
     params.facts();
     Item {
-        w: weighted(params.fx_weight(place.category), net.amount, place.cr),
+        w: weighted(params.fx_weight(traits.category), net.amount, traits.cr),
     }
 }
 

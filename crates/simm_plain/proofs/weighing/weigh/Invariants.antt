@@ -4,4 +4,4 @@ use Rattle.simm_plain.proofs.Weighings.{AreWeighed}
 use Rattle.simm_plain.proofs.weighing.weigh.Given as goal
 
 abbrev pub invariant-loop-net : goal.invariant-loop-net
-invariant-loop-net l = AreWeighed l.params (entries (take l.net-index l.nets)) l.places.items l.items.items
+invariant-loop-net l = AreWeighed l.params (entries (take l.net-index l.nets)) l.currencies.items l.items.items

@@ -3,7 +3,7 @@ use Rattle.std.specs.Int.{w128, w64}
 use Rattle.mh_units.proofs.Integers.{same128, same64}
 use Rattle.simm_plain.specs.Entries.{entry_of}
 use Rattle.simm_plain.proofs.Places.{factor_thick}
-use Rattle.simm_plain.proofs.weighing.place.Goals as goal
+use Rattle.simm_plain.proofs.weighing.traits.Goals as goal
 
 pub cr-requires-clause-net_in_range : goal.cr-requires-clause-net_in_range
 cr-requires-clause-net_in_range c =

@@ -3,7 +3,7 @@ use simm_params::VolatilityCategory;
 
 /// What a currency's correlations with others depend on.
 #[derive(Clone, Copy, Debug)]
-pub struct Place {
+pub struct CurrencyTraits {
     pub category: VolatilityCategory,
     /// The concentration factor.
     pub cr: Corr6,
