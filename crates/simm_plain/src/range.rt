@@ -13,12 +13,24 @@ use simm_kinds::ProductClass;
 use simm_params::Params;
 use simm_rules::{RangeFault, RangeKind};
 
+/// The most rows of a book.
+const MOST_ROWS: i128 = 200_000;
+
+/// The most keys of a book.
+const MOST_KEYS: i128 = 20_000;
+
+/// The most keys of one bucket.
+const MOST_BUCKET_KEYS: i128 = 2_000;
+
+/// The greatest weighted size of a product class, in cents.
+const GREATEST_GROSS: i128 = 10_000_000_000_000;
+
 /// More rows than a book may have.
 pub fn count_fault(lent: &[LentRows]) -> Option<RangeFault>
     requires { length (all_rows lent.now) < 2 ^ 63 }
     ensures { result ≡ count_fault (all_rows lent.now) }
 {
-    above(RangeKind::RowCount, count_rows(lent) as i128, 200_000)
+    above(RangeKind::RowCount, count_rows(lent) as i128, MOST_ROWS)
 }
 
 /// The first of the other quantities that is above its limit: keys, keys of a product class's bucket, and weighted
@@ -66,7 +78,7 @@ fn count_rows(lent: &[LentRows]) -> usize
 fn key_fault(nets: &Nets) -> Option<RangeFault>
     ensures { result ≡ key_fault nets.now }
 {
-    above(RangeKind::KeyCount, nets.len() as i128, 20_000)
+    above(RangeKind::KeyCount, nets.len() as i128, MOST_KEYS)
 }
 
 fn first_bucket_fault(nets: &Nets) -> Option<RangeFault>
@@ -84,7 +96,11 @@ fn first_bucket_fault(nets: &Nets) -> Option<RangeFault>
 fn bucket_fault(nets: &Nets, product: ProductClass) -> Option<RangeFault>
     ensures { result ≡ bucket_fault nets.now product }
 {
-    above(RangeKind::BucketKeys, nets.count(product) as i128, 2_000)
+    above(
+        RangeKind::BucketKeys,
+        nets.count(product) as i128,
+        MOST_BUCKET_KEYS,
+    )
 }
 
 fn first_gross_fault(params: &Params, nets: &Nets) -> Option<RangeFault>
@@ -107,5 +123,5 @@ fn gross_fault(params: &Params, nets: &Nets, product: ProductClass) -> Option<Ra
     ensures { result ≡ gross_fault params.now nets.now product }
 {
     let cents = div_up(nets.gross(params, product), 10_000);
-    above(RangeKind::DeltaGross, cents, 10_000_000_000_000)
+    above(RangeKind::DeltaGross, cents, GREATEST_GROSS)
 }
