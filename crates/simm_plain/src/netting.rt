@@ -79,7 +79,7 @@ impl Nets {
     ) -> Result<Vec<Net<'a>>, AllocError>
         ensures { IfOk result (λ found. entries found.items ≡ factors params.now product (nets_in self.now)) }
     {
-        let mut found = Vec::with_capacity(alloc, self.by_key.len())?;
+        let mut found = Vec::with_capacity(alloc, self.count(product))?;
         for (key, sums) in &self.by_key {
             if has_product(key, product) && is_risky(key, params) {
                 found.push(Net {
