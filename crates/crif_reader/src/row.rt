@@ -87,20 +87,17 @@ fn read_trade(field: &[u8]) -> Result<&[u8], CrifFault>
     }
 }
 
+/// Reads a product class: its word, or `Rates` or `FX`, which name one class together.
 fn read_product(field: &[u8]) -> Result<ProductClass, CrifFault>
     ensures { Gives (λ p. p) result (product_of field.now) }
 {
-    if is_word("RatesFX", field) || is_word("Rates", field) || is_word("FX", field) {
-        Ok(ProductClass::RatesFX)
-    } else if is_word("Credit", field) {
-        Ok(ProductClass::Credit)
-    } else if is_word("Equity", field) {
-        Ok(ProductClass::Equity)
-    } else if is_word("Commodity", field) {
-        Ok(ProductClass::Commodity)
-    } else {
-        Err(CrifFault::Refused)
+    if is_word("Rates", field) || is_word("FX", field) {
+        return Ok(ProductClass::RatesFX);
     }
+    ProductClass::ALL
+        .into_iter()
+        .find(|class| is_word(class.word(), field))
+        .ok_or(CrifFault::Refused)
 }
 
 /// The name of a currency, by its letters.
