@@ -133,10 +133,8 @@ fn read_currency(alloc: Global, field: &[u8]) -> Result<Name, CrifFault>
 fn read_amount(field: &[u8]) -> Result<i64, CrifFault>
     ensures { Gives (λ a. a) result (amount_of field.now) }
 {
-    match read_cents(field) {
-        Ok(cents) => Ok(cents.0 as i64),
-        Err(_) => Err(CrifFault::Refused),
-    }
+    let cents = read_cents(field).map_err(|_| CrifFault::Refused)?;
+    Ok(cents.0 as i64)
 }
 
 /// The key of an exchange rate.
@@ -182,8 +180,6 @@ pub fn read_entry(alloc: Global, line: &[u8]) -> Result<Entry<'_>, CrifFault>
     if !are_plain(line) {
         return Err(CrifFault::Refused);
     }
-    match cut_columns(line) {
-        Some(columns) => read_columns(alloc, &columns),
-        None => Err(CrifFault::Refused),
-    }
+    let columns = cut_columns(line).ok_or(CrifFault::Refused)?;
+    read_columns(alloc, &columns)
 }
