@@ -14,7 +14,7 @@ pub use event::Event;
 pub use fault::ApplyFault;
 pub use refusal::Refusal;
 pub use reply::{Entry, Reply};
-pub use reply_words::reply_text;
+pub use reply_words::{push_reply, reply_text};
 pub use set_state::SetState;
 
 #[cfg(test)]
