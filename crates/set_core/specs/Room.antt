@@ -13,5 +13,9 @@ event_rows _ = 0
 abbrev pub journal_rows : List (Entry Event Reply) → ℕ
 journal_rows log = sum_by (λ e. event_rows e.event) log
 
+-- no event of so many rows has room
+abbrev pub is_full_for : List (Entry Event Reply) → ℕ → Bool
+is_full_for log rows = nat_le 65535 (length log) || nat_lt 500000 (journal_rows log + rows)
+
 abbrev pub is_full : List (Entry Event Reply) → Event → Bool
-is_full log event = nat_le 65535 (length log) || nat_lt 500000 (journal_rows log + event_rows event)
+is_full log event = is_full_for log (event_rows event)

@@ -2,7 +2,7 @@ ghost use Rattle.std.specs.Prelude.{◌≡◌, [], length, map, None, Some, IfOk
 ghost use Rattle.std.specs.Option.{option_copied};
 ghost use Rattle.bucket_cache.specs.Live.{Live};
 ghost use Rattle.set_core.specs.Book.{book};
-ghost use Rattle.set_core.specs.Room.{journal_rows, event_rows, is_full};
+ghost use Rattle.set_core.specs.Room.{journal_rows, event_rows, is_full_for};
 ghost use Rattle.set_core.specs.Set.{IsSet, IsAnswered, Explains, entry_at};
 
 use crate::answering::answer;
@@ -67,7 +67,8 @@ impl SetState {
         ensures unchanged { OnErr result (self.new ≡ self.old) }
     {
         event.facts();
-        if self.is_full(&event) {
+        let rows = event.row_count();
+        if self.is_full(rows) {
             return Err(ApplyFault::JournalFull {
                 entries: self.entries(),
                 rows: self.rows,
@@ -80,7 +81,7 @@ impl SetState {
         let Ok(reply) = answer(alloc, &mut self.live, &event) else {
             return Err(ApplyFault::Memory { event });
         };
-        self.rows += event.row_count() as u32;
+        self.rows += rows as u32;
         self.journal.push_reserved(Entry {
             caller,
             event,
@@ -133,9 +134,10 @@ impl SetState {
         &self.terms
     }
 
-    fn is_full(&self, event: &Event) -> bool
-        ensures { result ≡ is_full self.now.journal event.now }
+    /// Whether the journal has no room for an event of so many rows.
+    fn is_full(&self, rows: usize) -> bool
+        ensures { result ≡ is_full_for self.now.journal rows }
     {
-        self.journal.len() >= MOST_ENTRIES || event.row_count() > MOST_ROWS - self.rows as usize
+        self.journal.len() >= MOST_ENTRIES || rows > MOST_ROWS - self.rows as usize
     }
 }

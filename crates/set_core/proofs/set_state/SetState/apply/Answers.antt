@@ -17,8 +17,8 @@ pushed c = c.push_reserved.ensures.items ∙ ap (λ log. log ++ entry c.args.cal
 
 pub invariant_of-self-2 : goal.invariant_of-self-2
 invariant_of-self-2 c =
-    subst (λ log. IsKept c.answer.new.live (c.self.inside.rows + c.row_count.result) log) (sym (pushed c))
-    (subst (λ n. IsKept c.answer.new.live (c.self.inside.rows + n) (c.self.inside.journal.items ++ entry c.args.caller c.args.event c.in-Ok.reply ∷ [])) (sym c.row_count.ensures) (it c).kept)
+    subst (λ log. IsKept c.answer.new.live (c.self.inside.rows + c.row_count-rows.result) log) (sym (pushed c))
+    (subst (λ n. IsKept c.answer.new.live (c.self.inside.rows + n) (c.self.inside.journal.items ++ entry c.args.caller c.args.event c.in-Ok.reply ∷ [])) (sym c.row_count-rows.ensures) (it c).kept)
 
 answered : (c : goal.After-push_reserved) (old : Set) → old ≡ record { params = c.self.inside.live.params; terms = c.self.inside.terms; journal = c.self.inside.journal.items } → IsAnswered old (record { params = c.answer.new.live.params; terms = c.self.inside.terms; journal = c.push_reserved.new.self.items }) c.args.caller c.args.event c.in-Ok.reply
 answered c old e =
