@@ -42,6 +42,10 @@ const MOST_ROWS: usize = 500_000;
 
 impl SetState {
     /// A set without trades, with an empty journal.
+    ///
+    /// # Errors
+    ///
+    /// For want of memory alone.
     pub fn new(alloc: Global, params: Params, terms: SetTerms) -> Result<SetState, AllocError>
         ensures { IfOk result (λ set. set ≡ record { params = params; terms = terms; journal = [] }) }
     {
