@@ -192,30 +192,32 @@ fn reads_messages(rt: HostRuntime) -> Result<(), Fail> {
     Ok(())
 }
 
-// The number of the call that fails, and what is told. The feed comes in pieces of eight bytes.
-const FAILING: [(u64, &str); 6] = [
-    (1, "read"),
-    (2, "1 ask A;read"),
-    (3, "1 ask A;read"),
-    (4, "1 ask A;2 crif B x/;read"),
-    (5, "1 ask A;2 crif B x/;end"),
-    (0, "1 ask A;2 crif B x/;end"),
+// The number of the call that fails, the messages that are told, and the end, which is told again after it. The feed comes
+// in pieces of eight bytes.
+const FAILING: [(u64, &str, &str); 6] = [
+    (1, "", "read"),
+    (2, "1 ask A;", "read"),
+    (3, "1 ask A;", "read"),
+    (4, "1 ask A;2 crif B x/;", "read"),
+    (5, "1 ask A;2 crif B x/;", "end"),
+    (0, "1 ask A;2 crif B x/;", "end"),
 ];
 
 #[test]
 fn reads_messages_before_a_failure(rt: HostRuntime) -> Result<(), Fail> {
     let alloc = rt.alloc();
-    for (call, wanted) in FAILING {
+    for (call, messages, end) in FAILING {
         let mut lines = lines_in(
             alloc,
             b"ASK\tA\nCRIF\tB\nx\nEND\n",
             8,
             vec![in alloc; call]?,
         )?;
+        let wanted = format!(in alloc; "{messages}{end}")?;
         let text = all_told(alloc, &mut lines)?;
         assert_eq!(rt; text.as_slice(), wanted.as_bytes(), "at {call}");
         let again = all_told(alloc, &mut lines)?;
-        assert!(rt; text.as_slice().ends_with(again.as_slice()), "at {call}");
+        assert_eq!(rt; again.as_slice(), end.as_bytes(), "at {call}");
     }
     Ok(())
 }
