@@ -4,10 +4,12 @@ use Rattle.std.proofs.lemmas.List.{append-nil, take_all}
 use Rattle.std.proofs.lemmas.List.Elements.{All-nil, All-append, All-cons}
 use Rattle.std.proofs.lemmas.Grind.{flat_map-append}
 use Rattle.std.proofs.Math.Seq.{take-append_seam}
+use denote.Enum.Bare.{sameb}
 use Rattle.mh_io.specs.Lines.{Stop, Whole, Open, Long, Over}
 use Rattle.mh_io.specs.Lined.{Lined, Gave, lines_given, answer_at}
 use Rattle.mh_io.specs.declared.lines_answer.LineStep.{LineStep}
-use Rattle.mh_io.specs.declared.lines_answer.LineStep.TheVariants.{Line}
+use Rattle.mh_io.specs.declared.lines_answer.LineStep.TheVariants.{Line, End}
+use Rattle.mh_io.specs.contracts.lines_answer.LineStep.{the_type}
 use Rattle.mh_io.specs.declared.lines_answer.LineFault.{LineFault}
 use Rattle.feed_reader.proofs.FeedTakings.{then_gave}
 use Rattle.feed_reader.specs.Line.{is_passed_over, is_end}
@@ -42,6 +44,15 @@ line_off held all line added = ap (take (length held)) added ∙ take-append_sea
 -- a block with one more line
 pub block_and : (before : List ℕ) (inside : List (List ℕ)) (line : List ℕ) → (before ++ block_of inside) ++ (line ++ 10 ∷ []) ≡ before ++ block_of (inside ++ line ∷ [])
 block_and before inside line = rw (append_assoc, flat_map-append, append-nil) refl
+
+-- a step that isn't the end is a line
+pub line_of : (step : LineStep) → false ≡ sameb the_type step End → step ≡ Line
+line_of Line e = refl
+line_of End e = cc e
+
+pub end_of : (step : LineStep) → true ≡ sameb the_type step End → step ≡ End
+end_of Line e = cc e
+end_of End e = refl
 
 -- where the lines stopped no line is answered
 pub no_line_at : (stop : Stop) → Ok Line ≡ answer_at stop → ⊥

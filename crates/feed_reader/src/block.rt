@@ -22,14 +22,9 @@ pub(crate) fn skip_to_line<S: Source>(
     ensures again { (stop : Stop) → IsStopped lines.old stop → (lines.new ≡ lines.old) × (result ≡ reader.answer_at stop) }
 {
     loop {
-        match lines.next_line(line) {
-            Ok(LineStep::Line) => {
-                if !is_passed_over(line.as_slice()) {
-                    return Ok(LineStep::Line);
-                }
-            }
-            Ok(LineStep::End) => return Ok(LineStep::End),
-            Err(fault) => return Err(fault),
+        let step = lines.next_line(line)?;
+        if step == LineStep::End || !is_passed_over(line.as_slice()) {
+            return Ok(step);
         }
     }
 }
@@ -47,16 +42,13 @@ pub(crate) fn read_block<S: Source>(
 {
     loop {
         let before = block.as_slice().len();
-        match lines.append_line(block) {
-            Ok(LineStep::Line) => {
-                if is_end(&block.as_slice()[before..]) {
-                    block.truncate(before);
-                    return Ok(LineStep::Line);
-                }
-                block.push(b'\n')?;
-            }
-            Ok(LineStep::End) => return Ok(LineStep::End),
-            Err(fault) => return Err(fault),
+        if lines.append_line(block)? == LineStep::End {
+            return Ok(LineStep::End);
         }
+        if is_end(&block.as_slice()[before..]) {
+            block.truncate(before);
+            return Ok(LineStep::Line);
+        }
+        block.push(b'\n')?;
     }
 }

@@ -6,11 +6,11 @@ use Rattle.feed_reader.specs.Steps.{ArePassed}
 use Rattle.feed_reader.proofs.block.skip_to_line.Given as goal
 
 -- the lines so far are passed over
-abbrev pub invariant-loop-line : goal.invariant-loop-line
-invariant-loop-line g l = record {
+abbrev pub invariant-loop-step : goal.invariant-loop-step
+invariant-loop-step g l = record {
   passed : (passed : List (List ℕ)) × ArePassed passed × Gave g.S.Source.faults g.S.Source.name g.S.Source.gave g.S.Source.left l.initial.lines l.lines passed;
   again : (stop : Stop) → IsStopped l.initial.lines stop → l.lines ≡ l.initial.lines;
 }
 
-abbrev pub decreases-loop-line : goal.decreases-loop-line
-decreases-loop-line g l = MOST_BYTES - l.lines.given
+abbrev pub decreases-loop-step : goal.decreases-loop-step
+decreases-loop-step g l = MOST_BYTES - l.lines.given
