@@ -43,7 +43,7 @@ impl RefusedMessage {
     }
 }
 
-/// How a feed ended. `line` is the number of the line at which it did, from 1.
+/// How a feed ended. Lines are counted from 1.
 #[derive(Clone, Copy, Debug, PartialEq, Eq)]
 pub enum FeedEnd {
     /// All of it was read.
