@@ -84,7 +84,7 @@ fn run(
     })
 }
 
-// The files in `examples/` print just what docs/FORMATS.md shows.
+// The terms and the feed of `examples/`, as `example` has them word for word, print just what docs/FORMATS.md shows.
 #[test]
 fn a_trade_that_comes_is_asked_about_and_goes(rt: HostRuntime) -> Result<(), Fail> {
     let outcome = run(
