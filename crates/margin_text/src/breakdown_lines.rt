@@ -3,7 +3,7 @@ ghost use Rattle.simm_rules.specs.Simm.{products, classes};
 ghost use Rattle.margin_text.specs.Fields.{field, amount_line};
 ghost use Rattle.margin_text.specs.Margins.{class_fields, class_lines, product_lines, all_product_lines, part_lines, margin_text};
 
-use crate::pieces::{push_amount, push_field};
+use crate::pieces::{push_field, push_last_amount};
 use mh_units::Text;
 use simm_kinds::{ProductClass, RiskClass};
 use simm_rules::Breakdown;
@@ -17,7 +17,7 @@ fn push_add_on(text: &mut Text, word: &[u8], cents: i128) -> Result<(), AllocErr
         return Ok(());
     }
     push_field(text, word)?;
-    push_amount(text, cents)
+    push_last_amount(text, cents)
 }
 
 /// Adds the line of a class, where its margin isn't 0.
@@ -35,7 +35,7 @@ fn push_class(
     push_field(text, b"CLASS")?;
     push_field(text, product.word().as_bytes())?;
     push_field(text, class.word().as_bytes())?;
-    push_amount(text, cents)
+    push_last_amount(text, cents)
 }
 
 /// Adds the lines of a product's classes.
@@ -64,7 +64,7 @@ fn push_product(
     }
     push_field(text, b"PRODUCT")?;
     push_field(text, product.word().as_bytes())?;
-    push_amount(text, cents)?;
+    push_last_amount(text, cents)?;
     push_classes(text, product, margins)
 }
 
@@ -106,7 +106,7 @@ pub fn margin_lines(alloc: Global, margin: &Breakdown) -> Result<Text, AllocErro
 {
     let mut text = Text::new(alloc);
     push_field(&mut text, b"MARGIN")?;
-    push_amount(&mut text, margin.total)?;
+    push_last_amount(&mut text, margin.total)?;
     push_parts(&mut text, margin)?;
     Ok(text)
 }

@@ -2,12 +2,12 @@
 #![tactic(auto)]
 
 mod breakdown_lines;
-mod entry_parts;
+mod entry_lines;
 mod feed_lines;
 mod kind_words;
 mod pieces;
 mod set_journal;
-mod trade_parts;
+mod trade_lines;
 
 pub use breakdown_lines::margin_lines;
 pub use feed_lines::push_report;

@@ -40,7 +40,7 @@ pub(crate) fn push_last_number(text: &mut Text, number: u64) -> Result<(), Alloc
 }
 
 /// Adds an amount as the last field of a line.
-pub(crate) fn push_amount(text: &mut Text, cents: i128) -> Result<(), AllocError>
+pub(crate) fn push_last_amount(text: &mut Text, cents: i128) -> Result<(), AllocError>
     ensures { OnOk result (text.new ≡ text.old ++ last_field (money_text cents)) }
 {
     push_cents(text, Cents(cents))?;

@@ -1,7 +1,7 @@
 ghost use Rattle.std.specs.Prelude.{◌≡◌, ◌++◌, OnOk, IfOk};
 ghost use Rattle.margin_text.specs.Journal.{numbered_lines, journal_text};
 
-use crate::entry_parts::push_entry;
+use crate::entry_lines::push_entry;
 use crate::pieces::{push_field, push_last_number};
 use mh_units::Text;
 use set_core::SetState;

@@ -7,7 +7,7 @@ ghost use Rattle.margin_text.specs.KindWords.{bucket_word};
 ghost use Rattle.margin_text.specs.Rows.{row_amount, key_fields, row_line, trade_lines};
 
 use crate::kind_words::{kind_word, sub_word, tenor_word};
-use crate::pieces::{push_amount, push_field, push_last, push_last_number, push_number};
+use crate::pieces::{push_field, push_last, push_last_amount, push_last_number, push_number};
 use itoa::Buffer;
 use mh_units::Text;
 use simm_kinds::{BucketId, CrifRow, FactorKey, RiskType, TradeRows};
@@ -54,7 +54,7 @@ fn push_row_amount(text: &mut Text, kind: RiskType, amount: i64) -> Result<(), A
         RiskType::ProductClassMultiplier | RiskType::AddOnNotionalFactor => {
             push_last_signed(text, amount)
         }
-        _ => push_amount(text, i128::from(amount)),
+        _ => push_last_amount(text, i128::from(amount)),
     }
 }
 

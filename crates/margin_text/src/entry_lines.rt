@@ -6,7 +6,7 @@ ghost use Rattle.margin_text.specs.Journal.{event_fields, event_lines, reply_lin
 
 use crate::breakdown_lines::push_parts;
 use crate::pieces::{push_field, push_last, push_number};
-use crate::trade_parts::push_trades;
+use crate::trade_lines::push_trades;
 use mh_units::Text;
 use set_core::{Entry, Event, Reply, reply_text};
 use simm_kinds::Name;
