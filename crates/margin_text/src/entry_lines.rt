@@ -17,8 +17,8 @@ fn push_submit(text: &mut Text, trades: usize, rows: usize) -> Result<(), AllocE
     ensures { OnOk result (text.new ≡ text.old ++ (field (codes "SUBMIT") ++ field (decimal trades) ++ field (decimal rows))) }
 {
     push_field(text, b"SUBMIT")?;
-    push_number(text, trades as u64)?;
-    push_number(text, rows as u64)
+    push_number(text, trades)?;
+    push_number(text, rows)
 }
 
 /// Adds each name as a field.
@@ -36,7 +36,7 @@ fn push_withdrawal(text: &mut Text, names: &[Name]) -> Result<(), AllocError>
     ensures { OnOk result (text.new ≡ text.old ++ (field (codes "WITHDRAW") ++ field (decimal (length names.now)) ++ flat_map field names.now)) }
 {
     push_field(text, b"WITHDRAW")?;
-    push_number(text, names.len() as u64)?;
+    push_number(text, names.len())?;
     push_names(text, names)
 }
 
@@ -80,8 +80,8 @@ fn push_entry_line(
 ) -> Result<(), AllocError>
     ensures { OnOk result (text.new ≡ text.old ++ entry_line number entry.now) }
 {
-    push_number(text, u64::from(number))?;
-    push_number(text, u64::from(entry.caller))?;
+    push_number(text, number)?;
+    push_number(text, entry.caller)?;
     push_event(text, &entry.event)?;
     push_field(text, b"=")?;
     push_last(text, reply_text(alloc, &entry.reply)?.as_slice())

@@ -14,8 +14,8 @@ fn push_refused_fields(text: &mut Text, feed: u32, line: u32) -> Result<(), Allo
     ensures { OnOk result (text.new ≡ text.old ++ refused_fields feed line) }
 {
     push_field(text, b"REFUSED")?;
-    push_number(text, u64::from(feed))?;
-    push_number(text, u64::from(line))
+    push_number(text, feed)?;
+    push_number(text, line)
 }
 
 /// Adds the line of a message that was refused with this number alone.
@@ -23,7 +23,7 @@ fn push_refused_number(text: &mut Text, feed: u32, line: u32, number: u8) -> Res
     ensures { OnOk result (text.new ≡ text.old ++ (refused_fields feed line ++ last_field (decimal number))) }
 {
     push_refused_fields(text, feed, line)?;
-    push_last_number(text, u64::from(number))
+    push_last_number(text, number)
 }
 
 /// Adds the field of the name of the set at a place, from 0.
@@ -57,10 +57,10 @@ fn push_refused(
             rows,
         } => {
             push_refused_fields(text, feed, line)?;
-            push_number(text, u64::from(number))?;
+            push_number(text, number)?;
             push_set_name(text, sets, set)?;
-            push_number(text, u64::from(entries))?;
-            push_last_number(text, u64::from(rows))
+            push_number(text, entries)?;
+            push_last_number(text, rows)
         }
     }
 }
@@ -113,8 +113,8 @@ fn push_feed_line(
     ensures { OnOk result (text.new ≡ text.old ++ feed_line feed done refused end) }
 {
     push_field(text, b"FEED")?;
-    push_number(text, u64::from(feed))?;
-    push_number(text, u64::from(done))?;
+    push_number(text, feed)?;
+    push_number(text, done)?;
     push_number(text, refused)?;
     push_end(text, end)
 }

@@ -1,9 +1,9 @@
 //! Fields and the ends of lines, added to a text that grows.
-ghost use Rattle.std.specs.Prelude.{◌≡◌, ◌++◌, OnOk, decimal};
+ghost use Rattle.std.specs.Prelude.{◌≡◌, ◌++◌, OnOk};
 ghost use Rattle.mh_units.specs.Money.{money_text};
 ghost use Rattle.margin_text.specs.Fields.{field, last_field};
 
-use itoa::Buffer;
+use itoa::{Buffer, Integer};
 use mh_units::{Cents, Text, push_cents};
 use std::alloc::AllocError;
 
@@ -24,19 +24,17 @@ pub(crate) fn push_last(text: &mut Text, bytes: &[u8]) -> Result<(), AllocError>
 }
 
 /// Adds a whole number as a field that another follows.
-pub(crate) fn push_number(text: &mut Text, number: u64) -> Result<(), AllocError>
-    ensures { OnOk result (text.new ≡ text.old ++ field (decimal number)) }
+pub(crate) fn push_number<N: Integer>(text: &mut Text, number: N) -> Result<(), AllocError>
+    ensures { OnOk result (text.new ≡ text.old ++ field (N.text number)) }
 {
-    let mut digits = Buffer::new();
-    push_field(text, digits.format(number).as_bytes())
+    push_field(text, Buffer::new().format(number).as_bytes())
 }
 
 /// Adds a whole number as the last field of a line.
-pub(crate) fn push_last_number(text: &mut Text, number: u64) -> Result<(), AllocError>
-    ensures { OnOk result (text.new ≡ text.old ++ last_field (decimal number)) }
+pub(crate) fn push_last_number<N: Integer>(text: &mut Text, number: N) -> Result<(), AllocError>
+    ensures { OnOk result (text.new ≡ text.old ++ last_field (N.text number)) }
 {
-    let mut digits = Buffer::new();
-    push_last(text, digits.format(number).as_bytes())
+    push_last(text, Buffer::new().format(number).as_bytes())
 }
 
 /// Adds an amount as the last field of a line.

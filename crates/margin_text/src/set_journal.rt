@@ -37,7 +37,7 @@ pub fn push_journal(
 {
     push_field(text, b"SET")?;
     push_field(text, name.bytes())?;
-    push_last_number(text, u64::from(set.entries()))?;
+    push_last_number(text, set.entries())?;
     push_entries(alloc, text, set)
 }
 

@@ -1,14 +1,12 @@
 //! The lines of trades and their rows.
 ghost use Rattle.std.specs.Prelude.{◌≡◌, ◌++◌, OnOk};
 ghost use Rattle.std.specs.List.{flat_map};
-ghost use Rattle.std.specs.Fmt.{signed_decimal};
 ghost use Rattle.margin_text.specs.Fields.{field, last_field};
 ghost use Rattle.margin_text.specs.KindWords.{bucket_word};
 ghost use Rattle.margin_text.specs.Rows.{row_amount, key_fields, row_line, trade_lines};
 
 use crate::kind_words::{kind_word, sub_word, tenor_word};
 use crate::pieces::{push_field, push_last, push_last_amount, push_last_number, push_number};
-use itoa::Buffer;
 use mh_units::Text;
 use simm_kinds::{BucketId, CrifRow, FactorKey, RiskType, TradeRows};
 use std::alloc::AllocError;
@@ -18,7 +16,7 @@ fn push_bucket(text: &mut Text, bucket: BucketId) -> Result<(), AllocError>
     ensures { OnOk result (text.new ≡ text.old ++ field (bucket_word bucket)) }
 {
     match bucket {
-        BucketId::Number(number) => push_number(text, u64::from(number)),
+        BucketId::Number(number) => push_number(text, number),
         BucketId::Residual => push_field(text, b"Residual"),
         BucketId::Currency(letters) => push_field(text, &letters),
         BucketId::Single => push_field(text, b""),
@@ -38,21 +36,13 @@ fn push_key(text: &mut Text, key: &FactorKey) -> Result<(), AllocError>
     push_field(text, key.label2().bytes())
 }
 
-/// Adds a whole number with its sign as the last field of a line.
-fn push_last_signed(text: &mut Text, number: i64) -> Result<(), AllocError>
-    ensures { OnOk result (text.new ≡ text.old ++ last_field (signed_decimal number)) }
-{
-    let mut digits = Buffer::new();
-    push_last(text, digits.format(number).as_bytes())
-}
-
 /// Adds a row's amount as the last field of its line.
 fn push_row_amount(text: &mut Text, kind: RiskType, amount: i64) -> Result<(), AllocError>
     ensures { OnOk result (text.new ≡ text.old ++ last_field (row_amount kind amount)) }
 {
     match kind {
         RiskType::ProductClassMultiplier | RiskType::AddOnNotionalFactor => {
-            push_last_signed(text, amount)
+            push_last_number(text, amount)
         }
         _ => push_last_amount(text, i128::from(amount)),
     }
@@ -83,7 +73,7 @@ fn push_trade(text: &mut Text, trade: &TradeRows) -> Result<(), AllocError>
 {
     push_field(text, b"TRADE")?;
     push_field(text, trade.trade.bytes())?;
-    push_last_number(text, trade.rows.len() as u64)?;
+    push_last_number(text, trade.rows.len())?;
     push_rows(text, trade.rows.as_slice())
 }
 
