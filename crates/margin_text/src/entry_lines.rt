@@ -5,12 +5,12 @@ ghost use Rattle.margin_text.specs.Fields.{field};
 ghost use Rattle.margin_text.specs.Journal.{event_fields, event_lines, reply_lines, entry_line, entry_lines};
 
 use crate::breakdown_lines::push_parts;
-use crate::pieces::{push_field, push_last, push_number};
+use crate::pieces::{push_field, push_number};
 use crate::trade_lines::push_trades;
 use mh_units::Text;
-use set_core::{Entry, Event, Reply, reply_text};
+use set_core::{Entry, Event, Reply, push_reply};
 use simm_kinds::Name;
-use std::alloc::{AllocError, Global};
+use std::alloc::AllocError;
 
 /// Adds the fields of a submit.
 fn push_submit(text: &mut Text, trades: usize, rows: usize) -> Result<(), AllocError>
@@ -72,31 +72,22 @@ fn push_reply_lines(text: &mut Text, reply: &Reply) -> Result<(), AllocError>
 }
 
 /// Adds an entry's own line.
-fn push_entry_line(
-    alloc: Global,
-    text: &mut Text,
-    number: u32,
-    entry: &Entry,
-) -> Result<(), AllocError>
+fn push_entry_line(text: &mut Text, number: u32, entry: &Entry) -> Result<(), AllocError>
     ensures { OnOk result (text.new ≡ text.old ++ entry_line number entry.now) }
 {
     push_number(text, number)?;
     push_number(text, entry.caller)?;
     push_event(text, &entry.event)?;
     push_field(text, b"=")?;
-    push_last(text, reply_text(alloc, &entry.reply)?.as_slice())
+    push_reply(text, &entry.reply)?;
+    text.push(b'\n')
 }
 
 /// Adds an entry's line, and the lines under it.
-pub(crate) fn push_entry(
-    alloc: Global,
-    text: &mut Text,
-    number: u32,
-    entry: &Entry,
-) -> Result<(), AllocError>
+pub(crate) fn push_entry(text: &mut Text, number: u32, entry: &Entry) -> Result<(), AllocError>
     ensures { OnOk result (text.new ≡ text.old ++ entry_lines number entry.now) }
 {
-    push_entry_line(alloc, text, number, entry)?;
+    push_entry_line(text, number, entry)?;
     push_event_lines(text, &entry.event)?;
     push_reply_lines(text, &entry.reply)
 }

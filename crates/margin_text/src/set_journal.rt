@@ -9,13 +9,13 @@ use simm_kinds::Name;
 use std::alloc::{AllocError, Global};
 
 /// Adds all entries of a set's journal.
-fn push_entries(alloc: Global, text: &mut Text, set: &SetState) -> Result<(), AllocError>
+fn push_entries(text: &mut Text, set: &SetState) -> Result<(), AllocError>
     ensures { OnOk result (text.new ≡ text.old ++ numbered_lines 1 set.now.journal) }
 {
     set.facts();
     for index in 0..set.entries() {
         if let Some(entry) = set.entry(index + 1) {
-            push_entry(alloc, text, index + 1, entry)?;
+            push_entry(text, index + 1, entry)?;
         }
     }
     Ok(())
@@ -27,18 +27,13 @@ fn push_entries(alloc: Global, text: &mut Text, set: &SetState) -> Result<(), Al
 /// # Errors
 ///
 /// For want of memory alone.
-pub fn push_journal(
-    alloc: Global,
-    text: &mut Text,
-    set: &SetState,
-    name: &Name,
-) -> Result<(), AllocError>
+pub fn push_journal(text: &mut Text, set: &SetState, name: &Name) -> Result<(), AllocError>
     ensures { OnOk result (text.new ≡ text.old ++ journal_text name.now set.now.journal) }
 {
     push_field(text, b"SET")?;
     push_field(text, name.bytes())?;
     push_last_number(text, set.entries())?;
-    push_entries(alloc, text, set)
+    push_entries(text, set)
 }
 
 /// The printed journal of a netting set, as `push_journal` adds it.
@@ -50,6 +45,6 @@ pub fn journal_text(alloc: Global, set: &SetState, name: &Name) -> Result<Text, 
     ensures { IfOk result (λ text. text ≡ journal_text name.now set.now.journal) }
 {
     let mut text = Text::new(alloc);
-    push_journal(alloc, &mut text, set, name)?;
+    push_journal(&mut text, set, name)?;
     Ok(text)
 }

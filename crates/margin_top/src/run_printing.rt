@@ -20,7 +20,7 @@ fn push_journals(alloc: Global, text: &mut Text, sets: &[SetState]) -> Result<()
     ensures { OnOk result (text.new ≡ text.old ++ flat_map (λ s. journal_text s.terms.name s.journal) sets.now) }
 {
     for set in sets {
-        push_journal(alloc, text, set, set.terms().name())?;
+        push_journal(text, set, set.terms().name())?;
     }
     Ok(())
 }
