@@ -11,9 +11,6 @@ ghost use Rattle.simm_rules.specs.Delta.{combined};
 
 use mh_units::{Corr6, div_up, least_root, mul_corr};
 
-/// A factor or a correlation of 1.
-const ONE: Corr6 = Corr6(1_000_000);
-
 /// The concentration factor of a net sensitivity over its threshold, both in cents: the least `c` from 1 on with
 /// `c * c * threshold` at least the size of `net`, to the millionth.
 pub fn cr(net: i128, threshold: i64) -> Corr6
@@ -26,7 +23,7 @@ pub fn cr(net: i128, threshold: i64) -> Corr6
     ensures below { result.0 <ℤ pos 347000000 }
 {
     let root = root_of_ratio(net.unsigned_abs(), i128::from(threshold));
-    Corr6(ONE.0.max(root as i64))
+    Corr6(Corr6::ONE.0.max(root as i64))
 }
 
 /// The lesser of two concentration factors over the greater, rounded down: how alike two concentrations are.
@@ -74,7 +71,7 @@ fn quotient_below_one(lesser: i64, greater: i64) -> i64
     ensures not_negative { pos 0 ≤ℤ result }
     ensures at_most_one { result ≤ℤ one }
 {
-    (lesser * ONE.0).div_euclid(greater)
+    (lesser * Corr6::ONE.0).div_euclid(greater)
 }
 
 #[cfg(test)]
@@ -85,16 +82,16 @@ mod tests {
     fn a_factor_is_rounded_up_and_at_least_one(rt: HostRuntime) {
         assert_eq!(rt; cr(20_000_000_000, 10_000_000_000), Corr6(1_414_214));
         assert_eq!(rt; cr(-40_000, 10_000), Corr6(2_000_000));
-        assert_eq!(rt; cr(0, 1), ONE);
+        assert_eq!(rt; cr(0, 1), Corr6::ONE);
         assert_eq!(rt; cr(1_000_000_000_001, 1_000_000_000_000), Corr6(1_000_001));
         assert_eq!(rt; cr(120_000, 1), Corr6(346_410_162));
     }
 
     #[test]
     fn a_ratio_is_rounded_down(rt: HostRuntime) {
-        assert_eq!(rt; ratio(ONE, Corr6(1_414_214)), Corr6(707_106));
-        assert_eq!(rt; ratio(Corr6(1_414_214), ONE), Corr6(707_106));
-        assert_eq!(rt; ratio(Corr6(2_000_000), Corr6(2_000_000)), ONE);
+        assert_eq!(rt; ratio(Corr6::ONE, Corr6(1_414_214)), Corr6(707_106));
+        assert_eq!(rt; ratio(Corr6(1_414_214), Corr6::ONE), Corr6(707_106));
+        assert_eq!(rt; ratio(Corr6(2_000_000), Corr6(2_000_000)), Corr6::ONE);
     }
 
     #[test]

@@ -163,7 +163,7 @@ impl Params {
     {
         orders_are_defined();
         if a.cmp(b).is_eq() {
-            Corr6(1_000_000)
+            Corr6::ONE
         } else {
             self.rho_of_different(a, b)
         }

@@ -47,7 +47,7 @@ impl Correlation for FxCorrelation<'_> {
 
     fn corr(&self, i: usize, j: usize) -> Corr6 {
         if i == j {
-            return Corr6(1_000_000);
+            return Corr6::ONE;
         }
         let a = self.currencies[i];
         let b = self.currencies[j];
