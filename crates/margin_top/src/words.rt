@@ -16,10 +16,7 @@ pub(crate) struct CalcFiles<'a> {
 fn is_name(word: &str) -> bool
     ensures { result ≡ is_name_word word.now }
 {
-    match word.as_bytes() {
-        [] => false,
-        [first, ..] => *first != b'-',
-    }
+    !matches!(word.as_bytes(), [] | [b'-', ..])
 }
 
 /// The files of a feed's run.
