@@ -1,7 +1,9 @@
 //! Why files gave nothing, and a calculation no margin.
 use crate::fault_line::FaultLine;
 use crate::status::Status;
+use crif_reader::CrifFault;
 use mh_io::{FindRefused, ReadAllFault};
+use simm_params::ParamFault;
 
 /// Why a file wasn't read whole.
 #[derive(Clone, Copy, Debug, PartialEq, Eq)]
@@ -71,6 +73,45 @@ pub enum ValueFault {
     OfFile(FileFault),
     /// Its grammar refuses it.
     Refused,
+}
+
+impl From<FileFault> for ValueFault {
+    ghost use Rattle.std.specs.Prelude.{◌≡◌};
+    ghost use Rattle.margin_top.specs.declared.fault.ValueFault.TheVariants.{OfFile};
+
+    ghost from_gives = { λ fault value. value ≡ OfFile fault };
+
+    fn from(fault: FileFault) -> ValueFault {
+        ValueFault::OfFile(fault)
+    }
+}
+
+impl From<ParamFault> for ValueFault {
+    ghost use Rattle.std.specs.Prelude.{◌≡◌};
+    ghost use Rattle.margin_top.specs.Faults.{fault_of_params};
+
+    ghost from_gives = { λ refused fault. fault ≡ fault_of_params refused };
+
+    fn from(refused: ParamFault) -> ValueFault {
+        match refused {
+            ParamFault::Refused => ValueFault::Refused,
+            ParamFault::Memory => ValueFault::OfFile(FileFault::Memory),
+        }
+    }
+}
+
+impl From<CrifFault> for ValueFault {
+    ghost use Rattle.std.specs.Prelude.{◌≡◌};
+    ghost use Rattle.margin_top.specs.Faults.{fault_of_crif};
+
+    ghost from_gives = { λ refused fault. fault ≡ fault_of_crif refused };
+
+    fn from(refused: CrifFault) -> ValueFault {
+        match refused {
+            CrifFault::Refused => ValueFault::Refused,
+            CrifFault::Memory => ValueFault::OfFile(FileFault::Memory),
+        }
+    }
 }
 
 impl ValueFault {

@@ -14,10 +14,12 @@ mod run_printing;
 mod running;
 mod status;
 mod terms_line;
+mod value_files;
 mod words;
 
 pub use calculation::calc;
 pub use house::margin_house;
+pub use margin_text::journal_text;
 pub use status::Status;
 
 #[cfg(test)]

@@ -14,6 +14,17 @@ pub enum TermsFileFault {
     Refused(Text),
 }
 
+impl From<FileFault> for TermsFileFault {
+    ghost use Rattle.std.specs.Prelude.{◌≡◌};
+    ghost use Rattle.margin_top.specs.declared.run_fault.TermsFileFault.TheVariants.{OfFile};
+
+    ghost from_gives = { λ fault terms. terms ≡ OfFile fault };
+
+    fn from(fault: FileFault) -> TermsFileFault {
+        TermsFileFault::OfFile(fault)
+    }
+}
+
 /// Why a run did not reach its feed.
 #[derive(Debug, Drop)]
 pub enum RunFault {

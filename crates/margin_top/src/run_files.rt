@@ -8,9 +8,9 @@ ghost use Rattle.margin_top.specs.RunStages.{TermsEnds, FeedEnds, RunFilesEnd, I
 
 use crate::fault::FileFault;
 use crate::file::read_file;
-use crate::margin_of::read_param_file;
 use crate::run_fault::{RunFault, TermsFileFault};
 use crate::terms_line::terms_line;
+use crate::value_files::read_param_file;
 use csa_terms::{Terms, TermsFault, read_terms};
 use feed_gate::{FeedReport, run_feed};
 use mh_io::{FindRefused, Folder};
@@ -40,10 +40,7 @@ fn read_terms_file<F: Folder>(
         (folder_seen F.told F.find_faults F.read_faults folder.new)
         name.now result }
 {
-    let bytes = match read_file(alloc, folder, name) {
-        Ok(bytes) => bytes,
-        Err(fault) => return Err(TermsFileFault::OfFile(fault)),
-    };
+    let bytes = read_file(alloc, folder, name)?;
     match read_terms(alloc, bytes.as_slice()) {
         Ok(terms) => Ok(terms),
         Err(fault) => Err(refused_terms(alloc, &fault)),
