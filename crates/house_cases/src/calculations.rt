@@ -1,4 +1,4 @@
-use crate::house::{HEADER, PARAMS, WELL, run};
+use crate::house::{HEADER, PARAMS, WELL, run_calc};
 use margin_top::Status;
 use std::test::Fail;
 
@@ -69,7 +69,7 @@ fn a_calculation_prints_the_margin_with_its_parts(rt: HostRuntime) -> Result<(),
     let alloc = rt.alloc();
     for (rows, margin, product) in MARGINS {
         let crif = format!(in alloc; "{HEADER}{rows}")?;
-        let outcome = run(
+        let outcome = run_calc(
             alloc,
             &["calc", "params", "crif"],
             PARAMS.as_bytes(),
@@ -99,7 +99,7 @@ fn a_margin_of_zero_is_printed_alone(rt: HostRuntime) -> Result<(), Fail> {
     let alloc = rt.alloc();
     for rows in NO_MARGIN {
         let crif = format!(in alloc; "{HEADER}{rows}")?;
-        let outcome = run(
+        let outcome = run_calc(
             alloc,
             &["calc", "params", "crif"],
             PARAMS.as_bytes(),

@@ -1,4 +1,4 @@
-use crate::house::{HEADER, PARAMS, Setup, WELL, run};
+use crate::house::{HEADER, PARAMS, Setup, WELL, run_calc};
 use margin_top::Status;
 use std::test::Fail;
 
@@ -34,7 +34,7 @@ const WORDS: [(&[&str], Status, &str); 8] = [
 fn words_of_no_form_and_absent_files_have_their_line(rt: HostRuntime) -> Result<(), Fail> {
     let alloc = rt.alloc();
     for (words, status, text) in WORDS {
-        let outcome = run(alloc, words, PARAMS.as_bytes(), HEADER.as_bytes(), WELL)?;
+        let outcome = run_calc(alloc, words, PARAMS.as_bytes(), HEADER.as_bytes(), WELL)?;
         assert_eq!(rt; outcome.status, status, "at {words:?}");
         assert_eq!(rt; outcome.text.as_slice(), text.as_bytes(), "at {words:?}");
     }
@@ -78,7 +78,7 @@ fn a_refused_file_has_its_line(rt: HostRuntime) -> Result<(), Fail> {
     let alloc = rt.alloc();
     for (params, rows, status, text) in REFUSED {
         let crif = format!(in alloc; "{HEADER}{rows}")?;
-        let outcome = run(alloc, &CALC, params.as_bytes(), crif.as_bytes(), WELL)?;
+        let outcome = run_calc(alloc, &CALC, params.as_bytes(), crif.as_bytes(), WELL)?;
         assert_eq!(rt; outcome.status, status, "at {rows}");
         assert_eq!(rt; outcome.text.as_slice(), text.as_bytes(), "at {rows}");
     }
@@ -107,7 +107,7 @@ const FAILING: [(Setup, Status, &str); 8] = [
     ),
     (
         Setup {
-            failing_params: 1,
+            failing_take: ("params", 1),
             ..WELL
         },
         Status::Read,
@@ -115,7 +115,7 @@ const FAILING: [(Setup, Status, &str); 8] = [
     ),
     (
         Setup {
-            failing_params: 2,
+            failing_take: ("params", 2),
             ..WELL
         },
         Status::Read,
@@ -123,7 +123,7 @@ const FAILING: [(Setup, Status, &str); 8] = [
     ),
     (
         Setup {
-            failing_crif: 1,
+            failing_take: ("crif", 1),
             ..WELL
         },
         Status::Read,
@@ -131,7 +131,7 @@ const FAILING: [(Setup, Status, &str); 8] = [
     ),
     (
         Setup {
-            failing_crif: 2,
+            failing_take: ("crif", 2),
             ..WELL
         },
         Status::Read,
@@ -161,7 +161,7 @@ fn a_find_or_read_that_fails_has_its_line(rt: HostRuntime) -> Result<(), Fail> {
     let alloc = rt.alloc();
     let crif = format!(in alloc; "{HEADER}{ROW}")?;
     for (setup, status, text) in FAILING {
-        let outcome = run(alloc, &CALC, PARAMS.as_bytes(), crif.as_bytes(), setup)?;
+        let outcome = run_calc(alloc, &CALC, PARAMS.as_bytes(), crif.as_bytes(), setup)?;
         assert_eq!(rt; outcome.status, status, "at {text}");
         assert_eq!(rt; outcome.text.as_slice(), text.as_bytes(), "at {text}");
     }
@@ -179,7 +179,7 @@ fn a_sink_that_fails_holds_a_front_of_the_margin(rt: HostRuntime) -> Result<(), 
             failing_put: put as u64 + 1,
             ..WELL
         };
-        let outcome = run(alloc, &CALC, PARAMS.as_bytes(), crif.as_bytes(), setup)?;
+        let outcome = run_calc(alloc, &CALC, PARAMS.as_bytes(), crif.as_bytes(), setup)?;
         assert_eq!(rt; outcome.status, Status::Write, "at {put}");
         assert_eq!(rt; outcome.text.len(), put);
         assert!(rt;
@@ -202,7 +202,7 @@ fn a_sink_that_fails_holds_a_front_of_the_fault_line(rt: HostRuntime) -> Result<
             ..WELL
         };
         let words = ["calc", "params", "absent"];
-        let outcome = run(alloc, &words, PARAMS.as_bytes(), HEADER.as_bytes(), setup)?;
+        let outcome = run_calc(alloc, &words, PARAMS.as_bytes(), HEADER.as_bytes(), setup)?;
         assert_eq!(rt; outcome.status, Status::Find, "at {put}");
         assert_eq!(rt; outcome.text.len(), put);
         assert!(rt;
@@ -218,13 +218,13 @@ fn a_sink_that_fails_holds_a_front_of_the_fault_line(rt: HostRuntime) -> Result<
 fn a_file_with_a_byte_too_many_is_too_long(rt: HostRuntime) -> Result<(), Fail> {
     let alloc = rt.alloc();
     let long = vec![in alloc; b' '; 33_554_433]?;
-    let outcome = run(alloc, &CALC, long.as_slice(), HEADER.as_bytes(), WELL)?;
+    let outcome = run_calc(alloc, &CALC, long.as_slice(), HEADER.as_bytes(), WELL)?;
     assert_eq!(rt; outcome.status, Status::Params);
     assert_eq!(rt;
         outcome.text.as_slice(),
         b"FAULT\tLONG\tparams\n".as_slice()
     );
-    let outcome = run(alloc, &CALC, PARAMS.as_bytes(), long.as_slice(), WELL)?;
+    let outcome = run_calc(alloc, &CALC, PARAMS.as_bytes(), long.as_slice(), WELL)?;
     assert_eq!(rt; outcome.status, Status::Terms);
     assert_eq!(rt; outcome.text.as_slice(), b"FAULT\tLONG\tcrif\n".as_slice());
     Ok(())

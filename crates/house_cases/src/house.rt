@@ -22,12 +22,10 @@ pub const HEADER: &str =
 pub struct Setup {
     /// The most bytes that a file gives at once, above 0.
     pub most: usize,
-    /// The call at which the parameter file fails, or 0.
-    pub failing_params: u64,
-    /// The call at which the CRIF file fails, or 0.
-    pub failing_crif: u64,
     /// The find that fails, or 0.
     pub failing_find: u64,
+    /// A file, and the call at which it fails, or 0.
+    pub failing_take: (&'static str, u64),
     /// The most bytes that the sink takes at once.
     pub sink_most: usize,
     /// The call at which the sink fails, or 0.
@@ -36,9 +34,8 @@ pub struct Setup {
 
 pub const WELL: Setup = Setup {
     most: 65_536,
-    failing_params: 0,
-    failing_crif: 0,
     failing_find: 0,
+    failing_take: ("", 0),
     sink_most: 65_536,
     failing_put: 0,
 };
@@ -50,7 +47,7 @@ pub struct Outcome {
     pub text: Vec<u8>,
 }
 
-pub fn one(alloc: Global, number: u64) -> Result<Vec<u64>, AllocError> {
+fn one(alloc: Global, number: u64) -> Result<Vec<u64>, AllocError> {
     let mut numbers = Vec::new(alloc);
     if number > 0 {
         numbers.push(number)?;
@@ -58,7 +55,7 @@ pub fn one(alloc: Global, number: u64) -> Result<Vec<u64>, AllocError> {
     Ok(numbers)
 }
 
-pub fn strings(alloc: Global, words: &[&str]) -> Result<Vec<String>, AllocError> {
+fn strings(alloc: Global, words: &[&str]) -> Result<Vec<String>, AllocError> {
     let mut all = Vec::new(alloc);
     for word in words {
         all.push(String::from_str(alloc, word)?)?;
@@ -66,30 +63,20 @@ pub fn strings(alloc: Global, words: &[&str]) -> Result<Vec<String>, AllocError>
     Ok(all)
 }
 
-/// Runs these words over a folder with the files `params` and `crif`.
+/// Runs these words over a folder with these files, each by its name.
 pub fn run(
     alloc: Global,
     words: &[&str],
-    params: &[u8],
-    crif: &[u8],
+    files: &[(&str, &[u8])],
     setup: Setup,
 ) -> Result<Outcome, AllocError> {
-    let most = setup.most.max(1);
     let mut folder = MemFolder::new(one(alloc, setup.failing_find)?);
-    folder.add(
-        alloc,
-        "params",
-        Bytes::from_vec(params.to_vec(alloc)?),
-        most,
-        one(alloc, setup.failing_params)?,
-    )?;
-    folder.add(
-        alloc,
-        "crif",
-        Bytes::from_vec(crif.to_vec(alloc)?),
-        most,
-        one(alloc, setup.failing_crif)?,
-    )?;
+    let (failing, call) = setup.failing_take;
+    for (name, bytes) in files {
+        let call = if *name == failing { call } else { 0 };
+        let bytes = Bytes::from_slice(alloc, bytes)?;
+        folder.add(alloc, name, bytes, setup.most.max(1), one(alloc, call)?)?;
+    }
     let mut out = MemSink::new(alloc, 4096, setup.sink_most, one(alloc, setup.failing_put)?)?;
     let words = strings(alloc, words)?;
     let status = margin_house(alloc, words.as_slice(), &mut folder, &mut out);
@@ -97,4 +84,15 @@ pub fn run(
         status,
         text: out.bytes().to_vec(alloc)?,
     })
+}
+
+/// Runs these words over a folder with the files `params` and `crif`.
+pub fn run_calc(
+    alloc: Global,
+    words: &[&str],
+    params: &[u8],
+    crif: &[u8],
+    setup: Setup,
+) -> Result<Outcome, AllocError> {
+    run(alloc, words, &[("params", params), ("crif", crif)], setup)
 }

@@ -1,9 +1,7 @@
 use crate::example;
-use crate::house::{Outcome, PARAMS, one, strings};
-use margin_top::{Status, margin_house};
-use mh_io::{MemFolder, MemSink};
-use mh_units::Bytes;
-use std::alloc::Global;
+use crate::house::{Outcome, PARAMS, Setup, WELL, run};
+use margin_top::Status;
+use std::alloc::{AllocError, Global};
 use std::test::Fail;
 
 const RUN: [&str; 4] = ["run", "params", "terms", "feed"];
@@ -31,68 +29,34 @@ haircuts = {}
 holidays = []
 "#;
 
-/// What fails: a find, and a call of each file's source and of the sink, 0 for none; and the most bytes that the terms'
-/// source gives and that the sink takes at once.
-#[derive(Clone, Copy)]
-struct Trouble {
-    find: u64,
-    params: u64,
-    terms: u64,
-    terms_most: usize,
-    feed: u64,
-    sink_most: usize,
-    put: u64,
-}
-
-const NONE: Trouble = Trouble {
-    find: 0,
-    params: 0,
-    terms: 0,
-    terms_most: 7,
-    feed: 0,
-    sink_most: 65_536,
-    put: 0,
-};
+/// Files that come in pieces of seven bytes.
+const PIECES: Setup = Setup { most: 7, ..WELL };
 
 /// Runs these words over a folder with the files `params`, `terms` and `feed`.
-fn run(
+fn run_feed<'a>(
     alloc: Global,
     words: &[&str],
-    terms: &[u8],
-    feed: &[u8],
-    trouble: Trouble,
-) -> Result<Outcome, Fail> {
-    let mut folder = MemFolder::new(one(alloc, trouble.find)?);
-    let params = Bytes::from_vec(PARAMS.as_bytes().to_vec(alloc)?);
-    folder.add(alloc, "params", params, 7, one(alloc, trouble.params)?)?;
-    let terms = Bytes::from_vec(terms.to_vec(alloc)?);
-    folder.add(
-        alloc,
-        "terms",
-        terms,
-        trouble.terms_most.max(1),
-        one(alloc, trouble.terms)?,
-    )?;
-    let feed = Bytes::from_vec(feed.to_vec(alloc)?);
-    folder.add(alloc, "feed", feed, 65_536, one(alloc, trouble.feed)?)?;
-    let mut out = MemSink::new(alloc, 4096, trouble.sink_most, one(alloc, trouble.put)?)?;
-    let words = strings(alloc, words)?;
-    let status = margin_house(alloc, words.as_slice(), &mut folder, &mut out);
-    Ok(Outcome {
-        status,
-        text: out.bytes().to_vec(alloc)?,
-    })
+    terms: &'a [u8],
+    feed: &'a [u8],
+    setup: Setup,
+) -> Result<Outcome, AllocError> {
+    let files = [
+        ("params", PARAMS.as_bytes()),
+        ("terms", terms),
+        ("feed", feed),
+    ];
+    run(alloc, words, &files, setup)
 }
 
 // The terms and the feed of `examples/`, as `example` has them word for word, print just what docs/FORMATS.md shows.
 #[test]
 fn a_trade_that_comes_is_asked_about_and_goes(rt: HostRuntime) -> Result<(), Fail> {
-    let outcome = run(
+    let outcome = run_feed(
         rt.alloc(),
         &RUN,
         example::TERMS.as_bytes(),
         example::FEED.as_bytes(),
-        NONE,
+        PIECES,
     )?;
     assert_eq!(rt; outcome.status, Status::Done);
     assert_eq!(rt; outcome.text.as_slice(), example::PRINTED.as_bytes());
@@ -153,7 +117,7 @@ fn each_feed_has_its_journals_and_its_report(rt: HostRuntime) -> Result<(), Fail
     let alloc = rt.alloc();
     for (rest, status, count, entries, end) in FEEDS {
         let feed = format!(in alloc; "{BLOCK}{rest}")?;
-        let outcome = run(alloc, &RUN, TERMS.as_bytes(), feed.as_bytes(), NONE)?;
+        let outcome = run_feed(alloc, &RUN, TERMS.as_bytes(), feed.as_bytes(), WELL)?;
         let text = format!(in alloc;
             "SET\tALPHA\t{count}\n{SUBMITTED}{entries}SET\tBETA\t0\n{end}"
         )?;
@@ -207,7 +171,7 @@ const FAULTS: [(&[&str], &str, Status, &str); 6] = [
 fn files_before_the_feed_have_their_fault_lines(rt: HostRuntime) -> Result<(), Fail> {
     let alloc = rt.alloc();
     for (words, terms, status, text) in FAULTS {
-        let outcome = run(alloc, words, terms.as_bytes(), BLOCK.as_bytes(), NONE)?;
+        let outcome = run_feed(alloc, words, terms.as_bytes(), BLOCK.as_bytes(), WELL)?;
         assert_eq!(rt; outcome.status, status, "at {text}");
         assert_eq!(rt; outcome.text.as_slice(), text.as_bytes(), "at {text}");
     }
@@ -215,39 +179,60 @@ fn files_before_the_feed_have_their_fault_lines(rt: HostRuntime) -> Result<(), F
 }
 
 /// Finds and reads that fail before the feed runs, each with the line of the file.
-const FAILING: [(Trouble, Status, &str); 7] = [
+const FAILING: [(Setup, Status, &str); 7] = [
     (
-        Trouble { find: 1, ..NONE },
+        Setup {
+            failing_find: 1,
+            ..PIECES
+        },
         Status::Find,
         "FAULT\tFIND\tparams\n",
     ),
     (
-        Trouble { find: 2, ..NONE },
+        Setup {
+            failing_find: 2,
+            ..PIECES
+        },
         Status::Find,
         "FAULT\tFIND\tterms\n",
     ),
     (
-        Trouble { find: 3, ..NONE },
+        Setup {
+            failing_find: 3,
+            ..PIECES
+        },
         Status::Find,
         "FAULT\tFIND\tfeed\n",
     ),
     (
-        Trouble { params: 1, ..NONE },
+        Setup {
+            failing_take: ("params", 1),
+            ..PIECES
+        },
         Status::Read,
         "FAULT\tREAD\tparams\n",
     ),
     (
-        Trouble { params: 2, ..NONE },
+        Setup {
+            failing_take: ("params", 2),
+            ..PIECES
+        },
         Status::Read,
         "FAULT\tREAD\tparams\n",
     ),
     (
-        Trouble { terms: 1, ..NONE },
+        Setup {
+            failing_take: ("terms", 1),
+            ..PIECES
+        },
         Status::Read,
         "FAULT\tREAD\tterms\n",
     ),
     (
-        Trouble { terms: 2, ..NONE },
+        Setup {
+            failing_take: ("terms", 2),
+            ..PIECES
+        },
         Status::Read,
         "FAULT\tREAD\tterms\n",
     ),
@@ -256,8 +241,8 @@ const FAILING: [(Trouble, Status, &str); 7] = [
 #[test]
 fn a_find_or_read_that_fails_ends_a_run_with_its_line(rt: HostRuntime) -> Result<(), Fail> {
     let alloc = rt.alloc();
-    for (trouble, status, text) in FAILING {
-        let outcome = run(alloc, &RUN, TERMS.as_bytes(), BLOCK.as_bytes(), trouble)?;
+    for (setup, status, text) in FAILING {
+        let outcome = run_feed(alloc, &RUN, TERMS.as_bytes(), BLOCK.as_bytes(), setup)?;
         assert_eq!(rt; outcome.status, status, "at {text}");
         assert_eq!(rt; outcome.text.as_slice(), text.as_bytes(), "at {text}");
     }
@@ -269,8 +254,11 @@ fn a_find_or_read_that_fails_ends_a_run_with_its_line(rt: HostRuntime) -> Result
 fn a_feed_that_fails_keeps_its_earlier_entries(rt: HostRuntime) -> Result<(), Fail> {
     let alloc = rt.alloc();
     let feed = format!(in alloc; "{BLOCK}ASK\tALPHA\nCRIF\tALPHA\nT1,RatesFX\n")?;
-    let trouble = Trouble { feed: 2, ..NONE };
-    let outcome = run(alloc, &RUN, TERMS.as_bytes(), feed.as_bytes(), trouble)?;
+    let setup = Setup {
+        failing_take: ("feed", 2),
+        ..WELL
+    };
+    let outcome = run_feed(alloc, &RUN, TERMS.as_bytes(), feed.as_bytes(), setup)?;
     let text = format!(in alloc;
         "SET\tALPHA\t2\n{SUBMITTED}2\t0\tASK\t={MARGIN}SET\tBETA\t0\nFEED\t0\t2\t0\tREAD\n"
     )?;
@@ -285,12 +273,12 @@ fn a_sink_that_fails_holds_a_front_of_the_journals(rt: HostRuntime) -> Result<()
     let alloc = rt.alloc();
     let whole = format!(in alloc; "SET\tALPHA\t1\n{SUBMITTED}SET\tBETA\t0\nFEED\t0\t1\t0\tEND\n")?;
     for (put, _) in whole.bytes().enumerate() {
-        let trouble = Trouble {
+        let setup = Setup {
             sink_most: 1,
-            put: put as u64 + 1,
-            ..NONE
+            failing_put: put as u64 + 1,
+            ..WELL
         };
-        let outcome = run(alloc, &RUN, TERMS.as_bytes(), BLOCK.as_bytes(), trouble)?;
+        let outcome = run_feed(alloc, &RUN, TERMS.as_bytes(), BLOCK.as_bytes(), setup)?;
         assert_eq!(rt; outcome.status, Status::Write, "at {put}");
         assert_eq!(rt; outcome.text.len(), put);
         assert!(rt;
@@ -306,11 +294,7 @@ fn a_sink_that_fails_holds_a_front_of_the_journals(rt: HostRuntime) -> Result<()
 fn a_terms_file_with_a_byte_too_many_is_too_long(rt: HostRuntime) -> Result<(), Fail> {
     let alloc = rt.alloc();
     let long = vec![in alloc; b' '; 33_554_433]?;
-    let trouble = Trouble {
-        terms_most: 65_536,
-        ..NONE
-    };
-    let outcome = run(alloc, &RUN, long.as_slice(), BLOCK.as_bytes(), trouble)?;
+    let outcome = run_feed(alloc, &RUN, long.as_slice(), BLOCK.as_bytes(), WELL)?;
     assert_eq!(rt; outcome.status, Status::Terms);
     assert_eq!(rt; outcome.text.as_slice(), b"FAULT\tLONG\tterms\n".as_slice());
     Ok(())
@@ -334,7 +318,7 @@ fn a_line_with_a_byte_too_many_ends_a_feed(rt: HostRuntime) -> Result<(), Fail> 
         let mut feed = BLOCK.as_bytes().to_vec(alloc)?;
         feed.extend_from_slice(line.as_slice())?;
         feed.push(b'\n')?;
-        let outcome = run(alloc, &RUN, TERMS.as_bytes(), feed.as_slice(), NONE)?;
+        let outcome = run_feed(alloc, &RUN, TERMS.as_bytes(), feed.as_slice(), WELL)?;
         let text = format!(in alloc; "SET\tALPHA\t1\n{SUBMITTED}SET\tBETA\t0\n{end}")?;
         assert_eq!(rt; outcome.status, status, "at {size}");
         assert_eq!(rt; outcome.text.as_slice(), text.as_bytes(), "at {size}");
@@ -354,7 +338,7 @@ fn a_feed_with_a_byte_too_many_keeps_its_earlier_entries(rt: HostRuntime) -> Res
     }
     feed.truncate(33_554_433);
     assert_eq!(rt; feed.len(), 33_554_433);
-    let outcome = run(alloc, &RUN, TERMS.as_bytes(), feed.as_slice(), NONE)?;
+    let outcome = run_feed(alloc, &RUN, TERMS.as_bytes(), feed.as_slice(), WELL)?;
     let text = format!(in alloc;
         "SET\tALPHA\t1\n{SUBMITTED}SET\tBETA\t0\nFEED\t0\t1\t0\tTOOLONG\t33554433\n"
     )?;
