@@ -5,11 +5,13 @@
 mod date;
 mod due;
 mod fault;
+mod flow;
 mod haircut_entries;
 mod haircut_table;
 mod holiday_list;
 mod holiday_places;
 mod keyed;
+mod lot_currency;
 mod moment;
 mod names;
 mod path;
@@ -24,8 +26,10 @@ mod value_fault;
 
 pub use due::{DayRange, due_day};
 pub use fault::TermsFault;
+pub use flow::Flow;
 pub use haircut_table::HaircutTable;
 pub use holiday_list::HolidayList;
+pub use lot_currency::LotCurrency;
 pub use moment::Moment;
 pub use reading::read_terms;
 pub use set_terms::{Amounts, SetTerms};
