@@ -3,6 +3,7 @@
 
 mod batch;
 mod batch_faults;
+mod currency;
 mod fault;
 mod key;
 mod kinds;
@@ -14,6 +15,7 @@ mod repeats;
 mod row;
 
 pub use batch::Batch;
+pub use currency::Currency;
 pub use fault::{MakeFault, NameFault};
 pub use key::FactorKey;
 pub use kinds::{BucketId, Measure, ProductClass, RiskClass, RiskType, SubCurve, Tenor};

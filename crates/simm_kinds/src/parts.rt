@@ -1,23 +1,15 @@
 //! Which parts the key of each risk type has.
 ghost use Rattle.std.specs.Prelude.{◌≡◌, ◌&&◌, ◌==◌, is_none, length};
-ghost use Rattle.std.specs.List.{list_all};
-ghost use Rattle.simm_kinds.specs.NameText.{is_currency, is_upper};
+ghost use Rattle.simm_kinds.specs.NameText.{is_currency};
 ghost use Rattle.simm_kinds.specs.Key.{is_single};
 
-use crate::{BucketId, Name, SubCurve, Tenor};
-
-fn are_upper(bytes: &[u8]) -> bool
-    ensures { result ≡ list_all is_upper bytes.now }
-{
-    bytes.iter().all(u8::is_ascii_uppercase)
-}
+use crate::{BucketId, Currency, Name, SubCurve, Tenor};
 
 /// Whether the name is a currency: three letters in upper case.
 fn is_currency(name: &Name) -> bool
     ensures { result ≡ is_currency name.now }
 {
-    let bytes = name.bytes();
-    bytes.len() == 3 && are_upper(bytes)
+    Currency::new(name.bytes()).is_some()
 }
 
 fn is_single(bucket: BucketId) -> bool

@@ -25,9 +25,9 @@ same_name-is a b h = exact_bytes a b (Equal-from_is_eq _ h)
 pub same_name-symm : (a b : List ℕ) → same_name a b ≡ same_name b a
 same_name-symm a b = (eq_by_cmp_equiv nat_list_cmp_total).symm a b
 
-pub not_currency : (b : Bool) (name : List ℕ) → None ≡ cond b (Some name) None → b ≡ false
-not_currency true name e = absurd cc
-not_currency false name e = refl
+pub not_chosen : {A : Type 0} (b : Bool) (x : A) → None ≡ cond b (Some x) None → b ≡ false
+not_chosen true x e = absurd cc
+not_chosen false x e = refl
 
 -- a name that is no currency is in no list of currencies
 pub not_listed : (cs : List (List ℕ)) (name : List ℕ) → AllByRecursion IsCurrency cs → is_currency name ≡ false → is_listed cs name ≡ false

@@ -1,9 +1,8 @@
 -- The kinds of value in a parameter file, each with its test. A number is in ten-thousandths, or for a threshold in cents.
-use Rattle.std.specs.Prelude.{ℕ, ◌+◌, List, [], ◌∷◌, ◌++◌, map, ◌==◌, if◌then◌else◌, Option, Some, None, ℤ, pos, ◌*ℤ◌}
-use Rattle.std.specs.Char.{to_ascii_uppercase}
+use Rattle.std.specs.Prelude.{ℕ, ◌+◌, List, [], ◌∷◌, ◌++◌, ◌==◌, if◌then◌else◌, Option, Some, None, ℤ, pos, ◌*ℤ◌}
 use Rattle.toml.specs.Data.{Data, Items, no_items, item, Members, get_member, get_item, as_str, as_integer, as_array, as_table}
 use Rattle.mh_units.specs.Numeral.{fixed_of}
-use Rattle.simm_kinds.specs.NameText.{is_currency}
+use Rattle.simm_kinds.specs.Currency.{currency_text}
 use Rattle.simm_rules.specs.Lookups.{is_listed}
 use Rattle.simm_params.specs.declared.range.Range.{Range}
 use Rattle.simm_params.specs.Ranges.{dollars, is_within}
@@ -30,13 +29,6 @@ places_at count key table = do
   if items_count items == count then Some items else None
 
 -- ---- currencies
-
-abbrev pub upper : List ℕ → List ℕ
-upper text = map to_ascii_uppercase text
-
--- three letters in either case, kept in upper case
-abbrev pub currency_text : List ℕ → Option (List ℕ)
-currency_text text = if is_currency (upper text) then Some (upper text) else None
 
 -- a text that is a currency
 unfoldable pub currency_of : Data → Option (List ℕ)

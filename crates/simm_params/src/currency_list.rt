@@ -1,7 +1,7 @@
 ghost use Rattle.std.specs.Prelude.{◌≡◌, [], ◌∷◌, ◌++◌, OnOk, OnErr, IfOk};
 ghost use Rattle.simm_rules.specs.Lookups.{is_listed};
 
-use crate::currency::Currency;
+use simm_kinds::{Currency, Name};
 use std::alloc::{AllocError, Global};
 use std::collections::BTreeSet;
 use std::marker::Model;
@@ -60,11 +60,18 @@ impl CurrencyList {
         Ok(())
     }
 
+    /// Whether the list has this currency.
+    pub fn contains(&self, currency: Currency) -> bool
+        ensures { result ≡ is_listed self.now currency }
+    {
+        self.different.contains(&currency)
+    }
+
     /// Whether the list has a currency of this name.
-    pub fn contains(&self, name: &[u8]) -> bool
+    pub fn has_name(&self, name: &Name) -> bool
         ensures { result ≡ is_listed self.now name.now }
     {
-        match Currency::new(name) {
+        match Currency::new(name.bytes()) {
             Some(currency) => self.different.contains(&currency),
             None => false,
         }

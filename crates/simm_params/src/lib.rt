@@ -2,7 +2,6 @@
 #![tactic(auto)]
 
 mod category;
-mod currency;
 mod currency_list;
 mod document;
 mod fault;

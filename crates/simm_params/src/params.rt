@@ -9,10 +9,9 @@ ghost use Rattle.simm_params.specs.Facts.{IsParams, IsFxParams, IsWeighed};
 ghost use Rattle.simm_params.specs.FxView.{fx_view};
 
 use crate::category::{ConcentrationCategory, VolatilityCategory};
-use crate::currency::Currency;
 use crate::fx::FxParams;
 use mh_units::{Corr6, Rate4};
-use simm_kinds::{FactorKey, Name, RiskType, orders_are_defined};
+use simm_kinds::{Currency, FactorKey, Name, RiskType, orders_are_defined};
 use std::alloc::{AllocError, Global};
 use std::marker::Model;
 
@@ -79,7 +78,7 @@ impl Params {
     pub fn volatility_category(&self, key: &FactorKey) -> VolatilityCategory
         ensures { result ≡ volatility self.now key.now.qualifier }
     {
-        if self.fx.high.contains(key.qualifier().bytes()) {
+        if self.fx.high.has_name(key.qualifier()) {
             VolatilityCategory::High
         } else {
             VolatilityCategory::Regular
@@ -90,10 +89,10 @@ impl Params {
     pub(crate) fn concentration_category(&self, key: &FactorKey) -> ConcentrationCategory
         ensures { result ≡ concentration self.now key.now.qualifier }
     {
-        let currency = key.qualifier().bytes();
-        if self.fx.first.contains(currency) {
+        let currency = key.qualifier();
+        if self.fx.first.has_name(currency) {
             ConcentrationCategory::First
-        } else if self.fx.second.contains(currency) {
+        } else if self.fx.second.has_name(currency) {
             ConcentrationCategory::Second
         } else {
             ConcentrationCategory::Third

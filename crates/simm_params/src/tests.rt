@@ -1,7 +1,6 @@
-use crate::currency::Currency;
 use crate::{ParamFault, Params, VolatilityCategory, read_params};
 use mh_units::{Corr6, Rate4};
-use simm_kinds::{BucketId, FactorKey, Name, ProductClass, RiskType};
+use simm_kinds::{BucketId, Currency, FactorKey, Name, ProductClass, RiskType};
 use std::alloc::{AllocError, Global};
 use std::test::Fail;
 

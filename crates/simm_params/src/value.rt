@@ -4,11 +4,11 @@ ghost use Rattle.toml.specs.View.{view, items_view, table_view};
 ghost use Rattle.simm_params.specs.Gives.{Gives};
 ghost use Rattle.simm_params.specs.Values.{table_at, array_at, places_at, currency_of, currencies_of, new_currency_of, new_currencies_of, rate_of, rate_at, threshold_of, threshold_at};
 
-use crate::currency::Currency;
 use crate::currency_list::CurrencyList;
 use crate::fault::ParamFault;
 use crate::range::{DOLLARS, Range};
 use mh_units::{Rate4, read_fixed};
+use simm_kinds::Currency;
 use std::alloc::Global;
 use toml::{Table, Value};
 
@@ -91,7 +91,7 @@ fn new_currency(
     ensures { Gives (λ c. c) result (new_currency_of (earlier.now ++ list.now) (view value.now)) }
 {
     let currency = currency(value)?;
-    if earlier.contains(currency.letters()) || list.contains(currency.letters()) {
+    if earlier.contains(currency) || list.contains(currency) {
         return Err(ParamFault::Refused);
     }
     Ok(currency)

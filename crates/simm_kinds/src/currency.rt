@@ -1,11 +1,12 @@
 ghost use Rattle.std.specs.Prelude.{◌≡◌, true, if◌then◌else◌};
 ghost use Rattle.simm_kinds.specs.NameText.{is_currency};
-ghost use Rattle.simm_params.specs.Values.{currency_text};
+ghost use Rattle.simm_kinds.specs.Currency.{currency_text};
 
 use std::marker::Model;
 
-/// A currency: three letters in upper case. Currencies are ordered by their bytes, and contracts see just these.
-#[derive(Clone, Copy, Debug, PartialEq, Eq, PartialOrd, Ord)]
+/// A currency: three ASCII letters in upper case. Currencies are equal, ordered and hashed by their letters; contracts
+/// see just these.
+#[derive(Clone, Copy, Debug, PartialEq, Eq, PartialOrd, Ord, Hash)]
 pub struct Currency {
     letters: [u8; 3],
 }
@@ -24,7 +25,7 @@ impl Model for Currency {
 }
 
 impl Currency {
-    /// The currency of these letters, if they are three in upper case.
+    /// The currency of these letters, or `None` where they aren't three in upper case.
     pub fn new(letters: &[u8]) -> Option<Currency>
         ensures { result ≡ (if is_currency letters.now then Some letters.now else None) }
     {
@@ -34,7 +35,7 @@ impl Currency {
         }
     }
 
-    /// The currency that a text names in letters of either case, if it does.
+    /// The currency that a text of three letters in either case names, or `None` for another text.
     pub fn read(text: &[u8]) -> Option<Currency>
         ensures { result ≡ currency_text text.now }
     {
