@@ -1,5 +1,5 @@
 -- Dates from the year 1 on, and their days.
-use Rattle.std.proofs.Common.{rules, ◌≡◌, ◌↔◌, ◌⊎◌, ⊎_elim, inl, inr, ℕ, ◌≤◌, ◌<◌, true, Some, ℤ, pos, negsuc, ◌≤ℤ◌, ◌<ℤ◌, le-leb, refl, arith}
+use Rattle.std.proofs.Common.{rules, ◌≡◌, ◌↔◌, ◌⊎◌, ⊎_elim, inl, inr, ℕ, ◌≤◌, ◌<◌, true, Some, ℤ, pos, negsuc, neg_ℤ, ◌≤ℤ◌, ◌<ℤ◌, le-leb, refl, arith}
 use Rattle.std.proofs.lemmas.Bool.{cases_lt}
 use Rattle.std.proofs.lemmas.Int.{ints}
 use Rattle.jiff.specs.Words.{IsBetween, IsDate, IsYmd, epoch_day, days_in_month}
@@ -48,15 +48,20 @@ calendar-from d low =
       high = range.1;
     }
 
+-- a date of a year before 1 comes before 0001-01-01
+pub before_first : (d : Date) → d.year <ℤ pos 1 → epoch_day d <ℤ neg_ℤ (pos 719162)
+unfolding first_date
+before_first d before = let first = first_day in let less = epoch_day-lt d first_date (inl before) in omega (arith, ints)
+
 -- ---- the days of the years 1 to 9000
 
 last_date : Date
 last_date = record { year = pos 9000; month = 12; day = 31; year_in = search rules; month_in = search rules; day_in = search rules }
 
-abbrev date_of : (y : ℤ) (m d : ℕ) → IsCivilDate y m d → Date
+abbrev pub date_of : (y : ℤ) (m d : ℕ) → IsCivilDate y m d → Date
 date_of y m d h = record { year = y; month = m; day = d; year_in = h.0; month_in = h.1; day_in = h.2 }
 
-cases_below : (a b : ℤ) → (a <ℤ b) ⊎ (b ≤ℤ a)
+pub cases_below : (a b : ℤ) → (a <ℤ b) ⊎ (b ≤ℤ a)
 cases_below (pos a) (pos b) = ⊎_elim (λ (h : a < b). inl (omega (arith, ints))) (λ (h : b ≤ a). inr (omega (arith, ints))) (cases_lt a b)
 cases_below (pos a) (negsuc b) = inr (omega (arith, ints))
 cases_below (negsuc a) (pos b) = inl (omega (arith, ints))

@@ -3,3 +3,4 @@ mod BusinessDays
 mod Digits
 mod CalendarDays
 mod Loops
+mod PrintedDays

@@ -6,5 +6,6 @@ pub mod Ranges
 pub mod Faults
 pub mod Paths
 pub mod Dates
+pub mod Moments
 pub mod Values
 pub mod Grammar

@@ -1,5 +1,7 @@
 ghost use Rattle.std.specs.Prelude.{◌≡◌, ◌<◌, nat_lt, if◌then◌else◌};
+ghost use Rattle.csa_terms.specs.Moments.{moment_of};
 
+use crate::date::{date_in, minute_in};
 use std::marker::Model;
 
 /// The local time of a demand: a day, counted from 1970-01-01, and a minute of it, from 0 at midnight to 1,439.
@@ -32,6 +34,20 @@ impl Moment {
         } else {
             None
         }
+    }
+
+    /// The moment that a text has as a feed writes it: exactly `YYYY-MM-DDTHH:MM`, with a date of the calendar, of the years 0001
+    /// to 9999, and a time from `00:00` to `23:59`. None for every other text.
+    #[tactic(auto, unfolding(crate::specs::Moments::moment_of))]
+    pub fn read(text: &[u8]) -> Option<Moment>
+        ensures { result ≡ moment_of text.now }
+    {
+        if text.len() != 16 || text[10] != b'T' {
+            return None;
+        }
+        let day = date_in(&text[0..10])?;
+        let minute = minute_in(&text[11..16])?;
+        Some(Moment { day, minute })
     }
 
     /// The day, counted from 1970-01-01.
