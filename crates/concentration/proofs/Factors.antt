@@ -1,13 +1,13 @@
 -- The concentration factor is the least number of its rule, and stays below 347; a ratio of two lies between 0 and 1.
-use Rattle.std.proofs.Common.{◌≡◌, ℕ, ◌*◌, ◌^◌, ◌<◌, ◌≤◌, ℤ, pos, negsuc, ◌*ℤ◌, ◌≤ℤ◌, ◌<ℤ◌, unsigned_abs, sym, subst, arith}
+use Rattle.std.proofs.Common.{◌≡◌, ℕ, ◌*◌, ◌^◌, ◌<◌, ◌≤◌, ℤ, pos, negsuc, ◌*ℤ◌, ◌≤ℤ◌, ◌<ℤ◌, unsigned_abs, sym, ap, ◌∙◌, subst, arith}
 use Rattle.std.proofs.lemmas.Nat.{mul-le}
 use Rattle.std.proofs.lemmas.Int.{ints, clamps}
-use Rattle.std.proofs.Math.IntN.{zero-*ℤ}
-use Rattle.std.specs.Int.{int_max}
+use Rattle.std.proofs.Math.IntN.{zero-*ℤ, *ℤ_comm}
+use Rattle.std.specs.Int.{int_min, int_max}
 use Rattle.mh_units.specs.Rounding.{up, down, root, IsUp, IsRoot}
 use Rattle.mh_units.proofs.Integers.{below_next, mul-le_ℤ}
 use Rattle.mh_units.proofs.Roundings.{up_is, down_is, root_is}
-use Rattle.simm_rules.specs.Concentration.{IsConcentration, one, cr}
+use Rattle.simm_rules.specs.Concentration.{IsConcentration, one, cr, ratio}
 
 -- ---- the ratio of the lesser over the greater
 
@@ -16,6 +16,21 @@ ratio_bounds l (pos k) low some le =
     let d = down_is (l *ℤ one) (pos k) some in
     (d.greatest (pos 0) (omega (arith, ints, zero-*ℤ (pos k))), below_next (down (l *ℤ one) (pos k)) one (l *ℤ one) k d.within (omega (arith, ints)))
 ratio_bounds l (negsuc k) low some le = absurd some.lt
+
+itself_over : (a : ℤ) → one ≤ℤ a → one ≡ down (int_min a a *ℤ one) (int_max a a)
+itself_over a low =
+    let lesser : int_min a a ≡ a = omega (arith, ints, clamps) in
+    let greater : int_max a a ≡ a = omega (arith, ints, clamps) in
+    let turned : one *ℤ a ≡ a *ℤ one = *ℤ_comm one a in
+    let d = down_is (a *ℤ one) a (omega (arith, ints)) in
+    let reached : one ≤ℤ down (a *ℤ one) a = d.greatest one (omega (arith, ints)) in
+    let bounds = ratio_bounds a a (omega (arith, ints)) (omega (arith, ints)) (omega (arith, ints)) in
+    let whole : one ≡ down (a *ℤ one) a = omega (arith, ints, reached, bounds.1) in
+    whole ∙ ap (λ z. down (z *ℤ one) a) (sym lesser) ∙ ap (λ z. down (int_min a a *ℤ one) z) (sym greater)
+
+-- of two equal factors
+pub ratio_of_equals : (a b : ℤ) → one ≤ℤ a → a ≡ b → one ≡ ratio a b
+ratio_of_equals a b low e = subst (λ z. one ≡ ratio a z) e (itself_over a low)
 
 -- ---- the factor
 

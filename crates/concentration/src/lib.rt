@@ -26,7 +26,8 @@ pub fn cr(net: i128, threshold: i64) -> Corr6
     Corr6(Corr6::ONE.0.max(root as i64))
 }
 
-/// The lesser of two concentration factors over the greater, rounded down: how alike two concentrations are.
+/// The lesser of two concentration factors over the greater, rounded down: how alike two concentrations are. Two equal ones
+/// are divided by nothing.
 pub fn ratio(a: Corr6, b: Corr6) -> Corr6
     requires first_from_one { one ≤ℤ a.0 }
     requires first_below { a.0 <ℤ pos 347000000 }
@@ -36,16 +37,22 @@ pub fn ratio(a: Corr6, b: Corr6) -> Corr6
     ensures not_negative { pos 0 ≤ℤ result.0 }
     ensures at_most_one { result.0 ≤ℤ one }
 {
+    if a.0 == b.0 {
+        return Corr6::ONE;
+    }
     Corr6(quotient_below_one(a.0.min(b.0), a.0.max(b.0)))
 }
 
-/// The product of two correlations, rounded towards zero.
+/// The product of two correlations, rounded towards zero. A factor of 1 is multiplied by nothing.
 pub fn combine(rho: Corr6, f: Corr6) -> Corr6
     requires first { unsigned_abs rho.0 ≤ 1000000 }
     requires second { unsigned_abs f.0 ≤ 1000000 }
     ensures value { result.0 ≡ combined rho.0 f.0 }
     ensures size { unsigned_abs result.0 ≤ 1000000 }
 {
+    if f.0 == Corr6::ONE.0 {
+        return rho;
+    }
     mul_corr(rho, f)
 }
 

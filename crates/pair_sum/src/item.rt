@@ -8,10 +8,11 @@ pub struct Item {
     pub w: i128,
 }
 
-// What has an amount to be multiplied pair by pair.
-pub(crate) trait Weighted {
+/// What has an amount in cents that is multiplied pair by pair.
+pub trait Weighted {
     ghost weight: { Self → ℤ };
 
+    /// The amount, in cents.
     fn weight(&self) -> i128
         ensures { result ≡ weight self.now };
 }

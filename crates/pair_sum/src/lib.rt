@@ -12,7 +12,7 @@ mod steps;
 mod tests;
 
 pub use correlation::Correlation;
-pub use item::Item;
+pub use item::{Item, Weighted};
 pub use pairs::{pair_sum, pair_term};
 pub use roots::{bucket_root, outer_root};
 pub use simm_rules::BucketMargin;

@@ -1,8 +1,8 @@
 ghost use Rattle.std.specs.Prelude.{◌≡◌, ◌+◌, ◌-◌, ◌*◌, ◌^◌, ◌<◌, ◌≤◌, length, map, sum_by, ◌*ℤ◌, unsigned_abs};
-ghost use Rattle.pair_sum.specs.PairTotal.{pair_total, sum_below, term, weights};
+ghost use Rattle.pair_sum.specs.PairTotal.{pair_total, sum_below, term};
 
 use crate::correlation::Correlation;
-use crate::item::{Item, Weighted};
+use crate::item::Weighted;
 use crate::steps::Steps;
 use mh_units::Corr6;
 use std::sync::ledger::Ledger;
@@ -19,14 +19,18 @@ pub fn pair_term<L: Ledger>(a: i128, b: i128, corr: Corr6, steps: &mut Steps<L>)
     i128::from(corr.0) * a * b
 }
 
-/// The sum over all ordered pairs of items of their correlation and both weights, in cents squared times 10^6. A pair of two
+/// The sum over all ordered pairs of items of their correlation and both amounts, in cents squared times 10^6. A pair of two
 /// different items is multiplied once and counted twice.
-pub fn pair_sum<C: Correlation, L: Ledger>(items: &[Item], corr: &C, steps: &mut Steps<L>) -> i128
+pub fn pair_sum<T: Weighted, C: Correlation, L: Ledger>(
+    items: &[T],
+    corr: &C,
+    steps: &mut Steps<L>,
+) -> i128
     requires size { C.size corr.now ≡ length items.now }
-    requires in_range { sum_by (λ item. unsigned_abs item.w) items.now < 84 * 10 ^ 14 }
-    ensures value { result ≡ pair_total (C.corr corr.now) (weights items.now) }
+    requires in_range { sum_by (λ item. unsigned_abs (T.weight item)) items.now < 84 * 10 ^ 14 }
+    ensures value { result ≡ pair_total (C.corr corr.now) (map T.weight items.now) }
     ensures size { unsigned_abs result ≤ 8 * 10 ^ 37 }
-    ensures gross { let gross = sum_by (λ item. unsigned_abs item.w) items.now in
+    ensures gross { let gross = sum_by (λ item. unsigned_abs (T.weight item)) items.now in
         unsigned_abs result ≤ 1000000 * (gross * gross) }
     ensures steps { let n = length items.now in 2 * steps.new ≡ 2 * steps.old + n * (n + 1) }
     ensures at_most { steps.new ≤ steps.old + length items.now * length items.now }
