@@ -1,0 +1,17 @@
+//! The value of a bucket, for every risk class and measure: the correlations of its factors are made of a class's table and
+//! of how concentrated the factors are, and the weighted values of all ordered pairs are summed. A class adds only what is
+//! its own: which factors there are, their groups, weights, thresholds and correlations.
+//! (ISDA SIMM methodology, weighted sensitivities and aggregation within a bucket.)
+#![tactic(auto)]
+
+mod correlated;
+mod margin;
+mod rho;
+mod scaling;
+mod sums;
+mod weighed;
+
+pub use margin::bucket_margin;
+pub use rho::Rho;
+pub use scaling::Scaling;
+pub use weighed::{Weighed, weigh};
