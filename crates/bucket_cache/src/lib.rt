@@ -8,6 +8,3 @@ mod live;
 
 pub use fault::{SubmitFault, WithdrawFault};
 pub use live::LiveMargin;
-
-#[cfg(test)]
-mod tests;

@@ -10,6 +10,3 @@ mod rated_lot;
 
 pub use fault::LedgerFault;
 pub use ledger::Ledger;
-
-#[cfg(test)]
-mod tests;

@@ -80,30 +80,3 @@ fn quotient_below_one(lesser: i64, greater: i64) -> i64
 {
     (lesser * Corr6::ONE.0).div_euclid(greater)
 }
-
-#[cfg(test)]
-mod tests {
-    use super::*;
-
-    #[test]
-    fn a_factor_is_rounded_up_and_at_least_one(rt: HostRuntime) {
-        assert_eq!(rt; cr(20_000_000_000, 10_000_000_000), Corr6(1_414_214));
-        assert_eq!(rt; cr(-40_000, 10_000), Corr6(2_000_000));
-        assert_eq!(rt; cr(0, 1), Corr6::ONE);
-        assert_eq!(rt; cr(1_000_000_000_001, 1_000_000_000_000), Corr6(1_000_001));
-        assert_eq!(rt; cr(120_000, 1), Corr6(346_410_162));
-    }
-
-    #[test]
-    fn a_ratio_is_rounded_down(rt: HostRuntime) {
-        assert_eq!(rt; ratio(Corr6::ONE, Corr6(1_414_214)), Corr6(707_106));
-        assert_eq!(rt; ratio(Corr6(1_414_214), Corr6::ONE), Corr6(707_106));
-        assert_eq!(rt; ratio(Corr6(2_000_000), Corr6(2_000_000)), Corr6::ONE);
-    }
-
-    #[test]
-    fn a_product_of_correlations_is_rounded_towards_zero(rt: HostRuntime) {
-        assert_eq!(rt; combine(Corr6(500_000), Corr6(707_107)), Corr6(353_553));
-        assert_eq!(rt; combine(Corr6(-500_000), Corr6(707_107)), Corr6(-353_553));
-    }
-}

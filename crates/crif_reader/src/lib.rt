@@ -9,6 +9,3 @@ mod text;
 
 pub use fault::CrifFault;
 pub use read::read_batch;
-
-#[cfg(test)]
-mod tests;

@@ -129,6 +129,3 @@ fn times(count: i128, unit: i128) -> i64
 {
     (count * unit) as i64
 }
-
-#[cfg(test)]
-mod tests;

@@ -36,6 +36,3 @@ pub use moment_words::{push_day, push_moment};
 pub use reading::read_terms;
 pub use set_terms::{Amounts, SetTerms};
 pub use terms::Terms;
-
-#[cfg(test)]
-mod tests;

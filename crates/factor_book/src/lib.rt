@@ -13,6 +13,3 @@ mod place;
 pub use at::{BucketAt, ClassAt};
 pub use factors::Factors;
 pub use laws::order_is_free;
-
-#[cfg(test)]
-mod tests;

@@ -7,6 +7,3 @@ mod run;
 
 pub use report::{FeedEnd, FeedReport, RefusedMessage};
 pub use run::run_feed;
-
-#[cfg(test)]
-mod tests;

@@ -4,4 +4,3 @@ pub mod FeedLines
 pub mod FeedItems
 pub mod FeedAnswers
 pub mod FeedMeanings
-pub mod FeedWhole

@@ -2,5 +2,4 @@ pub mod Fault
 pub mod Line
 pub mod Feed
 pub mod Answers
-pub mod Whole
 pub mod Steps

@@ -11,8 +11,3 @@ mod words;
 pub use fault::FeedFault;
 pub use message::{Fed, Message};
 pub use read::next_message;
-
-#[cfg(test)]
-mod tests;
-#[cfg(test)]
-mod whole;

@@ -19,8 +19,3 @@ pub use cell::HeldCell;
 pub use entry::Entry;
 pub use machine::{Halt, Machine, Outcome, TryOutcome};
 pub use seat::Seat;
-
-#[cfg(test)]
-mod tests;
-#[cfg(test)]
-mod toy;

@@ -12,6 +12,3 @@ mod trade_lines;
 pub use breakdown_lines::margin_lines;
 pub use feed_lines::push_report;
 pub use set_journal::{journal_text, push_journal};
-
-#[cfg(test)]
-mod tests;

@@ -21,6 +21,3 @@ pub use calculation::calc;
 pub use house::margin_house;
 pub use margin_text::journal_text;
 pub use status::Status;
-
-#[cfg(test)]
-mod tests;

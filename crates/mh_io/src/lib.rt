@@ -28,8 +28,3 @@ pub use real::{RealFolder, RealSink, RealSource};
 pub use sink::Sink;
 pub use source::{Failed, Source};
 pub use writing::{PutFault, put_all};
-
-#[cfg(test)]
-mod lines_tests;
-#[cfg(test)]
-mod tests;

@@ -17,6 +17,3 @@ pub use money::{push_cents, write_cents};
 pub use numeral::{NumeralFault, read_cents, read_fixed, read_rate4};
 pub use quantities::{Cents, Corr6, Rate4};
 pub use rounding::{clamp_to, div_away, div_down, div_trunc, div_up, least_root, mul_corr};
-
-#[cfg(test)]
-mod tests;

@@ -8,8 +8,6 @@ mod item;
 mod pairs;
 mod roots;
 mod steps;
-#[cfg(test)]
-mod tests;
 
 pub use correlation::Correlation;
 pub use item::{Item, Weighted};

@@ -16,6 +16,3 @@ pub use refusal::Refusal;
 pub use reply::{Entry, Reply};
 pub use reply_words::{push_reply, reply_text};
 pub use set_state::SetState;
-
-#[cfg(test)]
-mod tests;

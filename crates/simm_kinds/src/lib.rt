@@ -23,6 +23,3 @@ pub use listed::Listed;
 pub use name::Name;
 pub use order_laws::orders_are_defined;
 pub use row::{CrifRow, TradeRows};
-
-#[cfg(test)]
-mod tests;

@@ -16,6 +16,3 @@ pub use category::VolatilityCategory;
 pub use fault::ParamFault;
 pub use params::Params;
 pub use reading::read_params;
-
-#[cfg(test)]
-mod tests;

@@ -18,6 +18,3 @@ mod weighing;
 pub use book::{margin_in_range, range_fault};
 pub use laws::fewer_are_in_range;
 pub use lent::LentRows;
-
-#[cfg(test)]
-mod tests;

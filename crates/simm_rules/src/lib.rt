@@ -6,6 +6,3 @@
 mod values;
 
 pub use values::{Breakdown, BucketMargin, RangeFault, RangeKind};
-
-#[cfg(test)]
-mod tests;

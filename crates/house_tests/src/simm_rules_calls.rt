@@ -1,4 +1,4 @@
-use crate::RangeKind;
+use simm_rules::RangeKind;
 
 /// Each quantity of a book, and its number.
 const KINDS: [(RangeKind, u8); 5] = [

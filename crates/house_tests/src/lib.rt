@@ -1,0 +1,19 @@
+//! Tests of the libraries, over their public calls: that each succeeds, and what no file of a run shows.
+#![tactic(auto)]
+
+#[cfg(test)]
+mod concentration_calls;
+#[cfg(test)]
+mod makers;
+#[cfg(test)]
+mod mh_io_calls;
+#[cfg(test)]
+mod mh_io_lines;
+#[cfg(test)]
+mod mh_units_calls;
+#[cfg(test)]
+mod pair_sum_calls;
+#[cfg(test)]
+mod simm_kinds_calls;
+#[cfg(test)]
+mod simm_rules_calls;

@@ -1,4 +1,0 @@
-use Rattle.pair_sum.proofs.tests.sum.Given as goal
-
-abbrev pub ghosts-sum_of : goal.ghosts-sum_of
-ghosts-sum_of a = record { name = a.blank.name; parts = a.blank.parts }
