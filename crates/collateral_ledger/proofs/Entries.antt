@@ -1,5 +1,5 @@
 -- The lots of a map's entries: a look-up by the name, an entry more or less, and a value changed.
-use Rattle.std.proofs.Common.{◌≡◌, ℕ, List, [], ◌∷◌, ◌++◌, map, length, Bool, true, false, cond, ◌||◌, Some, is_some, if◌then◌else◌, ℤ, ◌+ℤ◌, ◌<◌, refl, sym, ap, ◌∙◌, subst, nat_eq, arith, length-append}
+use Rattle.std.proofs.Common.{◌≡◌, ℕ, ◌+ℤ◌, List, [], ◌∷◌, ◌++◌, map, length, Bool, true, false, cond, ◌||◌, Some, is_some, if◌then◌else◌, ℤ, ◌<◌, refl, sym, ap, ◌∙◌, subst, nat_eq, arith, length-append}
 use Rattle.std.specs.List.{AllByRecursion, IsDistinct}
 use Rattle.std.specs.Map.{keys_of, values_of, lookup, remove_entry, set_value}
 use Rattle.std.specs.Cmp.Lexicographic.{pointwise}
@@ -12,11 +12,10 @@ use Rattle.std.proofs.lemmas.Map.Entries.{none_past_head}
 use Rattle.std.proofs.lemmas.Map.Text.{is_eq-slice_cmp}
 use Rattle.simm_kinds.specs.Order.{same_name}
 use Rattle.indexmap.specs.IndexMap.{insert_entry}
-use Rattle.csa_terms.specs.Terms.{Agreement}
 use Rattle.collateral_ledger.specs.Holdings.{Lot, IsLot, IsLotValue, AreLots}
 use Rattle.collateral_ledger.specs.Booked.{total, counted, counted_at}
 use Rattle.collateral_ledger.specs.Changes.{has_lot, with_value, without_lot}
-use Rattle.collateral_ledger.specs.Kept.{Rated, Posted, IsRatedBy, AreRatedBy, lot_at}
+use Rattle.collateral_ledger.specs.Kept.{Rated, IsRated, AreRated, lot_at}
 use Rattle.collateral_ledger.proofs.Viewed.{each_push, each_removed, length-removed, map-push, list_any-view, map-removed}
 
 -- a map's test of names
@@ -76,25 +75,28 @@ insert_new name lot (e ∷ es) h =
 
 -- ---- what each entry keeps
 
-pub rated_push : (agreement : Agreement) (es : List (List ℕ × Rated)) (e : List ℕ × Rated) → AreRatedBy agreement es → length es < 4096 → IsRatedBy agreement e → AreRatedBy agreement (es ++ e ∷ [])
-rated_push agreement es e h room is = record { few = omega (arith, length-append es (e ∷ [])); each = each_push (IsRatedBy agreement) es e h.each is }
+abbrev pub IsKept : List ℕ × Rated → Type 0
+IsKept e = IsRated e.1
 
-pub rated_removed : (agreement : Agreement) (test : List ℕ → Bool) (es : List (List ℕ × Rated)) → AreRatedBy agreement es → AreRatedBy agreement (remove_entry test es)
-rated_removed agreement test es h = record { few = omega (arith, length-removed test es, h.few); each = each_removed (IsRatedBy agreement) test es h.each }
+rated_push : (es : List (List ℕ × Rated)) (e : List ℕ × Rated) → AreRated es → length es < 4096 → IsKept e → AreRated (es ++ e ∷ [])
+rated_push es e h room is = record { few = omega (arith, length-append es (e ∷ [])); each = each_push IsKept es e h.each is }
 
-each_with_value : (agreement : Agreement) (test : List ℕ → Bool) (value : ℤ) (old new : Rated) (es : List (List ℕ × Rated)) → IsLotValue value → lookup test es ≡ Some old → new ≡ record old { value = value } → AllByRecursion (IsRatedBy agreement) es → AllByRecursion (IsRatedBy agreement) (set_value test es new)
-each_with_value agreement test value old new [] v found is h = tt
-each_with_value agreement test value old new (e ∷ es) v found is h = by (test e.0) found (λ later. each_with_value agreement test value old new es v later is h.1)
+rated_removed : (test : List ℕ → Bool) (es : List (List ℕ × Rated)) → AreRated es → AreRated (remove_entry test es)
+rated_removed test es h = record { few = omega (arith, length-removed test es, h.few); each = each_removed IsKept test es h.each }
+
+each_with_value : (test : List ℕ → Bool) (value : ℤ) (old new : Rated) (es : List (List ℕ × Rated)) → IsLotValue value → lookup test es ≡ Some old → new ≡ record old { value = value } → AllByRecursion IsKept es → AllByRecursion IsKept (set_value test es new)
+each_with_value test value old new [] v found is h = tt
+each_with_value test value old new (e ∷ es) v found is h = by (test e.0) found (λ later. each_with_value test value old new es v later is h.1)
   where
-    by : (b : Bool) → cond b (Some e.1) (lookup test es) ≡ Some old → (lookup test es ≡ Some old → AllByRecursion (IsRatedBy agreement) (set_value test es new)) → AllByRecursion (IsRatedBy agreement) (cond b ((e.0, new) ∷ es) (e ∷ set_value test es new))
+    by : (b : Bool) → cond b (Some e.1) (lookup test es) ≡ Some old → (lookup test es ≡ Some old → AllByRecursion IsKept (set_value test es new)) → AllByRecursion IsKept (cond b ((e.0, new) ∷ es) (e ∷ set_value test es new))
     by true found rest =
         let one : e.1 ≡ old = cc in
         let same : new ≡ record e.1 { value = value } = is ∙ ap (λ (l : Rated). record l { value = value }) (sym one) in
-        (subst (λ (l : Rated). IsRatedBy agreement (e.0, l)) (sym same) (record { known = h.0.known; rated = h.0.rated; in_range = v }), h.1)
+        (subst IsRated (sym same) (record { in_range = v; small = h.0.small }), h.1)
     by false found rest = (h.0, rest found)
 
-pub rated_with_value : (agreement : Agreement) (test : List ℕ → Bool) (value : ℤ) (old new : Rated) (es : List (List ℕ × Rated)) → IsLotValue value → lookup test es ≡ Some old → new ≡ record old { value = value } → AreRatedBy agreement es → AreRatedBy agreement (set_value test es new)
-rated_with_value agreement test value old new es v found is h = record { few = omega (arith, length-set_value test es new, h.few); each = each_with_value agreement test value old new es v found is h.each }
+rated_with_value : (test : List ℕ → Bool) (value : ℤ) (old new : Rated) (es : List (List ℕ × Rated)) → IsLotValue value → lookup test es ≡ Some old → new ≡ record old { value = value } → AreRated es → AreRated (set_value test es new)
+rated_with_value test value old new es v found is h = record { few = omega (arith, length-set_value test es new, h.few); each = each_with_value test value old new es v found is h.each }
 
 -- ---- the lots of what a map keeps
 
@@ -105,14 +107,14 @@ names-lots_at : (es : List (List ℕ × Rated)) → keys_of es ≡ map (λ (lot 
 names-lots_at [] = refl
 names-lots_at (e ∷ es) = ap (λ ns. e.0 ∷ ns) (names-lots_at es)
 
-lots_each : (agreement : Agreement) (es : List (List ℕ × Rated)) → AllByRecursion (IsRatedBy agreement) es → AllByRecursion (IsLot agreement) (lots_at es)
-lots_each agreement [] h = tt
-lots_each agreement (e ∷ es) h = (record { known = h.0.known; in_range = h.0.in_range }, lots_each agreement es h.1)
+lots_each : (es : List (List ℕ × Rated)) → AllByRecursion IsKept es → AllByRecursion IsLot (lots_at es)
+lots_each [] h = tt
+lots_each (e ∷ es) h = (record { in_range = h.0.in_range; small = h.0.small }, lots_each es h.1)
 
-pub are_lots : (agreement : Agreement) (es : List (List ℕ × Rated)) → AreRatedBy agreement es → IsDistinct name_eq (keys_of es) → AreLots agreement (lots_at es)
-are_lots agreement es h apart = record {
+pub are_lots : (es : List (List ℕ × Rated)) → AreRated es → IsDistinct name_eq (keys_of es) → AreLots (lots_at es)
+are_lots es h apart = record {
   few = omega (arith, length-map es lot_at, h.few);
-  each = lots_each agreement es h.each;
+  each = lots_each es h.each;
   different = subst (λ ns. IsDistinct same_name ns) (names-lots_at es) (subst (λ (eq : List ℕ → List ℕ → Bool). IsDistinct eq (keys_of es)) same_names apart);
 }
 
@@ -121,47 +123,41 @@ are_lots agreement es h apart = record {
 abbrev pub counted_rated : Rated → ℤ
 counted_rated lot = counted_at lot.value lot.rate
 
-pub total-lots_at : (agreement : Agreement) (es : List (List ℕ × Rated)) → AllByRecursion (IsRatedBy agreement) es → total (map counted_rated (values_of es)) ≡ total (map (counted agreement) (lots_at es))
-total-lots_at agreement [] h = refl
-total-lots_at agreement (e ∷ es) h = ap (λ z. counted_at e.1.value z +ℤ total (map counted_rated (values_of es))) h.0.rated ∙ ap (λ z. counted agreement (lot_at e) +ℤ z) (total-lots_at agreement es h.1)
+pub total-lots_at : (es : List (List ℕ × Rated)) → total (map counted_rated (values_of es)) ≡ total (map counted (lots_at es))
+total-lots_at [] = refl
+total-lots_at (e ∷ es) = ap (λ z. counted_rated e.1 +ℤ z) (total-lots_at es)
 
 -- ---- the lots after a change of the map, as contracts see them
 
-abbrev pub posted : Agreement → List (List ℕ × Rated) → Posted
-posted agreement es = record { terms = agreement; lots = lots_at es }
+pub record Changed (es : List (List ℕ × Rated)) (after : List Lot) : Type 0 where
+  pub kept : AreRated es
+  pub seen : lots_at es ≡ after
 
-pub record Changed (agreement : Agreement) (es : List (List ℕ × Rated)) (after : Posted) : Type 0 where
-  pub kept : AreRatedBy agreement es
-  pub seen : posted agreement es ≡ after
-
-pub pushed : (agreement : Agreement) (old new : List (List ℕ × Rated)) (name : List ℕ) (lot : Rated) (before : Posted)
-    → posted agreement old ≡ before → AreRatedBy agreement old → has_lot name before.lots ≡ false → length before.lots < 4096 → IsRatedBy before.terms (name, lot)
-    → new ≡ insert_entry name_eq old name lot → Changed agreement new (record before { lots = before.lots ++ lot_at (name, lot) ∷ [] })
-pushed agreement old new name lot before seen h fresh room is put =
-    let same : lots_at old ≡ before.lots = ap (λ (p : Posted). p.lots) seen in
-    let under : agreement ≡ before.terms = ap (λ (p : Posted). p.terms) seen in
-    let fresh_old : has_lot name (lots_at old) ≡ false = ap (has_lot name) same ∙ fresh in
+pub pushed : (old new : List (List ℕ × Rated)) (name : List ℕ) (lot : Rated) (before : List Lot)
+    → lots_at old ≡ before → AreRated old → has_lot name before ≡ false → length before < 4096 → IsRated lot
+    → new ≡ insert_entry name_eq old name lot → Changed new (before ++ lot_at (name, lot) ∷ [])
+pushed old new name lot before seen h fresh room is put =
+    let fresh_old : has_lot name (lots_at old) ≡ false = ap (has_lot name) seen ∙ fresh in
     let appended : new ≡ old ++ (name, lot) ∷ [] = put ∙ insert_new name lot old fresh_old in
-    let room_old : length old < 4096 = omega (arith, ap length same, length-map old lot_at) in
-    let rated : IsRatedBy agreement (name, lot) = subst (λ (a : Agreement). IsRatedBy a (name, lot)) (sym under) is in
+    let room_old : length old < 4096 = omega (arith, ap length seen, length-map old lot_at) in
     record {
-      kept = subst (AreRatedBy agreement) (sym appended) (rated_push agreement old (name, lot) h room_old rated);
-      seen = ap (posted agreement) appended ∙ ap (λ ls. record { terms = agreement; lots = ls }) (map-push lot_at old (name, lot)) ∙ ap (λ (p : Posted). record p { lots = p.lots ++ lot_at (name, lot) ∷ [] }) seen;
+      kept = subst AreRated (sym appended) (rated_push old (name, lot) h room_old is);
+      seen = ap lots_at appended ∙ map-push lot_at old (name, lot) ∙ ap (λ ls. ls ++ lot_at (name, lot) ∷ []) seen;
     }
 
-pub removed : (agreement : Agreement) (old new : List (List ℕ × Rated)) (name : List ℕ) (before : Posted)
-    → posted agreement old ≡ before → AreRatedBy agreement old → IsDistinct name_eq (keys_of old)
-    → new ≡ remove_entry (name_eq name) old → Changed agreement new (record before { lots = without_lot name before.lots })
-removed agreement old new name before seen h apart taken = record {
-  kept = subst (AreRatedBy agreement) (sym taken) (rated_removed agreement (name_eq name) old h);
-  seen = ap (posted agreement) taken ∙ ap (λ ls. record { terms = agreement; lots = ls }) (lots_at-remove_entry name old apart) ∙ ap (λ (p : Posted). record p { lots = without_lot name p.lots }) seen;
+pub removed : (old new : List (List ℕ × Rated)) (name : List ℕ) (before : List Lot)
+    → lots_at old ≡ before → AreRated old → IsDistinct name_eq (keys_of old)
+    → new ≡ remove_entry (name_eq name) old → Changed new (without_lot name before)
+removed old new name before seen h apart taken = record {
+  kept = subst AreRated (sym taken) (rated_removed (name_eq name) old h);
+  seen = ap lots_at taken ∙ lots_at-remove_entry name old apart ∙ ap (without_lot name) seen;
 }
 
-pub revalued : (agreement : Agreement) (old new : List (List ℕ × Rated)) (name : List ℕ) (value : ℤ) (was is : Rated) (before : Posted)
-    → posted agreement old ≡ before → AreRatedBy agreement old → IsDistinct name_eq (keys_of old) → IsLotValue value
+pub revalued : (old new : List (List ℕ × Rated)) (name : List ℕ) (value : ℤ) (was is : Rated) (before : List Lot)
+    → lots_at old ≡ before → AreRated old → IsDistinct name_eq (keys_of old) → IsLotValue value
     → lookup (name_eq name) old ≡ Some was → is ≡ record was { value = value }
-    → new ≡ set_value (name_eq name) old is → Changed agreement new (record before { lots = with_value name value before.lots })
-revalued agreement old new name value was is before seen h apart v found changed set = record {
-  kept = subst (AreRatedBy agreement) (sym set) (rated_with_value agreement (name_eq name) value was is old v found changed h);
-  seen = ap (posted agreement) set ∙ ap (λ ls. record { terms = agreement; lots = ls }) (lots_at-set_value name value was is old apart found changed) ∙ ap (λ (p : Posted). record p { lots = with_value name value p.lots }) seen;
+    → new ≡ set_value (name_eq name) old is → Changed new (with_value name value before)
+revalued old new name value was is before seen h apart v found changed set = record {
+  kept = subst AreRated (sym set) (rated_with_value (name_eq name) value was is old v found changed h);
+  seen = ap lots_at set ∙ lots_at-set_value name value was is old apart found changed ∙ ap (with_value name value) seen;
 }

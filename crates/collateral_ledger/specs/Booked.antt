@@ -1,32 +1,44 @@
 -- What is booked on a netting set. (ISDA 2016 Credit Support Annex for Initial Margin: Valuation Percentage, FX Haircut Percentage;
 -- prior deliveries and returns not yet completed count as made.)
-use Rattle.std.specs.Prelude.{List, [], ◌∷◌, map, Bool, if◌then◌else◌, unwrap_or, ℤ, pos, neg_ℤ, ◌+ℤ◌, ◌-ℤ◌, ◌*ℤ◌}
+use Rattle.std.specs.Prelude.{ℕ, List, [], ◌∷◌, map, unwrap_or, ℤ, pos, neg_ℤ, ◌+ℤ◌, ◌-ℤ◌, ◌*ℤ◌}
 use Rattle.std.specs.Int.{int_max}
 use Rattle.mh_units.specs.Rounding.{down}
+use Rattle.csa_terms.specs.declared.flow.Flow.{Flow}
+use Rattle.csa_terms.specs.declared.flow.Flow.TheVariants.{Delivery, Return}
+use Rattle.csa_terms.specs.declared.lot_currency.LotCurrency.{LotCurrency}
+use Rattle.csa_terms.specs.declared.lot_currency.LotCurrency.TheVariants.{Same, Other}
 use Rattle.csa_terms.specs.Terms.{Agreement, haircut_of}
 use Rattle.collateral_ledger.specs.Holdings.{Lot, Call, Holdings}
-use Rattle.std.specs.Prelude.{ℕ}
 
 abbrev pub total : List ℤ → ℤ
 total [] = pos 0
 total (x ∷ xs) = x +ℤ total xs
 
--- what counts of each dollar of a class, in ten-thousandths: less the class's haircut, and less the FX haircut in another currency
-abbrev pub rate_of : Agreement → List ℕ → Bool → ℤ
-rate_of terms class other =
-    pos 10000 -ℤ unwrap_or (haircut_of terms class) (pos 10000) -ℤ (if other then terms.fx_haircut else pos 0)
+-- what is taken off for the currency, beside the class's haircut: the FX haircut where it is another than the agreement's
+abbrev pub currency_haircut : ℤ → LotCurrency → ℤ
+currency_haircut fx_haircut Same = pos 0
+currency_haircut fx_haircut Other = fx_haircut
+
+-- what counts of each dollar of a class, in ten-thousandths: less the class's haircut, and less the currency's
+abbrev pub rate_of : Agreement → List ℕ → LotCurrency → ℤ
+rate_of terms class currency =
+    pos 10000 -ℤ unwrap_or (haircut_of terms class) (pos 10000) -ℤ currency_haircut terms.fx_haircut currency
 
 -- what a value counts for at a rate, never below zero, rounded down to the cent
 abbrev pub counted_at : ℤ → ℤ → ℤ
 counted_at value rate = down (int_max (value *ℤ rate) (pos 0)) (pos 10000)
 
-abbrev pub counted : Agreement → Lot → ℤ
-counted terms lot = counted_at lot.value (rate_of terms lot.class lot.other)
+abbrev pub counted : Lot → ℤ
+counted lot = counted_at lot.value lot.rate
 
 -- an outstanding delivery counts as made, and so does an outstanding return
+abbrev pub settled_at : Flow → ℤ → ℤ
+settled_at Delivery amount = amount
+settled_at Return amount = neg_ℤ amount
+
 abbrev pub settled : Call → ℤ
-settled call = if call.delivery then call.amount else neg_ℤ call.amount
+settled call = settled_at call.flow call.amount
 
 -- the lots' counted values, with outstanding deliveries, less outstanding returns
 abbrev pub booked_of : Holdings → ℤ
-booked_of holdings = total (map (counted holdings.terms) holdings.lots) +ℤ total (map settled holdings.calls)
+booked_of holdings = total (map counted holdings.lots) +ℤ total (map settled holdings.calls)

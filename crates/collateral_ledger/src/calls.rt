@@ -1,32 +1,14 @@
-ghost use Rattle.std.specs.Prelude.{◌≡◌, ◌∷◌, ◌++◌, ◌+◌, ◌<◌, ◌≤◌, ◌^◌, [], map, IfOk, OnOk, OnErr, if◌then◌else◌, pos, neg_ℤ, ◌≤ℤ◌, unsigned_abs};
+ghost use Rattle.std.specs.Prelude.{◌≡◌, ◌∷◌, ◌++◌, ◌+◌, ◌*◌, ◌<◌, ◌≤◌, ◌^◌, [], length, map, IfOk, OnOk, OnErr, unsigned_abs};
 ghost use Rattle.std.specs.Bool.{OnTrue, OnFalse};
-ghost use Rattle.collateral_ledger.specs.Holdings.{AreCalls};
+ghost use Rattle.collateral_ledger.specs.Holdings.{AreCalls, IsCallAmount};
 ghost use Rattle.collateral_ledger.specs.Booked.{total, settled};
 ghost use Rattle.collateral_ledger.specs.Changes.{has_call, without_call};
 
+use crate::open_call::OpenCall;
+use csa_terms::Flow;
 use std::alloc::{AllocError, Global};
 use std::collections::BTreeMap;
 use std::marker::Model;
-
-/// A call without its number.
-#[derive(Clone, Copy, Debug)]
-pub struct OpenCall {
-    /// Whether it is for a delivery, and not for a return.
-    pub delivery: bool,
-    /// In cents.
-    pub amount: i64,
-}
-
-impl OpenCall {
-    /// What is booked for the call, as if it were settled.
-    fn settled(&self) -> i128
-        ensures value { result ≡ (if self.now.delivery then self.now.amount else neg_ℤ self.now.amount) }
-        ensures size { unsigned_abs result ≤ 2 ^ 63 }
-    {
-        let amount = i128::from(self.amount);
-        if self.delivery { amount } else { -amount }
-    }
-}
 
 /// The calls that are outstanding, each found by its number, and how many were ever added.
 #[derive(Debug, Drop)]
@@ -58,20 +40,19 @@ impl Calls {
     }
 
     /// Adds a call and answers its number: how many were ever added, with this one. For want of memory nothing changes.
-    pub fn add(&mut self, delivery: bool, amount: i64) -> Result<u32, AllocError>
+    pub fn add(&mut self, flow: Flow, amount: i64) -> Result<u32, AllocError>
         requires few { self.old.added < 4294967295 }
-        requires amount_from { pos 1 ≤ℤ amount }
-        requires amount_to { amount ≤ℤ pos (10 ^ 18) }
+        requires amount { IsCallAmount amount }
         ensures number { IfOk result (λ number. number ≡ self.old.added + 1) }
         ensures ok { OnOk result (self.new ≡ record {
-          calls = self.old.calls ++ record { number = self.old.added + 1; delivery = delivery; amount = amount } ∷ [];
+          calls = self.old.calls ++ record { number = self.old.added + 1; flow = flow; amount = amount } ∷ [];
           added = self.old.added + 1;
         }) }
         ensures err { OnErr result (self.new ≡ self.old) }
     {
         let number = self.added + 1;
         self.outstanding
-            .insert(number, OpenCall { delivery, amount })?;
+            .insert(number, OpenCall::new(flow, amount))?;
         self.added = number;
         Ok(number)
     }
@@ -90,8 +71,12 @@ impl Calls {
     /// What is booked for the outstanding calls.
     pub fn settled(&self) -> i128
         ensures value { result ≡ total (map settled self.now.calls) }
-        ensures size { unsigned_abs result ≤ 2 ^ 126 }
+        ensures size { unsigned_abs result ≤ 10 ^ 18 * length self.now.calls }
+        ensures few { length self.now.calls ≤ self.now.added }
+        ensures fits { unsigned_abs result ≤ 2 ^ 126 }
     {
+        // There are no more than were added.
+        let _added = self.added;
         let mut sum = 0;
         for call in self.outstanding.values() {
             sum += call.settled();

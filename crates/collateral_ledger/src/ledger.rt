@@ -1,5 +1,5 @@
-ghost use Rattle.std.specs.Prelude.{◌≡◌, ◌∷◌, ◌++◌, ◌+◌, ◌<◌, ◌≤◌, ◌^◌, [], None, Some, IfOk, OnOk, OnErr, MatchResult, pos, ◌≤ℤ◌, unsigned_abs};
-ghost use Rattle.collateral_ledger.specs.Holdings.{IsLedger};
+ghost use Rattle.std.specs.Prelude.{◌≡◌, ◌∷◌, ◌++◌, ◌+◌, ◌*◌, ◌<◌, ◌≤◌, ◌^◌, [], length, None, Some, IfOk, OnOk, OnErr, MatchResult, unsigned_abs};
+ghost use Rattle.collateral_ledger.specs.Holdings.{IsCallAmount, IsLedger};
 ghost use Rattle.collateral_ledger.specs.Booked.{booked_of, rate_of};
 ghost use Rattle.collateral_ledger.specs.Changes.{without_call, without_lot, with_value};
 ghost use Rattle.collateral_ledger.specs.Refusals.{IsCause, close_refusal, is_lot_value, mark_refusal, put_refusal, take_refusal};
@@ -8,7 +8,8 @@ use crate::LedgerFault;
 use crate::calls::Calls;
 use crate::lots::Lots;
 use crate::rated_lot::RatedLot;
-use csa_terms::SetTerms;
+use crate::rates::rate_for;
+use csa_terms::{Flow, LotCurrency, SetTerms};
 use mh_units::Rate4;
 use simm_kinds::Name;
 use std::alloc::{AllocError, Global};
@@ -21,13 +22,14 @@ const MOST_LOTS: u32 = 4096;
 const GREATEST_VALUE: i64 = 1_000_000_000_000_000;
 
 /// The collateral ledger of a netting set: the lots that are held under its terms, in the order in which they were put, and
-/// the calls that are outstanding, in the order of their numbers. There are 0 to 4,096 lots of different names, each of a class
-/// that the terms have a haircut for and with a value of 0 to 10^15 cents. Contracts see the plain record.
+/// the calls that are outstanding, in the order of their numbers. There are 0 to 4,096 lots of different names, each with a value of
+/// 0 to 10^15 cents and the rate of what counts of it, which was looked up when it was put. Contracts see the plain record.
 ///
 /// A lot is found by its name in O(1) steps on average; to take one out moves those after it. A call is found in
 /// O(log n) steps for n calls.
 #[derive(Drop)]
 pub struct Ledger {
+    terms: SetTerms,
     lots: Lots,
     calls: Calls,
 }
@@ -37,7 +39,7 @@ impl Model for Ledger {
 
     ghost Value = { Holdings };
 
-    ghost view = { λ l. record { terms = l.lots.terms; lots = l.lots.lots; calls = l.calls.calls; added = l.calls.added } };
+    ghost view = { λ l. record { terms = l.terms; lots = l.lots; calls = l.calls.calls; added = l.calls.added } };
 }
 
 impl Ledger {
@@ -46,7 +48,8 @@ impl Ledger {
         ensures { result ≡ record { terms = terms; lots = []; calls = []; added = 0 } }
     {
         Ledger {
-            lots: Lots::new(alloc, terms),
+            terms,
+            lots: Lots::new(alloc),
             calls: Calls::new(alloc),
         }
     }
@@ -59,7 +62,14 @@ impl Ledger {
         self.calls.facts();
     }
 
-    /// Puts a lot of a class, with its value in cents, in another currency than the agreement's or not.
+    /// Lends the terms. It takes no memory.
+    pub fn terms(&self) -> &SetTerms
+        ensures { result.now ≡ self.now.terms }
+    {
+        &self.terms
+    }
+
+    /// Puts a lot of a class, with its value in cents, in the agreement's currency or another.
     ///
     /// It is refused, in this order, as LotKnown where a lot of this name is there, ClassUnknown where the terms have no haircut
     /// for the class, LotRange where the value is below 0 or above 10^15, and LotsFull where 4,096 lots are there. Memory comes
@@ -70,18 +80,18 @@ impl Ledger {
         lot: &Name,
         class: &Name,
         value: i64,
-        other: bool,
+        currency: LotCurrency,
     ) -> Result<(), LedgerFault>
         ensures answer { let refusal = put_refusal self.old lot.now class.now value in
             MatchResult result (λ _. refusal ≡ None) (IsCause refusal) }
         ensures ok { OnOk result (self.new ≡ record self.old {
-          lots = self.old.lots ++ record { name = lot.now; class = class.now; other = other; value = value } ∷ [];
+          lots = self.old.lots ++ record { name = lot.now; value = value; rate = rate_of self.old.terms class.now currency } ∷ [];
         }) }
         ensures err { OnErr result (self.new ≡ self.old) }
     {
-        let rate = self.rate_to_put(lot, class, value, other)?;
-        let held = RatedLot::new(class.copy(alloc)?, other, value, rate);
-        self.lots.push(lot.copy(alloc)?, held)?;
+        let rate = self.rate_to_put(lot, class, value, currency)?;
+        self.lots
+            .push(lot.copy(alloc)?, RatedLot::new(value, rate))?;
         Ok(())
     }
 
@@ -118,20 +128,19 @@ impl Ledger {
         Ok(())
     }
 
-    /// Adds a call for a delivery, or else for a return, of 1 to 10^18 cents, and answers its number: how many calls were ever
-    /// added, with this one, which are 4,294,967,295 at most. For want of memory nothing changes.
-    pub fn add_call(&mut self, delivery: bool, amount: i64) -> Result<u32, AllocError>
+    /// Adds a call of 1 to 10^18 cents, and answers its number: how many calls were ever added, with this one, which are
+    /// 4,294,967,295 at most. For want of memory nothing changes.
+    pub fn add_call(&mut self, flow: Flow, amount: i64) -> Result<u32, AllocError>
         requires few { self.old.added < 4294967295 }
-        requires amount_from { pos 1 ≤ℤ amount }
-        requires amount_to { amount ≤ℤ pos (10 ^ 18) }
+        requires amount { IsCallAmount amount }
         ensures number { IfOk result (λ number. number ≡ self.old.added + 1) }
         ensures ok { OnOk result (self.new ≡ record self.old {
-          calls = self.old.calls ++ record { number = self.old.added + 1; delivery = delivery; amount = amount } ∷ [];
+          calls = self.old.calls ++ record { number = self.old.added + 1; flow = flow; amount = amount } ∷ [];
           added = self.old.added + 1;
         }) }
         ensures err { OnErr result (self.new ≡ self.old) }
     {
-        self.calls.add(delivery, amount)
+        self.calls.add(flow, amount)
     }
 
     /// Closes a call, as it was settled. It is refused as CallUnknown where no outstanding call has the number, and then the
@@ -150,30 +159,33 @@ impl Ledger {
     }
 
     /// What is booked, in cents: what the lots count for, with the outstanding deliveries, less the outstanding returns; so it may be
-    /// below 0. It costs a step for each lot and each outstanding call, and takes no memory.
+    /// below 0. Its size is at most 4,096 times the greatest value of a lot, and 10^18 for each outstanding call, of which there are
+    /// no more than were ever added. It costs a step for each lot and each outstanding call, and takes no memory.
     pub fn booked(&self) -> i128
-        ensures { result ≡ booked_of self.now }
+        ensures value { result ≡ booked_of self.now }
+        ensures size { unsigned_abs result ≤ 4096 * 10 ^ 15 + 10 ^ 18 * length self.now.calls }
+        ensures few { length self.now.calls ≤ self.now.added }
     {
         self.lots.counted() + self.calls.settled()
     }
 
-    // Tests a lot that is to be put, and answers what counts of each dollar of it.
+    /// Tests a lot that is to be put, and answers what counts of each dollar of it.
     fn rate_to_put(
         &self,
         lot: &Name,
         class: &Name,
         value: i64,
-        other: bool,
+        currency: LotCurrency,
     ) -> Result<Rate4, LedgerFault>
         ensures answer { let refusal = put_refusal self.now lot.now class.now value in
             MatchResult result (λ _. refusal ≡ None) (λ fault. refusal ≡ Some fault) }
-        ensures rate { IfOk result (λ rate. rate.0 ≡ rate_of self.now.terms class.now other) }
+        ensures rate { IfOk result (λ rate. rate.0 ≡ rate_of self.now.terms class.now currency) }
         ensures size { IfOk result (λ rate. unsigned_abs rate.0 ≤ 10000) }
     {
         if self.lots.has(lot) {
             return Err(LedgerFault::LotKnown);
         }
-        let Some(rate) = self.lots.rate(class, other) else {
+        let Some(rate) = rate_for(&self.terms, class, currency) else {
             return Err(LedgerFault::ClassUnknown);
         };
         if !is_lot_value(value) {

@@ -6,7 +6,9 @@ mod calls;
 mod fault;
 mod ledger;
 mod lots;
+mod open_call;
 mod rated_lot;
+mod rates;
 
 pub use fault::LedgerFault;
 pub use ledger::Ledger;

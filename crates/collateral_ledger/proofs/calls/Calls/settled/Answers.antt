@@ -5,7 +5,7 @@ use Rattle.collateral_ledger.proofs.CallSums.{settled_none, settled_more, settle
 use Rattle.collateral_ledger.proofs.calls.Calls.settled.Goals as goal
 
 pub loop-call-init : goal.loop-call-init
-loop-call-init c = settled_none c.self.inside.outstanding.entries c.self.inside.added c.args.self.now _ c.self.view_is c.values-call-items.ensures.fits (search rules)
+loop-call-init c = settled_none c.self.inside.outstanding.entries c.self.inside.added c.args.self.now _ c.self.view_is c.self.invariant (search rules) (search rules)
 
 pub overflow_add-sum : goal.overflow_add-sum
 overflow_add-sum c =
@@ -23,3 +23,6 @@ returns-clause-value c = settled_all c.args.self.now _ c.loop-call.call-iterator
 
 pub returns-clause-size : goal.returns-clause-size
 returns-clause-size c = omega (arith, ints, c.loop-call.invariant.room)
+
+pub returns-clause-fits : goal.returns-clause-fits
+returns-clause-fits c = omega (arith, ints, c.loop-call.invariant.room, c.loop-call.invariant.few, c.loop-call.invariant.count)

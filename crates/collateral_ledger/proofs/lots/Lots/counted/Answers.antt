@@ -5,7 +5,7 @@ use Rattle.collateral_ledger.proofs.Sums.{counted_none, counted_more, counted_fi
 use Rattle.collateral_ledger.proofs.lots.Lots.counted.Goals as goal
 
 pub loop-lot-init : goal.loop-lot-init
-loop-lot-init c = counted_none c.self.inside.terms c.self.inside.by_name.entries c.args.self.now _ c.self.view_is c.self.invariant (search rules)
+loop-lot-init c = counted_none c.self.inside.by_name.entries c.args.self.now _ c.self.view_is c.self.invariant (search rules)
 
 pub overflow_add-sum : goal.overflow_add-sum
 overflow_add-sum c =

@@ -1,9 +1,7 @@
 use Rattle.std.proofs.Common.{subst}
 use Rattle.collateral_ledger.specs.Holdings.{AreLots}
-use Rattle.collateral_ledger.specs.Kept.{Posted}
 use Rattle.collateral_ledger.proofs.Entries.{are_lots}
 use Rattle.collateral_ledger.proofs.lots.Lots.facts.Goals as goal
 
 pub returns : goal.returns
-returns c =
-    subst (λ (p : Posted). AreLots p.terms p.lots) c.self.view_is (are_lots c.self.inside.terms c.self.inside.by_name.entries c.self.invariant c.len-count.ensures.unique)
+returns c = subst AreLots c.self.view_is (are_lots c.self.inside.by_name.entries c.self.invariant c.len-count.ensures.unique)
