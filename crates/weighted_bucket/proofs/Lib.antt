@@ -1,3 +1,4 @@
 pub mod Passing
 pub mod Correlations
 pub mod WeightedSums
+pub mod Groups

@@ -17,7 +17,7 @@ amounts factors = map (λ factor. factor.w) factors
 abbrev pub sum_of_first : List Weighed → ℕ → ℤ
 sum_of_first factors n = sum_below (at_place (amounts factors)) n
 
-sum_below-size : (f : ℕ → ℤ) (n : ℕ) → unsigned_abs (sum_below f n) ≤ sizes_below f n
+pub sum_below-size : (f : ℕ → ℤ) (n : ℕ) → unsigned_abs (sum_below f n) ≤ sizes_below f n
 sum_below-size f zero = omega arith
 sum_below-size f (suc n) = omega (arith, sum_below-size f n, unsigned_abs-add (sum_below f n) (f n))
 

@@ -1,3 +1,4 @@
 pub mod Weigh
 pub mod Correlated
 pub mod Bucket
+pub mod Group

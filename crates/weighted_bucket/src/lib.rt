@@ -5,12 +5,14 @@
 #![tactic(auto)]
 
 mod correlated;
+mod group;
 mod margin;
 mod rho;
 mod scaling;
 mod sums;
 mod weighed;
 
+pub use group::{Grouped, group_cr};
 pub use margin::bucket_margin;
 pub use rho::Rho;
 pub use scaling::Scaling;
