@@ -4,6 +4,12 @@
 #[cfg(test)]
 mod concentration_calls;
 #[cfg(test)]
+mod crif_reader_calls;
+#[cfg(test)]
+mod factor_book_calls;
+#[cfg(test)]
+mod held_cell_calls;
+#[cfg(test)]
 mod makers;
 #[cfg(test)]
 mod mh_io_calls;
@@ -11,6 +17,8 @@ mod mh_io_calls;
 mod mh_io_lines;
 #[cfg(test)]
 mod mh_units_calls;
+#[cfg(test)]
+mod multiplier;
 #[cfg(test)]
 mod pair_sum_calls;
 #[cfg(test)]

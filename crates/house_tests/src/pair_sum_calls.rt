@@ -1,4 +1,4 @@
-ghost use Rattle.std.specs.Prelude.{◌≡◌, ◌+◌, ◌*◌, ◌^◌, ◌<◌, ◌≤◌, refl, sum_by, unsigned_abs};
+ghost use Rattle.std.specs.Prelude.{◌≡◌, ◌*◌, ◌^◌, ◌<◌, ◌≤◌, refl, sum_by, unsigned_abs};
 ghost use Rattle.pair_sum.specs.WithItself.{with_itself, with_itself-symmetric, with_itself-at_most_one, with_itself-one};
 
 use mh_units::Corr6;
@@ -46,18 +46,21 @@ fn all_alike(size: usize, rho: i64) -> Alike
     }
 }
 
-fn sum_of<L: Ledger>(items: &[Item], rho: i64, blank: Blank) -> i128
+fn sum_of<L: Ledger>(items: &[Item], blank: Blank) -> i128
     requires name { blank.name ≡ L.name }
     requires parts { blank.parts ≡ L.parts }
     requires some { 0 < blank.parts }
-    requires small { unsigned_abs rho ≤ 1000000 }
     requires in_range { sum_by (λ item. unsigned_abs item.w) items.now < 84 * 10 ^ 14 }
 {
-    pair_sum(
-        items,
-        &all_alike(items.len(), rho),
-        &mut Steps::<L>::new(blank),
-    )
+    let corr = all_alike(items.len(), 500_000);
+    pair_sum(items, &corr, &mut Steps::<L>::new(blank))
+}
+
+/// The sum of items at a correlation of 0.5.
+fn sum(items: &[Item]) -> i128
+    requires in_range { sum_by (λ item. unsigned_abs item.w) items.now < 84 * 10 ^ 14 }
+{
+    sum_of::<Brand>(items, Blank::new(1))
 }
 
 fn term_of<L: Ledger>(a: i128, b: i128, blank: Blank) -> i128
@@ -70,13 +73,6 @@ fn term_of<L: Ledger>(a: i128, b: i128, blank: Blank) -> i128
     pair_term(a, b, Corr6(250_000), &mut Steps::<L>::new(blank))
 }
 
-/// The sum of two items at a correlation of 0.5.
-fn sum_of_two(a: i128, b: i128) -> i128
-    requires { unsigned_abs a + unsigned_abs b < 84 * 10 ^ 14 }
-{
-    sum_of::<Brand>(&[Item { w: a }, Item { w: b }], 500_000, Blank::new(1))
-}
-
 #[test]
 fn a_term_has_the_unit_of_millionths(rt: HostRuntime) {
     assert_eq!(rt; term_of::<Brand>(-3, 5, Blank::new(1)), -3_750_000);
@@ -84,12 +80,13 @@ fn a_term_has_the_unit_of_millionths(rt: HostRuntime) {
 
 #[test]
 fn a_pair_counts_twice_and_each_item_once(rt: HostRuntime) {
-    assert_eq!(rt; sum_of_two(740_000, -370_000), 410_700_000_000_000_000);
+    let items = [Item { w: 740_000 }, Item { w: -370_000 }];
+    assert_eq!(rt; sum(&items), 410_700_000_000_000_000);
 }
 
 #[test]
 fn no_items_have_no_sum(rt: HostRuntime) {
-    assert_eq!(rt; sum_of::<Brand>(&[], 0, Blank::new(1)), 0);
+    assert_eq!(rt; sum(&[]), 0);
 }
 
 /// Pair sums, in cents squared times 10^6, and their roots: 640,858^2 < 410,700,000,000 < 640,859^2.
