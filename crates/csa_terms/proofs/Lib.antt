@@ -3,4 +3,5 @@ mod BusinessDays
 mod Digits
 mod CalendarDays
 mod Loops
+mod Holidays
 mod PrintedDays

@@ -1,5 +1,5 @@
 -- The entries of a table and the places of an array, read one after another.
-use Rattle.std.proofs.Common.{◌≡◌, ℕ, suc, ◌-◌, None, Bool, true, false, cond, ◌||◌, is_some, take, Less, subst, length-append, slice_range, ◌+◌, ◌<◌, ◌≤◌, List, [], ◌∷◌, ◌++◌, length, map, get_or, drop, Result, Ok, Err, Some, String, string_bytes, Global, refl, sym, ap, ◌∙◌, arith, append_assoc, add-one, ℤ, decimal, codes}
+use Rattle.std.proofs.Common.{◌≡◌, ℕ, suc, ◌-◌, None, Bool, true, false, cond, ◌||◌, is_some, take, Less, subst, length-append, slice_range, ◌+◌, ◌<◌, ◌≤◌, List, [], ◌∷◌, ◌++◌, length, map, get_or, drop, Result, Ok, Err, Some, String, string_bytes, Global, refl, sym, ap, ◌∙◌, arith, append_assoc, add-one}
 use Rattle.std.specs.Result.{result_map_both}
 use Rattle.std.specs.List.{AllByRecursion, IsDistinct, list_any}
 use Rattle.std.specs.List.Sorted.{IsStrictlySortedBy}
@@ -19,9 +19,8 @@ use Rattle.csa_terms.specs.declared.fault.TermsFault.{TermsFault}
 use Rattle.csa_terms.specs.declared.fault.TermsFault.TheVariants.{Toml, Missing, BadNumber, OutOfRange, DuplicateSet, BadDate, TooManySets, BadName, Memory}
 use Rattle.csa_terms.specs.Terms.{Haircut, Agreement}
 use Rattle.csa_terms.specs.Held.{classes, with_haircut}
-use Rattle.csa_terms.specs.Faults.{part_path, ◌>>=◌, at, Fails}
-use Rattle.csa_terms.specs.Values.{date_of}
-use Rattle.csa_terms.specs.Grammar.{members_count, items_count, haircut_of_entry, haircuts_of, holidays_of, set_at, sets_of, has_table, repeated}
+use Rattle.csa_terms.specs.Faults.{◌>>=◌, at, Fails}
+use Rattle.csa_terms.specs.Grammar.{members_count, items_count, haircut_of_entry, haircuts_of, set_at, sets_of, has_table, repeated}
 use Rattle.csa_terms.proofs.Tables.{with-last}
 
 -- what is read behind what was read
@@ -107,14 +106,7 @@ module _ {A : Type 0} {test : ℕ → Data → Result A TermsFault} {each : ℕ 
       let none : drop i vs ≡ [] = drop_all i vs le in
       sym so_far.value ∙ ap (λ (l : List Value). with_front front (each (i + 1) (items_view l))) none ∙ ap (with_front front) (reads.none (i + 1)) ∙ ap Ok (append-nil front)
 
--- the holidays of a set, and the sets
-abbrev pub holiday_at : ℕ → ℕ → Data → Result ℤ TermsFault
-holiday_at set place value = at (part_path set (codes "holidays") (decimal place)) (date_of (Some value))
-
-pub holidays_read : (set : ℕ) → Reads (holiday_at set) (holidays_of set)
-unfolding holidays_of
-holidays_read set = record { none = λ n. refl; more = λ n d ds. refl }
-
+-- the sets
 pub sets_read : Reads set_at sets_of
 unfolding sets_of
 sets_read = record { none = λ n. refl; more = λ n d ds. refl }

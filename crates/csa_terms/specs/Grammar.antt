@@ -2,7 +2,9 @@
 -- them. Other keys are passed over.
 -- (ISDA 2016 Credit Support Annex for Initial Margin: the terms that its paragraph 13 fills in.)
 use Rattle.std.specs.Prelude.{ℕ, ◌+◌, List, [], ◌∷◌, ◌++◌, Bool, false, ◌||◌, nat_lt, if◌then◌else◌, Option, Some, None, is_some, ok_or, Result, Ok, Err, ℤ, pos, codes, decimal}
+use Rattle.std.specs.BTreeSet.{insert_key}
 use Rattle.std.specs.List.{list_any}
+use Rattle.std.specs.Ordering.{int_cmp}
 use Rattle.std.specs.Str.{is_utf8}
 use Rattle.toml.specs.Data.{Data, Items, no_items, item, Members, no_members, member, get_member, as_table}
 use Rattle.toml.specs.Parse.{parse_document}
@@ -49,20 +51,19 @@ haircut_table_of set table = do
   few ← at_most 256 (key_path set (codes "haircuts")) (members_count entries)
   haircuts_of set entries
 
--- ---- holidays, whose places count from 1
+-- ---- holidays, whose places count from 1: behind the days of the places before, each day once and in order
 
-unfoldable pub holidays_of : ℕ → ℕ → Items → Result (List ℤ) TermsFault
-holidays_of set place no_items = Ok []
-holidays_of set place (item value rest) = do
+unfoldable pub holidays_from : ℕ → List ℤ → ℕ → Items → Result (List ℤ) TermsFault
+holidays_from set days place no_items = Ok days
+holidays_from set days place (item value rest) = do
   day ← at (part_path set (codes "holidays") (decimal place)) (date_of (Some value))
-  others ← holidays_of set (place + 1) rest
-  Ok (day ∷ others)
+  holidays_from set (insert_key int_cmp days day) (place + 1) rest
 
 unfoldable pub holiday_list_of : ℕ → Members → Result (List ℤ) TermsFault
 holiday_list_of set table = do
   places ← at (key_path set (codes "holidays")) (array_of (get_member (codes "holidays") table))
   few ← at_most 4096 (key_path set (codes "holidays")) (items_count places)
-  holidays_of set 1 places
+  holidays_from set [] 1 places
 
 -- ---- a set
 

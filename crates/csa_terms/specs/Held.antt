@@ -1,10 +1,10 @@
 -- What the types of this crate keep inside, beside what contracts see of them.
-use Rattle.std.specs.Prelude.{◌≡◌, ◌<◌, ◌≤◌, ℕ, List, [], ◌∷◌, length, map, ℤ}
+use Rattle.std.specs.Prelude.{◌<◌, ◌≤◌, ℕ, List, [], ◌∷◌, length, map, ℤ}
 use Rattle.std.specs.List.{AllByRecursion}
 use Rattle.std.specs.Ordering.{match_ordering}
 use Rattle.mh_units.specs.declared.quantities.Rate4.{Rate4}
 use Rattle.simm_kinds.specs.Order.{name_cmp}
-use Rattle.csa_terms.specs.Terms.{Haircut, Agreement, IsAmount, IsRounding, IsShare, AreHolidays, is_among}
+use Rattle.csa_terms.specs.Terms.{Haircut, Agreement, IsAmount, IsRounding, IsShare}
 
 -- the entries of a tree as haircuts
 abbrev pub haircut_at : List ℕ × Rate4 → Haircut
@@ -27,11 +27,6 @@ with_haircut (h ∷ hs) class rate =
 pub record AreShares (haircuts : List Haircut) : Type 0 where
   pub few : length haircuts ≤ 256
   pub shares : AllByRecursion (λ h. IsShare h.rate) haircuts
-
--- the days of a list, and the different ones in a tree
-pub record AreDays (listed different : List ℤ) : Type 0 where
-  pub holidays : AreHolidays listed
-  pub same : (day : ℤ) → is_among different day ≡ is_among listed day
 
 -- what a set's terms keep beside its name, haircuts and holidays, which keep their own
 pub record IsBounded (agreement : Agreement) : Type 0 where

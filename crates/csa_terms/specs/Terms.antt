@@ -15,7 +15,7 @@ pub record Haircut : Type 0 where
 
 -- Threshold, the minimum amounts of a delivery and of a return, and the unit of rounding are in cents. A demand is in time up to
 -- the notification minute, counted from midnight. The FX haircut is taken off, beside the class's, where the currency
--- is another. Holidays are days counted from 1970-01-01.
+-- is another. Holidays are days counted from 1970-01-01, each once and in order.
 pub record Agreement : Type 0 where
   pub name : List ℕ
   pub threshold : ℤ

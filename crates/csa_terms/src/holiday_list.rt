@@ -1,4 +1,6 @@
-ghost use Rattle.std.specs.Prelude.{◌≡◌, ◌<◌, [], ◌∷◌, ◌++◌, length, IfOk, OnOk, OnErr};
+ghost use Rattle.std.specs.Prelude.{◌≡◌, ◌<◌, [], length, IfOk, OnOk, OnErr};
+ghost use Rattle.std.specs.BTreeSet.{insert_key};
+ghost use Rattle.std.specs.Ordering.{int_cmp};
 ghost use Rattle.csa_terms.specs.Terms.{IsCalendarDay, AreHolidays, is_among};
 
 use std::alloc::{AllocError, Global};
@@ -6,22 +8,21 @@ use std::collections::BTreeSet;
 use std::marker::Model;
 
 /// Holidays as days counted from 1970-01-01: at most 4,096, each from 0001-01-01 to 9999-12-31. Contracts see just
-/// their list. Whether a day is among them is looked up in a tree.
+/// their list, in which each stands once and in order.
 #[derive(Debug, Drop)]
 pub struct HolidayList {
-    listed: Vec<i32>,
-    different: BTreeSet<i32>,
+    days: BTreeSet<i32>,
 }
 
 impl Model for HolidayList {
     ghost use Rattle.std.specs.Prelude.{List, ℤ};
-    ghost use Rattle.csa_terms.specs.Held.{AreDays};
+    ghost use Rattle.csa_terms.specs.Terms.{AreHolidays};
 
     ghost Value = { List ℤ };
 
-    ghost view = { λ l. l.listed.items };
+    ghost view = { λ l. l.days.keys };
 
-    ghost invariant = { λ l. AreDays l.listed.items l.different.keys };
+    ghost invariant = { λ l. AreHolidays l.days.keys };
 }
 
 impl HolidayList {
@@ -30,31 +31,18 @@ impl HolidayList {
         ensures { result ≡ [] }
     {
         HolidayList {
-            listed: Vec::new(alloc),
-            different: BTreeSet::new(alloc),
+            days: BTreeSet::new(alloc),
         }
     }
 
-    /// No holiday, with room for `count` in the list. The only error is want of memory.
-    pub fn with_capacity(alloc: Global, count: usize) -> Result<Self, AllocError>
-        ensures { IfOk result (λ l. l ≡ []) }
-    {
-        Ok(HolidayList {
-            listed: Vec::with_capacity(alloc, count)?,
-            different: BTreeSet::new(alloc),
-        })
-    }
-
-    /// Adds a day at the end, counted from 1970-01-01. The only error is want of memory, and then nothing changes.
-    pub fn push(&mut self, day: i32) -> Result<(), AllocError>
+    /// Adds a day, counted from 1970-01-01, where it isn't there. The only error is want of memory, and then nothing changes.
+    pub fn insert(&mut self, day: i32) -> Result<(), AllocError>
         requires few { length self.old < 4096 }
         requires calendar { IsCalendarDay day }
-        ensures ok { OnOk result (self.new ≡ self.old ++ day ∷ []) }
+        ensures ok { OnOk result (self.new ≡ insert_key int_cmp self.old day) }
         ensures err { OnErr result (self.new ≡ self.old) }
     {
-        self.listed.reserve(1)?;
-        self.different.insert(day)?;
-        self.listed.push(day)?;
+        self.days.insert(day)?;
         Ok(())
     }
 
@@ -62,23 +50,21 @@ impl HolidayList {
     pub fn contains(&self, day: i32) -> bool
         ensures { result ≡ is_among self.now day }
     {
-        self.different.contains(&day)
+        self.days.contains(&day)
     }
 
     /// What each list keeps. It does nothing.
     pub fn facts(&self)
         ensures { AreHolidays self.now }
     {
-        let _listed = &self.listed;
+        let _days = &self.days;
     }
 
     /// The same days once more. The only error is want of memory.
     pub fn copy(&self, alloc: Global) -> Result<HolidayList, AllocError>
         ensures { IfOk result (λ l. l ≡ self.now) }
     {
-        Ok(HolidayList {
-            listed: Vec::from_slice(alloc, &self.listed)?,
-            different: self.different.clone()?,
-        })
+        let days = self.days.clone()?;
+        Ok(HolidayList { days })
     }
 }

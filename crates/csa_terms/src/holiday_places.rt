@@ -1,9 +1,9 @@
-ghost use Rattle.std.specs.Prelude.{◌≡◌, ◌≤◌, Some, codes, decimal, length, IfOk};
+ghost use Rattle.std.specs.Prelude.{◌≤◌, [], Some, codes, decimal, length, IfOk};
 ghost use Rattle.toml.specs.View.{view, items_view, table_view};
 ghost use Rattle.csa_terms.specs.Terms.{IsCalendarDay};
 ghost use Rattle.csa_terms.specs.Faults.{part_path, at, Gives};
 ghost use Rattle.csa_terms.specs.Values.{date_of};
-ghost use Rattle.csa_terms.specs.Grammar.{items_count, holidays_of, holiday_list_of};
+ghost use Rattle.csa_terms.specs.Grammar.{items_count, holidays_from, holiday_list_of};
 
 use crate::fault::TermsFault;
 use crate::holiday_list::HolidayList;
@@ -27,13 +27,13 @@ fn read_place(alloc: Global, set: usize, place: usize, value: &Value) -> Result<
 /// The holidays of an array's places.
 fn read_places(alloc: Global, set: usize, places: &[Value]) -> Result<HolidayList, TermsFault>
     requires { items_count (items_view places.now) ≤ 4096 }
-    ensures { Gives (λ l. l) result (holidays_of set 1 (items_view places.now)) }
+    ensures { Gives (λ l. l) result (holidays_from set [] 1 (items_view places.now)) }
 {
-    let mut list = HolidayList::with_capacity(alloc, places.len())?;
+    let mut days = HolidayList::new(alloc);
     for (index, value) in places.iter().enumerate() {
-        list.push(read_place(alloc, set, index + 1, value)?)?;
+        days.insert(read_place(alloc, set, index + 1, value)?)?;
     }
-    Ok(list)
+    Ok(days)
 }
 
 /// The holidays of a set.

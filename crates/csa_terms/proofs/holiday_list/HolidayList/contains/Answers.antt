@@ -7,6 +7,5 @@ use Rattle.csa_terms.proofs.holiday_list.HolidayList.contains.Goals as goal
 pub returns : goal.returns
 returns c =
     c.contains.ensures
-    ∙ ap (λ day. contains_by (int_cmp day) c.self.inside.different) (to_z-of_z w32 c.args.day c.ranges.day)
-    ∙ c.self.invariant.same c.args.day
+    ∙ ap (λ day. contains_by (int_cmp day) c.self.inside.days) (to_z-of_z w32 c.args.day c.ranges.day)
     ∙ ap (λ days. is_among days c.args.day) c.self.view_is
