@@ -39,8 +39,21 @@ pub fn call_amount(margin: i128, booked: i128, terms: &SetTerms) -> CallAmount
     ensures amount { AmountUpTo (margin +ℤ pos (unsigned_abs booked + 10 ^ 12)) result }
 {
     terms.facts();
-    let excess = excess(margin, booked, terms.threshold().0);
+    let excess = excess(margin, booked, terms);
     call_for(excess, terms)
+}
+
+/// How far the margin above the threshold is above what is booked, in cents, also where it is past the range of calls: on a margin
+/// of 0 to 10^21 cents where so much is booked, at most 10^23 cents in size. It is below zero where too much is booked.
+pub fn excess(margin: i128, booked: i128, terms: &SetTerms) -> i128
+    requires margin_from { pos 0 ≤ℤ margin }
+    requires margin_to { margin ≤ℤ pos (10 ^ 21) }
+    requires booked_in_range { unsigned_abs booked ≤ 10 ^ 23 }
+    ensures value { result ≡ excess_of margin booked terms.now }
+    ensures size { pos (unsigned_abs result) ≤ℤ (margin +ℤ pos (unsigned_abs booked)) }
+{
+    terms.facts();
+    credit_support(margin, terms.threshold().0) - booked
 }
 
 fn call_for(excess: i128, terms: &SetTerms) -> CallAmount
@@ -63,7 +76,7 @@ fn is_delivery(excess: i128, terms: &SetTerms) -> bool
     excess > 0 && excess >= terms.mta_delivery().0
 }
 
-// Whether the excess booked reaches the minimum of a return and one unit of rounding, below which the return would be 0.
+/// Whether the excess booked reaches the minimum of a return and one unit of rounding, below which the return would be 0.
 fn is_return(excess: i128, terms: &SetTerms) -> bool
     requires { unsigned_abs excess ≤ 10 ^ 18 }
     ensures { result ≡ is_return excess terms.now }
@@ -72,10 +85,10 @@ fn is_return(excess: i128, terms: &SetTerms) -> bool
     -excess >= terms.mta_return().0.max(terms.rounding().0)
 }
 
-// The credit support amount: the margin above the threshold.
+/// The credit support amount: the margin above the threshold.
 fn credit_support(margin: i128, threshold: i128) -> i128
     requires margin_from { pos 0 ≤ℤ margin }
-    requires margin_to { margin ≤ℤ pos (5 * 10 ^ 17) }
+    requires margin_to { margin ≤ℤ pos (10 ^ 21) }
     requires threshold { IsAmount threshold }
     ensures value { result ≡ int_max (margin -ℤ threshold) (pos 0) }
     ensures low { pos 0 ≤ℤ result }
@@ -84,20 +97,7 @@ fn credit_support(margin: i128, threshold: i128) -> i128
     (margin - threshold).max(0)
 }
 
-// How far the credit support amount is above what is booked.
-fn excess(margin: i128, booked: i128, threshold: i128) -> i128
-    requires margin_from { pos 0 ≤ℤ margin }
-    requires margin_to { margin ≤ℤ pos (5 * 10 ^ 17) }
-    requires booked_in_range { unsigned_abs booked ≤ 5 * 10 ^ 17 }
-    requires threshold { IsAmount threshold }
-    ensures value { result ≡ int_max (margin -ℤ threshold) (pos 0) -ℤ booked }
-    ensures size { unsigned_abs result ≤ 10 ^ 18 }
-    ensures parts { pos (unsigned_abs result) ≤ℤ (margin +ℤ pos (unsigned_abs booked)) }
-{
-    credit_support(margin, threshold) - booked
-}
-
-// The least multiple of the unit not below the amount.
+/// The least multiple of the unit not below the amount.
 fn multiple_up(amount: i128, unit: i128) -> i64
     requires positive { pos 0 <ℤ amount }
     requires amount_in_range { amount ≤ℤ pos (10 ^ 18) }
@@ -109,7 +109,7 @@ fn multiple_up(amount: i128, unit: i128) -> i64
     times(div_up(amount, unit), unit)
 }
 
-// The greatest multiple of the unit not above the amount.
+/// The greatest multiple of the unit not above the amount.
 fn multiple_down(amount: i128, unit: i128) -> i64
     requires positive { pos 0 <ℤ amount }
     requires amount_in_range { amount ≤ℤ pos (10 ^ 18) }

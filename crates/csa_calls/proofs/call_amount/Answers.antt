@@ -9,4 +9,4 @@ returns-clause-rule c = call_rule_from (excess c.args.margin c.args.booked c.arg
 
 pub returns-clause-amount : goal.returns-clause-amount
 returns-clause-amount c =
-    call_amount_from (excess c.args.margin c.args.booked c.args.terms.now) c.excess-excess.result c.args.margin c.args.booked c.args.terms.now _ c.facts.ensures.rounding (search rules) (omega (arith, ints, c.excess-excess.ensures.parts)) (search rules)
+    call_amount_from (excess c.args.margin c.args.booked c.args.terms.now) c.excess-excess.result c.args.margin c.args.booked c.args.terms.now _ c.facts.ensures.rounding (search rules) (omega (arith, ints, c.excess-excess.ensures.size)) (search rules)
