@@ -1,11 +1,10 @@
 -- The bucket of a product class over its nets is the rule's bucket over its rows.
-use Rattle.std.proofs.Common.{◌≡◌, ◌^◌, ℕ, ◌*◌, ◌<◌, ◌≤◌, List, [], ◌∷◌, map, length, Bool, true, false, ◌&&◌, not, cond, if◌then◌else◌, None, refl, sym, ap, ◌∙◌, subst, ℤ, pos, ◌+ℤ◌, ◌*ℤ◌, unsigned_abs, arith}
+use Rattle.std.proofs.Common.{◌≡◌, ◌^◌, ◌*◌, ◌<◌, ◌≤◌, List, [], ◌∷◌, map, length, Bool, true, false, ◌&&◌, not, cond, if◌then◌else◌, None, refl, sym, ap, ◌∙◌, subst, ℤ, pos, ◌+ℤ◌, ◌*ℤ◌, unsigned_abs}
 use Rattle.std.specs.Prelude.{sum_by}
 use Rattle.std.specs.List.{filter, AllByRecursion}
 use Rattle.std.proofs.Math.IntN.{+ℤ_idl}
 use Rattle.std.proofs.lemmas.Bool.{not-true, and_parts}
 use Rattle.std.proofs.lemmas.List.{length-map}
-use Rattle.std.proofs.lemmas.List.Sums.{sum_by-cons}
 use Rattle.std.proofs.lemmas.Simd.{map-map}
 use Rattle.mh_units.specs.Rounding.{up}
 use Rattle.simm_kinds.specs.declared.kinds.ProductClass.{ProductClass}
@@ -28,14 +27,15 @@ use Rattle.simm_params.specs.Facts.{IsParams}
 use Rattle.simm_plain.specs.FxKeys.{IsFxKey, FxRows}
 use Rattle.simm_plain.specs.declared.sums.Sums.{Sums}
 use Rattle.simm_plain.specs.Nets.{nets_of, sums_at, sums_of, nets_in}
-use Rattle.simm_plain.specs.Bucket.{is_factor, factors, factor_cr, factor_weighted, factor_corr, factor_sum, weighted_net, Ascends, IsFactor, IsBucket}
+use Rattle.weighted_bucket.specs.Weigh.{weighed_value}
+use Rattle.simm_plain.specs.Bucket.{is_factor, factors, factor_cr, factor_weighted, factor_corr, factor_sum, Ascends, IsFactor, IsBucket}
 use Rattle.simm_plain.specs.Faults as faults
 use Rattle.simm_plain.specs.Faults.{either_first}
 use Rattle.simm_plain.proofs.Filters.{filter_agrees, filter_both, each_weaker, each_kept, each_both, kept_pass, total_by-agrees, total_by-map}
 use Rattle.simm_plain.proofs.KeySums.{row_size, size_by_rows}
 use Rattle.simm_plain.proofs.Nets.{keys_each, keys_ascend, keys_of-filter, net-filter, group_net_is, map-filter}
 use Rattle.simm_plain.proofs.Ranges.{bucket_fault, gross_fault, key_fault, fx_in, range_is}
-use Rattle.simm_plain.proofs.Sizes.{sum_by-agrees}
+use Rattle.simm_plain.proofs.Sizes.{sum_by-agrees, sum_by-map}
 use Rattle.simm_plain.proofs.Weights.{one_net, weighted_sizes, gross_bound, keys_bound}
 
 -- ---- lists
@@ -47,10 +47,6 @@ map_agrees_on f g (x ∷ xs) h = ap (λ y. y ∷ map f xs) h.0 ∙ ap (λ ys. g 
 each_map : {X A : Type 0} (P : A → Type 0) (f : X → A) (xs : List X) → AllByRecursion (λ x. P (f x)) xs → AllByRecursion P (map f xs)
 each_map P f [] h = tt
 each_map P f (x ∷ xs) h = (h.0, each_map P f xs h.1)
-
-sum_by-map : {X A : Type 0} (f : A → ℕ) (g : X → A) (xs : List X) → sum_by f (map g xs) ≡ sum_by (λ x. f (g x)) xs
-sum_by-map f g [] = refl
-sum_by-map f g (x ∷ xs) = omega (arith, sum_by-map f g xs, sum_by-cons f (g x) (map g xs), sum_by-cons (λ y. f (g y)) x xs)
 
 first_keys : {A : Type 0} (v : Key → A) (ks : List Key) → map (λ (e : Key × A). e.0) (map (λ k. (k, v k)) ks) ≡ ks
 first_keys v [] = refl
@@ -117,10 +113,10 @@ module _ (p : Params) (rows : List CrifRow) (h : FxRows rows) where
   same_cr k f = ap (λ n. cr n (delta_threshold p k)) (sym (group_net_is rows k h f))
 
   pub same_weighted : (k : Key) → IsFxKey k → factor_weighted p (k, net rows k) ≡ weighted p rows k
-  same_weighted k f = ap (weighted_net (weight p k) (net rows k)) (same_cr k f)
+  same_weighted k f = ap (weighed_value (weight p k) (net rows k)) (same_cr k f)
 
   term_of : Key → Key → ℤ → ℤ → ℤ
-  term_of k l c d = (if same_key k l then one else combined (delta_rho p k l) (ratio c d)) *ℤ weighted_net (weight p k) (net rows k) c *ℤ weighted_net (weight p l) (net rows l) d
+  term_of k l c d = (if same_key k l then one else combined (delta_rho p k l) (ratio c d)) *ℤ weighed_value (weight p k) (net rows k) c *ℤ weighed_value (weight p l) (net rows l) d
 
   same_term : (k l : Key) → IsFxKey k → IsFxKey l → term_of k l (factor_cr p (k, net rows k)) (factor_cr p (l, net rows l)) ≡ term_of k l (key_cr p rows k) (key_cr p rows l)
   same_term k l f g = ap (λ c. term_of k l c (factor_cr p (l, net rows l))) (same_cr k f) ∙ ap (λ d. term_of k l (key_cr p rows k) d) (same_cr l g)

@@ -14,6 +14,6 @@ pub mod Buckets
 pub mod Places
 pub mod Grosses
 pub mod Weighings
-pub mod Passing
+pub mod Rhos
 pub mod Whole
 pub mod Fewer

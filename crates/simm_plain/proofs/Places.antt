@@ -1,13 +1,13 @@
 -- The correlations by place are the rule's correlations of the keys.
-use Rattle.std.proofs.Common.{◌≡◌, ℕ, zero, suc, ◌<◌, ◌≤◌, List, [], ◌∷◌, map, length, get_or, Bool, true, false, ◌==◌, ◌&&◌, ◌||◌, ◌*◌, if◌then◌else◌, refl, sym, ap, ◌∙◌, subst, ℤ, pos, ◌*ℤ◌, ◌≤ℤ◌, ◌<ℤ◌, unsigned_abs, All, arith, ⊎_elim}
+use Rattle.std.proofs.Common.{◌≡◌, ℕ, zero, suc, ◌<◌, ◌≤◌, List, [], ◌∷◌, map, length, get_or, Bool, true, false, ◌==◌, ◌&&◌, ◌||◌, ◌*◌, if◌then◌else◌, refl, sym, ap, ◌∙◌, subst, ℤ, pos, ◌*ℤ◌, ◌≤ℤ◌, ◌<ℤ◌, unsigned_abs, sum_by, All, arith, ⊎_elim}
 use Rattle.std.specs.declared.cmp.Ordering.TheVariants.{Less}
 use Rattle.std.specs.Ordering.{is_eq}
 use Rattle.std.specs.List.{AllByRecursion}
 use Rattle.std.proofs.lemmas.Bool.{cases_order, eq-eqb, ne_eqb}
 use Rattle.std.proofs.lemmas.Int.{ints, clamps}
 use Rattle.std.proofs.lemmas.List.{get_or-map, length-map}
+use Rattle.std.proofs.lemmas.Simd.{map-map}
 use Rattle.std.proofs.lemmas.List.Elements.{All-from_recursion}
-use Rattle.pair_sum.specs.PairTotal.{pair_total}
 use Rattle.pair_sum.proofs.OverLists.{pair_total-keys}
 use Rattle.simm_kinds.specs.declared.kinds.ProductClass.TheVariants as product
 use Rattle.simm_kinds.specs.Key.{Key}
@@ -16,15 +16,19 @@ use Rattle.simm_rules.specs.Params.{Params}
 use Rattle.simm_rules.specs.Lookups.{weight, delta_threshold, delta_rho_of, is_high}
 use Rattle.simm_rules.specs.Concentration.{one, ratio, cr}
 use Rattle.simm_rules.specs.Delta.{combined}
+use Rattle.simm_params.specs.declared.category.VolatilityCategory.{VolatilityCategory}
 use Rattle.simm_params.specs.declared.category.VolatilityCategory.TheVariants.{Regular, High}
 use Rattle.simm_params.specs.Categories.{volatility, category_rho}
 use Rattle.simm_params.specs.Facts.{IsParams}
-use Rattle.simm_plain.specs.declared.currency_traits.CurrencyTraits.{CurrencyTraits}
+use Rattle.weighted_bucket.specs.declared.scaling.Scaling.TheVariants as scaling
+use Rattle.weighted_bucket.specs.declared.weighed.Weighed.{Weighed}
+use Rattle.weighted_bucket.specs.Bucket.{pairs_of}
+use Rattle.weighted_bucket.specs.Correlated.{no_factor, cr_at, correlation}
 use Rattle.simm_plain.specs.FxKeys.{fx_key, IsFxKey}
-use Rattle.simm_plain.specs.Bucket.{factor_cr, factor_weighted, factor_corr, factor_sum, Ascends, IsFactor}
-use Rattle.simm_plain.specs.Correlated.{rho_of, traits_corr, no_traits, traits_at, corr_at}
-use Rattle.simm_plain.specs.Weighing.{traits_of}
+use Rattle.simm_plain.specs.Bucket.{category_of, weighed_of, factor_cr, factor_weighted, factor_corr, factor_sum, Ascends, IsFactor}
+use Rattle.simm_plain.specs.Rho.{rho_of, category_at, rho_at}
 use Rattle.simm_plain.proofs.Keys.{same_key_refl, same_key_sym}
+use Rattle.simm_plain.proofs.Sizes.{sum_by-map}
 use Rattle.simm_plain.proofs.Weights.{weighed, net_thick, cr_size}
 
 -- ---- places of ascending keys
@@ -66,29 +70,42 @@ key_rho : (p : Params) (k l : Key) → IsFxKey k → rho_of p (volatility p k.qu
 key_rho p k l f = ap (λ z. pos 100 *ℤ z) (by_category p (is_high p k.qualifier) (is_high p l.qualifier)) ∙ sym (ap (λ x. delta_rho_of x.kind p x l) f)
 
 module _ (p : Params) where
-  corr_is : (e f : Key × ℤ) → IsFxKey e.0 → traits_corr p (traits_of p e) (traits_of p f) ≡ combined (delta_rho_of e.0.kind p e.0 f.0) (ratio (factor_cr p e) (factor_cr p f))
+  corr_is : (e f : Key × ℤ) → IsFxKey e.0 → combined (rho_of p (category_of p e) (category_of p f)) (ratio (factor_cr p e) (factor_cr p f)) ≡ combined (delta_rho_of e.0.kind p e.0 f.0) (ratio (factor_cr p e) (factor_cr p f))
   corr_is e f g = ap (λ z. combined z (ratio (factor_cr p e) (factor_cr p f))) (key_rho p e.0 f.0 g)
 
-  places_corr : (es : List (Key × ℤ)) (currencies : List CurrencyTraits) (d : Key × ℤ) → currencies ≡ map (traits_of p) es → AllByRecursion (IsFactor p) es → Ascends key_cmp (map (λ e. e.0) es) → (i j : ℕ) → i < length es → j < length es → corr_at p currencies i j ≡ factor_corr p (get_or es i d) (get_or es j d)
-  places_corr es currencies d e each s i j l m =
-      let first : traits_at currencies i ≡ traits_of p (get_or es i d) = ap (λ ps. get_or ps i no_traits) e ∙ get_or-map (traits_of p) es i d no_traits l in
-      let second : traits_at currencies j ≡ traits_of p (get_or es j d) = ap (λ ps. get_or ps j no_traits) e ∙ get_or-map (traits_of p) es j d no_traits m in
+  category_is : (es : List (Key × ℤ)) (categories : List VolatilityCategory) (d : Key × ℤ) (i : ℕ) → categories ≡ map (category_of p) es → i < length es → category_at categories i ≡ category_of p (get_or es i d)
+  category_is es categories d i e l = ap (λ cs. get_or cs i Regular) e ∙ get_or-map (category_of p) es i d Regular l
+
+  cr_is : (es : List (Key × ℤ)) (factors : List Weighed) (d : Key × ℤ) (i : ℕ) → factors ≡ map (weighed_of p) es → i < length es → cr_at factors i ≡ factor_cr p (get_or es i d)
+  cr_is es factors d i e l = ap (λ fs. ((get_or fs i no_factor).cr).0) e ∙ ap (λ (x : Weighed). x.cr.0) (get_or-map (weighed_of p) es i d no_factor l)
+
+  places_corr : (es : List (Key × ℤ)) (categories : List VolatilityCategory) (factors : List Weighed) (d : Key × ℤ) → categories ≡ map (category_of p) es → factors ≡ map (weighed_of p) es → AllByRecursion (IsFactor p) es → Ascends key_cmp (map (λ e. e.0) es) → (i j : ℕ) → i < length es → j < length es → correlation scaling.Concentrated factors (rho_at p categories) i j ≡ factor_corr p (get_or es i d) (get_or es j d)
+  places_corr es categories factors d c e each s i j l m =
       let count : length (map (λ (x : Key × ℤ). x.0) es) ≡ length es = length-map es (λ (x : Key × ℤ). x.0) in
       let key_i : get_or (map (λ (x : Key × ℤ). x.0) es) i d.0 ≡ (get_or es i d).0 = get_or-map (λ (x : Key × ℤ). x.0) es i d d.0 l in
       let key_j : get_or (map (λ (x : Key × ℤ). x.0) es) j d.0 ≡ (get_or es j d).0 = get_or-map (λ (x : Key × ℤ). x.0) es j d d.0 m in
       let same : same_key (get_or es i d).0 (get_or es j d).0 ≡ (i == j) =
       ap (λ k. same_key k (get_or es j d).0) (sym key_i) ∙ ap (λ k. same_key (get_or (map (λ (x : Key × ℤ). x.0) es) i d.0) k) (sym key_j)
       ∙ same_place (map (λ (x : Key × ℤ). x.0) es) i j d.0 s (omega arith) (omega arith) in
-      ap (λ a. if i == j then one else traits_corr p a (traits_at currencies j)) first
-      ∙ ap (λ b. if i == j then one else traits_corr p (traits_of p (get_or es i d)) b) second
+      ap (λ a. if i == j then one else combined (rho_of p a (category_at categories j)) (ratio (cr_at factors i) (cr_at factors j))) (category_is es categories d i c l)
+      ∙ ap (λ b. if i == j then one else combined (rho_of p (category_of p (get_or es i d)) b) (ratio (cr_at factors i) (cr_at factors j))) (category_is es categories d j c m)
+      ∙ ap (λ x. if i == j then one else combined (rho_of p (category_of p (get_or es i d)) (category_of p (get_or es j d))) (ratio x (cr_at factors j))) (cr_is es factors d i e l)
+      ∙ ap (λ y. if i == j then one else combined (rho_of p (category_of p (get_or es i d)) (category_of p (get_or es j d))) (ratio (factor_cr p (get_or es i d)) y)) (cr_is es factors d j e m)
       ∙ ap (λ z. if i == j then one else z) (corr_is (get_or es i d) (get_or es j d) (each_at (IsFactor p) es i d each l).fx)
       ∙ ap (λ t. if t then one else combined (delta_rho_of (get_or es i d).0.kind p (get_or es i d).0 (get_or es j d).0) (ratio (factor_cr p (get_or es i d)) (factor_cr p (get_or es j d)))) (sym same)
       ∙ rho_once (same_key (get_or es i d).0 (get_or es j d).0) (delta_rho_of (get_or es i d).0.kind p (get_or es i d).0 (get_or es j d).0) (ratio (factor_cr p (get_or es i d)) (factor_cr p (get_or es j d)))
 
+  amounts_are : (es : List (Key × ℤ)) (factors : List Weighed) → factors ≡ map (weighed_of p) es → map (λ (factor : Weighed). factor.w) factors ≡ map (factor_weighted p) es
+  amounts_are es factors e = ap (map (λ (factor : Weighed). factor.w)) e ∙ map-map (λ (factor : Weighed). factor.w) (weighed_of p) es
+
   -- the sum over places is that over factors
-  pub sum_is : (es : List (Key × ℤ)) (currencies : List CurrencyTraits) (ws : List ℤ) → currencies ≡ map (traits_of p) es → ws ≡ map (factor_weighted p) es → AllByRecursion (IsFactor p) es → Ascends key_cmp (map (λ e. e.0) es) → pair_total (corr_at p currencies) ws ≡ factor_sum p es
-  sum_is es currencies ws e w each s =
-      pair_total-keys (factor_corr p) (factor_weighted p) es (fx_key product.RatesFX [], pos 0) (corr_at p currencies) ws w (places_corr es currencies (fx_key product.RatesFX [], pos 0) e each s)
+  pub sum_is : (es : List (Key × ℤ)) (categories : List VolatilityCategory) (factors : List Weighed) → categories ≡ map (category_of p) es → factors ≡ map (weighed_of p) es → AllByRecursion (IsFactor p) es → Ascends key_cmp (map (λ e. e.0) es) → pairs_of scaling.Concentrated factors (rho_at p categories) ≡ factor_sum p es
+  sum_is es categories factors c e each s =
+      let none : Key × ℤ = (fx_key product.RatesFX [], pos 0) in
+      pair_total-keys (factor_corr p) (factor_weighted p) es none (correlation scaling.Concentrated factors (rho_at p categories)) (map (λ (factor : Weighed). factor.w) factors) (amounts_are es factors e) (places_corr es categories factors none c e each s)
+
+  pub sizes_are : (es : List (Key × ℤ)) (factors : List Weighed) → factors ≡ map (weighed_of p) es → sum_by (λ factor. unsigned_abs factor.w) factors ≡ sum_by (λ e. unsigned_abs (factor_weighted p e)) es
+  sizes_are es factors e = ap (sum_by (λ (factor : Weighed). unsigned_abs factor.w)) e ∙ sum_by-map (λ (factor : Weighed). unsigned_abs factor.w) (weighed_of p) es
 
 -- ---- concentrations of places
 
@@ -101,14 +118,14 @@ factor_thick p e facts f = net_thick e.1 (weight p e.0) (delta_threshold p e.0) 
 pub factor_cr_size : (p : Params) (e : Key × ℤ) → IsParams p → IsFactor p e → unsigned_abs (factor_cr p e) ≤ 346999999
 factor_cr_size p e facts f = cr_size e.1 (delta_threshold p e.0) (weighed p e.0 facts f.fx f.risky).low (factor_thick p e facts f)
 
-each_traits : (P : CurrencyTraits → Type 0) (p : Params) (es : List (Key × ℤ)) → ((e : Key × ℤ) → IsFactor p e → P (traits_of p e)) → AllByRecursion (IsFactor p) es → AllByRecursion P (map (traits_of p) es)
-each_traits P p [] f h = tt
-each_traits P p (e ∷ es) f h = (f e h.0, each_traits P p es f h.1)
+each_weighed : (P : Weighed → Type 0) (p : Params) (es : List (Key × ℤ)) → ((e : Key × ℤ) → IsFactor p e → P (weighed_of p e)) → AllByRecursion (IsFactor p) es → AllByRecursion P (map (weighed_of p) es)
+each_weighed P p [] f h = tt
+each_weighed P p (e ∷ es) f h = (f e h.0, each_weighed P p es f h.1)
 
-pub traits_from_one : (p : Params) (es : List (Key × ℤ)) (currencies : List CurrencyTraits) → currencies ≡ map (traits_of p) es → AllByRecursion (IsFactor p) es → All (λ traits. one ≤ℤ traits.cr.0) currencies
-traits_from_one p es currencies e each =
-    All-from_recursion (λ (traits : CurrencyTraits). one ≤ℤ traits.cr.0) currencies (subst (AllByRecursion (λ (traits : CurrencyTraits). one ≤ℤ traits.cr.0)) (sym e) (each_traits (λ traits. one ≤ℤ traits.cr.0) p es (λ x f. cr_low x.1 (delta_threshold p x.0)) each))
+pub factors_from_one : (p : Params) (es : List (Key × ℤ)) (factors : List Weighed) → factors ≡ map (weighed_of p) es → AllByRecursion (IsFactor p) es → All (λ factor. one ≤ℤ factor.cr.0) factors
+factors_from_one p es factors e each =
+    All-from_recursion (λ (factor : Weighed). one ≤ℤ factor.cr.0) factors (subst (AllByRecursion (λ (factor : Weighed). one ≤ℤ factor.cr.0)) (sym e) (each_weighed (λ factor. one ≤ℤ factor.cr.0) p es (λ x f. cr_low x.1 (delta_threshold p x.0)) each))
 
-pub traits_below : (p : Params) (es : List (Key × ℤ)) (currencies : List CurrencyTraits) → IsParams p → currencies ≡ map (traits_of p) es → AllByRecursion (IsFactor p) es → All (λ traits. traits.cr.0 <ℤ pos 347000000) currencies
-traits_below p es currencies facts e each =
-    All-from_recursion (λ (traits : CurrencyTraits). traits.cr.0 <ℤ pos 347000000) currencies (subst (AllByRecursion (λ (traits : CurrencyTraits). traits.cr.0 <ℤ pos 347000000)) (sym e) (each_traits (λ traits. traits.cr.0 <ℤ pos 347000000) p es (λ x f. omega (arith, ints, factor_cr_size p x facts f)) each))
+pub factors_below : (p : Params) (es : List (Key × ℤ)) (factors : List Weighed) → IsParams p → factors ≡ map (weighed_of p) es → AllByRecursion (IsFactor p) es → All (λ factor. factor.cr.0 <ℤ pos 347000000) factors
+factors_below p es factors facts e each =
+    All-from_recursion (λ (factor : Weighed). factor.cr.0 <ℤ pos 347000000) factors (subst (AllByRecursion (λ (factor : Weighed). factor.cr.0 <ℤ pos 347000000)) (sym e) (each_weighed (λ factor. factor.cr.0 <ℤ pos 347000000) p es (λ x f. omega (arith, ints, factor_cr_size p x facts f)) each))

@@ -1,5 +1,5 @@
 -- Sizes of nets and of weighted sensitivities.
-use Rattle.std.proofs.Common.{◌≡◌, ℕ, zero, suc, ◌+◌, ◌*◌, ◌/◌, ◌<◌, ◌≤◌, List, [], ◌∷◌, length, Bool, true, false, ◌&&◌, not, cond, refl, sym, ap, ◌∙◌, ℤ, pos, negsuc, unsigned_abs, arith, mul-le-mul_right}
+use Rattle.std.proofs.Common.{◌≡◌, ℕ, zero, suc, ◌+◌, ◌*◌, ◌/◌, ◌<◌, ◌≤◌, List, [], ◌∷◌, map, length, Bool, true, false, ◌&&◌, not, cond, refl, sym, ap, ◌∙◌, ℤ, pos, negsuc, unsigned_abs, arith, mul-le-mul_right}
 use Rattle.std.specs.Prelude.{sum_by}
 use Rattle.std.specs.declared.cmp.Ordering.TheVariants.{Less}
 use Rattle.std.specs.Ordering.{is_eq}
@@ -21,6 +21,10 @@ use Rattle.simm_plain.proofs.Keys.{same_keys, key_total, is_equal}
 use Rattle.simm_plain.specs.Bucket.{Ascends}
 
 -- ---- sums of sizes
+
+pub sum_by-map : {X A : Type 0} (f : A → ℕ) (g : X → A) (xs : List X) → sum_by f (map g xs) ≡ sum_by (λ x. f (g x)) xs
+sum_by-map f g [] = refl
+sum_by-map f g (x ∷ xs) = omega (arith, sum_by-map f g xs, sum_by-cons f (g x) (map g xs), sum_by-cons (λ y. f (g y)) x xs)
 
 pub total_size : {X : Type 0} (f : X → ℤ) (xs : List X) → unsigned_abs (total_by f xs) ≤ sum_by (λ x. unsigned_abs (f x)) xs
 total_size f [] = omega arith

@@ -1,10 +1,9 @@
 -- The bucket of a product class, in terms of the nets of its keys.
 -- (ISDA SIMM methodology, delta margin: weighted sensitivities and their aggregation in a bucket.)
-use Rattle.std.specs.Prelude.{◌≡◌, ◌^◌, ◌*◌, ◌<◌, ◌≤◌, List, [], ◌∷◌, map, sum_by, Bool, false, ◌&&◌, not, ℤ, pos, ◌*ℤ◌, unsigned_abs, if◌then◌else◌}
+use Rattle.std.specs.Prelude.{◌≡◌, ◌^◌, ◌*◌, ◌<◌, ◌≤◌, List, [], ◌∷◌, map, sum_by, Bool, false, ◌&&◌, not, ℤ, ◌*ℤ◌, unsigned_abs, if◌then◌else◌}
 use Rattle.std.specs.declared.cmp.Ordering.{Ordering}
 use Rattle.std.specs.declared.cmp.Ordering.TheVariants.{Less}
 use Rattle.std.specs.List.{filter, AllByRecursion}
-use Rattle.mh_units.specs.Rounding.{away}
 use Rattle.simm_kinds.specs.declared.kinds.ProductClass.{ProductClass}
 use Rattle.simm_kinds.specs.Key.{Key}
 use Rattle.simm_kinds.specs.Order.{same_product, same_key, key_cmp}
@@ -14,6 +13,10 @@ use Rattle.simm_rules.specs.Sums.{total_by_pairs}
 use Rattle.simm_rules.specs.Net.{is_own_currency}
 use Rattle.simm_rules.specs.Concentration.{one, ratio, cr}
 use Rattle.simm_rules.specs.Delta.{combined}
+use Rattle.simm_params.specs.declared.category.VolatilityCategory.{VolatilityCategory}
+use Rattle.simm_params.specs.Categories.{volatility}
+use Rattle.weighted_bucket.specs.declared.weighed.Weighed.{Weighed}
+use Rattle.weighted_bucket.specs.Weigh.{weighed_value}
 use Rattle.simm_plain.specs.FxKeys.{IsFxKey}
 
 -- a net of a product class that has a risk in this calculation currency
@@ -26,12 +29,15 @@ factors p product nets = filter (is_factor p product) nets
 abbrev pub factor_cr : Params → Key × ℤ → ℤ
 factor_cr p e = cr e.1 (delta_threshold p e.0)
 
--- the weighted sensitivity of a weight, a net and a concentration factor
-abbrev pub weighted_net : ℤ → ℤ → ℤ → ℤ
-weighted_net w n c = away (w *ℤ n *ℤ c) (pos (10 ^ 10))
-
 abbrev pub factor_weighted : Params → Key × ℤ → ℤ
-factor_weighted p e = weighted_net (weight p e.0) e.1 (factor_cr p e)
+factor_weighted p e = weighed_value (weight p e.0) e.1 (factor_cr p e)
+
+abbrev pub weighed_of : Params → Key × ℤ → Weighed
+weighed_of p e = record { w = factor_weighted p e; cr = record { 0 = factor_cr p e } }
+
+-- the volatility category of a factor's currency
+abbrev pub category_of : Params → Key × ℤ → VolatilityCategory
+category_of p e = volatility p e.0.qualifier
 
 abbrev pub factor_corr : Params → Key × ℤ → Key × ℤ → ℤ
 factor_corr p e f =

@@ -1,10 +1,8 @@
 pub mod FxKeys
 pub mod Nets
 pub mod Bucket
-pub mod Correlated
+pub mod Rho
 pub mod Faults
 pub mod Parts
 pub mod Entries
-pub mod CorrelatedLaws
-pub mod Weighing
 pub mod Lent

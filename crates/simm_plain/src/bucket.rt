@@ -4,16 +4,18 @@ ghost use Rattle.simm_plain.specs.Bucket.{IsBucket, factors, factor_sum};
 ghost use Rattle.simm_plain.specs.Entries.{entries};
 ghost use Rattle.simm_plain.specs.Nets.{nets_in};
 
-use crate::correlation::FxCorrelation;
 use crate::net::Net;
 use crate::netting::Nets;
-use crate::weighing::weigh;
-use pair_sum::{Steps, bucket_root, pair_sum};
+use crate::rho::FxRho;
+use crate::weighing::weigh_all;
+use mh_units::Corr6;
+use pair_sum::Steps;
 use simm_kinds::ProductClass;
 use simm_params::Params;
 use std::alloc::{AllocError, Global};
 use std::marker::Brand;
 use std::sync::ledger::{Blank, Ledger};
+use weighted_bucket::{Scaling, bucket_margin};
 
 /// The margin of a product class's sensitivities to currencies, in cents.
 pub fn fx_margin(
@@ -28,12 +30,11 @@ pub fn fx_margin(
     ensures size { IfOk result (λ m. unsigned_abs m ≤ 14 * 10 ^ 15) }
 {
     let factors = nets.factors(alloc, params, product)?;
-    let sum = bucket_sum::<Brand>(alloc, params, factors.as_slice(), Blank::new(1))?;
-    Ok(bucket_root(sum))
+    factors_margin::<Brand>(alloc, params, factors.as_slice(), Blank::new(1))
 }
 
-// The pair sum over the factors, in cents squared times 10^6.
-fn bucket_sum<L: Ledger>(
+// The margin of the bucket of these factors, in cents.
+fn factors_margin<L: Ledger>(
     alloc: Global,
     params: &Params,
     nets: &[Net],
@@ -43,15 +44,23 @@ fn bucket_sum<L: Ledger>(
     requires parts { blank.parts ≡ L.parts }
     requires some { 0 < blank.parts }
     requires in_range { IsBucket params.now (entries nets.now) }
-    ensures value { IfOk result (λ q. q ≡ factor_sum params.now (entries nets.now)) }
-    ensures size { IfOk result (λ q. unsigned_abs q ≤ 8 * 10 ^ 37) }
+    ensures value { IfOk result (λ k. k ≡ root_of (factor_sum params.now (entries nets.now))) }
+    ensures low { IfOk result (λ k. pos 0 ≤ℤ k) }
+    ensures size { IfOk result (λ k. unsigned_abs k ≤ 14 * 10 ^ 15) }
 {
     params.facts();
-    let weighed = weigh(alloc, params, nets)?;
-    let correlation = FxCorrelation {
+    let bucket = weigh_all(alloc, params, nets)?;
+    let rho = FxRho {
         params,
-        currencies: weighed.currencies,
+        categories: bucket.categories,
     };
     let mut steps = Steps::<L>::new(blank);
-    Ok(pair_sum(weighed.items.as_slice(), &correlation, &mut steps))
+    let margin = bucket_margin(
+        bucket.factors.as_slice(),
+        &rho,
+        Scaling::Concentrated,
+        Corr6::ONE,
+        &mut steps,
+    );
+    Ok(margin.k)
 }

@@ -5,13 +5,12 @@
 mod book;
 mod breakdown;
 mod bucket;
-mod correlation;
-mod currency_traits;
 mod laws;
 mod lent;
 mod net;
 mod netting;
 mod range;
+mod rho;
 mod sums;
 mod weighing;
 

@@ -3,7 +3,7 @@ use Rattle.std.specs.Int.{w128, w64}
 use Rattle.mh_units.proofs.Integers.{same64, product_size}
 use Rattle.simm_rules.specs.Lookups.{weight}
 use Rattle.simm_plain.proofs.Grosses.{weighted_size_fits}
-use Rattle.simm_plain.proofs.Passing.{factors_passed, product_passed}
+use Rattle.weighted_bucket.proofs.Passing.{factors_passed, product_passed}
 use Rattle.simm_plain.proofs.Weights.{weight_size}
 use Rattle.simm_plain.proofs.netting.weighted_size.Goals as goal
 
