@@ -1,4 +1,4 @@
-ghost use Rattle.std.specs.Prelude.{◌≡◌, [], length, map, None, Some, Err, IfOk, OnOk, OnErr, ℕ, true};
+ghost use Rattle.std.specs.Prelude.{◌≡◌, ◌^◌, [], length, map, None, Some, Err, IfOk, OnOk, OnErr, ℕ, true, pos, ◌≤ℤ◌, ◌<ℤ◌};
 ghost use Rattle.std.specs.List.{list_all};
 ghost use Rattle.std.specs.Option.{option_copied};
 ghost use Rattle.simm_kinds.specs.Batch.{IsBatch, rows_of};
@@ -96,9 +96,12 @@ impl LiveMargin {
         Ok(())
     }
 
-    /// The margin of the current trades, with all of its parts. Want of memory is the only error.
+    /// The margin of the current trades, with all of its parts. Its total is at least 0 and below 10^21 cents. Want of memory is
+    /// the only error.
     pub fn margin(&mut self, alloc: Global) -> Result<Breakdown, AllocError>
         ensures value { IfOk result (λ b. b ≡ simm self.old.params (rows_of self.old.book)) }
+        ensures total_from { IfOk result (λ b. pos 0 ≤ℤ b.total) }
+        ensures total_below { IfOk result (λ b. b.total <ℤ pos (10 ^ 21)) }
         ensures unchanged { self.new ≡ self.old }
     {
         let lent = lend_current(alloc, &self.trades, 0)?;

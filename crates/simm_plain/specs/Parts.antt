@@ -1,5 +1,5 @@
 -- A breakdown of margins of rows to currencies.
-use Rattle.std.specs.Prelude.{List, [], ◌∷◌, map, ℤ, pos}
+use Rattle.std.specs.Prelude.{◌*◌, ◌^◌, ◌≤◌, List, [], ◌∷◌, map, ℤ, pos, ◌≤ℤ◌, ◌<ℤ◌, unsigned_abs}
 use Rattle.std.specs.List.{flat_map}
 use Rattle.simm_kinds.specs.declared.kinds.ProductClass.{ProductClass}
 use Rattle.simm_kinds.specs.declared.kinds.ProductClass.TheVariants as product
@@ -21,6 +21,16 @@ breakdown_of m = record {
   multiplier = pos 0;
   total = total_by m products;
 }
+
+-- the margin of a product class, in cents
+pub record IsMargin (margin : ℤ) : Type 0 where
+  pub low : pos 0 ≤ℤ margin
+  pub size : unsigned_abs margin ≤ 14 * 10 ^ 15
+
+-- the total of a margin with all of its parts, in cents
+pub record IsTotal (total : ℤ) : Type 0 where
+  pub low : pos 0 ≤ℤ total
+  pub below : total <ℤ pos (10 ^ 21)
 
 -- one number for each product class
 abbrev pub by_product : ℤ → ℤ → ℤ → ℤ → ProductClass → ℤ

@@ -7,6 +7,7 @@ ghost use Rattle.simm_plain.specs.Bucket.{IsBucket, factors};
 ghost use Rattle.simm_plain.specs.FxKeys.{FxRows};
 ghost use Rattle.simm_plain.specs.Lent.{all_rows};
 ghost use Rattle.simm_plain.specs.Nets.{nets_in, sums_of, AreRows};
+ghost use Rattle.simm_plain.specs.Parts.{IsTotal};
 
 use crate::breakdown::breakdown;
 use crate::bucket::fx_margin;
@@ -43,7 +44,8 @@ pub fn margin_in_range(
     lent: &[LentRows],
 ) -> Result<Breakdown, AllocError>
     requires { range params.now (all_rows lent.now) ≡ None }
-    ensures { IfOk result (λ b. b ≡ simm params.now (all_rows lent.now)) }
+    ensures value { IfOk result (λ b. b ≡ simm params.now (all_rows lent.now)) }
+    ensures total { IfOk result (λ b. IsTotal b.total) }
 {
     let nets = Nets::of_rows(alloc, lent)?;
     params.facts();
@@ -53,7 +55,8 @@ pub fn margin_in_range(
 // The margin of a book in range, by its nets.
 fn nets_margin(alloc: Global, params: &Params, nets: &Nets) -> Result<Breakdown, AllocError>
     requires { (product : Product) → IsBucket params.now (factors params.now product (nets_in nets.now)) }
-    ensures { (rows : List Row) → FxRows rows → nets.now ≡ sums_of rows → IfOk result (λ b. b ≡ simm params.now rows) }
+    ensures value { (rows : List Row) → FxRows rows → nets.now ≡ sums_of rows → IfOk result (λ b. b ≡ simm params.now rows) }
+    ensures total { IfOk result (λ b. IsTotal b.total) }
 {
     let rates_fx = fx_margin(alloc, params, nets, ProductClass::RatesFX)?;
     let credit = fx_margin(alloc, params, nets, ProductClass::Credit)?;

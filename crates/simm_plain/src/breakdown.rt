@@ -1,15 +1,16 @@
-ghost use Rattle.std.specs.Prelude.{◌≡◌, ◌*◌, ◌^◌, ◌≤◌, unsigned_abs};
-ghost use Rattle.simm_plain.specs.Parts.{breakdown_of, by_product};
+ghost use Rattle.std.specs.Prelude.{◌≡◌};
+ghost use Rattle.simm_plain.specs.Parts.{breakdown_of, by_product, IsMargin, IsTotal};
 
 use simm_rules::Breakdown;
 
 /// The margin of a book whose product classes have these foreign exchange margins, in their order, and nothing else.
 pub fn breakdown(rates_fx: i128, credit: i128, equity: i128, commodity: i128) -> Breakdown
-    requires rates_fx_in_range { unsigned_abs rates_fx ≤ 14 * 10 ^ 15 }
-    requires credit_in_range { unsigned_abs credit ≤ 14 * 10 ^ 15 }
-    requires equity_in_range { unsigned_abs equity ≤ 14 * 10 ^ 15 }
-    requires commodity_in_range { unsigned_abs commodity ≤ 14 * 10 ^ 15 }
-    ensures { result ≡ breakdown_of (by_product rates_fx credit equity commodity) }
+    requires rates_fx { IsMargin rates_fx }
+    requires credit { IsMargin credit }
+    requires equity { IsMargin equity }
+    requires commodity { IsMargin commodity }
+    ensures value { result ≡ breakdown_of (by_product rates_fx credit equity commodity) }
+    ensures total { IsTotal result.total }
 {
     Breakdown {
         classes: [

@@ -9,6 +9,6 @@ nets_margin-requires c = λ product.
     ready c.args.params.now (all_rows c.args.lent.now) c.in_ok-nets.nets product c.facts.ensures.params fx c.in_ok-nets.ensures.value
     (no_nets_fault c.args.params.now (all_rows c.args.lent.now) c.in_ok-nets.nets fx c.in_ok-nets.ensures.value c.requires)
 
-pub returns : goal.returns
-returns c =
-    c.nets_margin.ensures (all_rows c.args.lent.now) (fx_of_rows (all_rows c.args.lent.now) c.in_ok-nets.ensures.rows) c.in_ok-nets.ensures.value
+pub returns-clause-value : goal.returns-clause-value
+returns-clause-value c =
+    c.nets_margin.ensures.value (all_rows c.args.lent.now) (fx_of_rows (all_rows c.args.lent.now) c.in_ok-nets.ensures.rows) c.in_ok-nets.ensures.value

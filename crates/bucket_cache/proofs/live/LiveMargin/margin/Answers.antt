@@ -23,4 +23,4 @@ pub returns-clause-value : goal.returns-clause-value
 returns-clause-value c =
     same_margin c.self.inside.params c.args.self.now.params _ _ c.margin_in_range.result (ap (λ (l : Live). l.params) c.self.view_is)
     (ap all_rows c.as_slice.ensures.value ∙ lent_rows c.in_ok-lent.lent.items (trades_of c.self.inside.trades.entries) c.in_ok-lent.ensures ∙ ap (λ (l : Live). rows_of l.book) c.self.view_is)
-    c.margin_in_range.ensures
+    c.margin_in_range.ensures.value
