@@ -25,3 +25,5 @@ mod pair_sum_calls;
 mod simm_kinds_calls;
 #[cfg(test)]
 mod simm_rules_calls;
+#[cfg(test)]
+mod weighted_bucket_calls;

@@ -1,21 +1,19 @@
 -- The correlations by place are the rule's correlations of the keys.
-use Rattle.std.proofs.Common.{◌≡◌, ℕ, zero, suc, ◌<◌, ◌≤◌, List, [], ◌∷◌, map, length, get_or, Bool, true, false, ◌==◌, ◌&&◌, ◌||◌, ◌*◌, if◌then◌else◌, refl, sym, ap, ◌∙◌, subst, ℤ, pos, ◌*ℤ◌, ◌≤ℤ◌, ◌<ℤ◌, unsigned_abs, sum_by, All, arith, ⊎_elim}
+use Rattle.std.proofs.Common.{◌≡◌, ◌≢◌, ℕ, zero, suc, ◌<◌, ◌≤◌, List, [], ◌∷◌, map, length, get_or, Bool, true, false, ◌==◌, ◌&&◌, ◌||◌, ◌*◌, if◌then◌else◌, refl, sym, ap, ◌∙◌, subst, ℤ, pos, ◌*ℤ◌, ◌≤ℤ◌, ◌<ℤ◌, unsigned_abs, sum_by, All, arith, ⊎_elim}
 use Rattle.std.specs.declared.cmp.Ordering.TheVariants.{Less}
 use Rattle.std.specs.Ordering.{is_eq}
 use Rattle.std.specs.List.{AllByRecursion}
 use Rattle.std.proofs.lemmas.Bool.{cases_order, eq-eqb, ne_eqb}
 use Rattle.std.proofs.lemmas.Int.{ints, clamps}
 use Rattle.std.proofs.lemmas.List.{get_or-map, length-map}
-use Rattle.std.proofs.lemmas.Simd.{map-map}
 use Rattle.std.proofs.lemmas.List.Elements.{All-from_recursion}
-use Rattle.pair_sum.proofs.OverLists.{pair_total-keys}
+use Rattle.weighted_bucket.proofs.OverKeys.{pairs_of-keys}
 use Rattle.simm_kinds.specs.declared.kinds.ProductClass.TheVariants as product
 use Rattle.simm_kinds.specs.Key.{Key}
 use Rattle.simm_kinds.specs.Order.{same_key, key_cmp}
 use Rattle.simm_rules.specs.Params.{Params}
-use Rattle.simm_rules.specs.Lookups.{weight, delta_threshold, delta_rho_of, is_high}
-use Rattle.simm_rules.specs.Concentration.{one, ratio, cr}
-use Rattle.simm_rules.specs.Delta.{combined}
+use Rattle.simm_rules.specs.Lookups.{weight, delta_threshold, delta_rho, delta_rho_of, is_high}
+use Rattle.simm_rules.specs.Concentration.{one, cr}
 use Rattle.simm_params.specs.declared.category.VolatilityCategory.{VolatilityCategory}
 use Rattle.simm_params.specs.declared.category.VolatilityCategory.TheVariants.{Regular, High}
 use Rattle.simm_params.specs.Categories.{volatility, category_rho}
@@ -23,9 +21,8 @@ use Rattle.simm_params.specs.Facts.{IsParams}
 use Rattle.weighted_bucket.specs.declared.scaling.Scaling.TheVariants as scaling
 use Rattle.weighted_bucket.specs.declared.weighed.Weighed.{Weighed}
 use Rattle.weighted_bucket.specs.Bucket.{pairs_of}
-use Rattle.weighted_bucket.specs.Correlated.{no_factor, cr_at, correlation}
 use Rattle.simm_plain.specs.FxKeys.{fx_key, IsFxKey}
-use Rattle.simm_plain.specs.Bucket.{category_of, weighed_of, factor_cr, factor_weighted, factor_corr, factor_sum, Ascends, IsFactor}
+use Rattle.simm_plain.specs.Bucket.{category_of, weighed_of, factor_cr, factor_weighted, factor_sum, Ascends, IsFactor}
 use Rattle.simm_plain.specs.Rho.{rho_of, category_at, rho_at}
 use Rattle.simm_plain.proofs.Keys.{same_key_refl, same_key_sym}
 use Rattle.simm_plain.proofs.Sizes.{sum_by-map}
@@ -60,49 +57,34 @@ by_category p true false = refl
 by_category p false true = refl
 by_category p false false = refl
 
--- the correlation of a key with itself is 1 twice over
-rho_once : (t : Bool) (x f : ℤ) → (if t then one else combined x f) ≡ (if t then one else combined (if t then pos 1000000 else x) f)
-rho_once true x f = refl
-rho_once false x f = refl
-
 -- the correlation by category is that of the keys
 key_rho : (p : Params) (k l : Key) → IsFxKey k → rho_of p (volatility p k.qualifier) (volatility p l.qualifier) ≡ delta_rho_of k.kind p k l
 key_rho p k l f = ap (λ z. pos 100 *ℤ z) (by_category p (is_high p k.qualifier) (is_high p l.qualifier)) ∙ sym (ap (λ x. delta_rho_of x.kind p x l) f)
 
 module _ (p : Params) where
-  corr_is : (e f : Key × ℤ) → IsFxKey e.0 → combined (rho_of p (category_of p e) (category_of p f)) (ratio (factor_cr p e) (factor_cr p f)) ≡ combined (delta_rho_of e.0.kind p e.0 f.0) (ratio (factor_cr p e) (factor_cr p f))
-  corr_is e f g = ap (λ z. combined z (ratio (factor_cr p e) (factor_cr p f))) (key_rho p e.0 f.0 g)
-
   category_is : (es : List (Key × ℤ)) (categories : List VolatilityCategory) (d : Key × ℤ) (i : ℕ) → categories ≡ map (category_of p) es → i < length es → category_at categories i ≡ category_of p (get_or es i d)
   category_is es categories d i e l = ap (λ cs. get_or cs i Regular) e ∙ get_or-map (category_of p) es i d Regular l
 
-  cr_is : (es : List (Key × ℤ)) (factors : List Weighed) (d : Key × ℤ) (i : ℕ) → factors ≡ map (weighed_of p) es → i < length es → cr_at factors i ≡ factor_cr p (get_or es i d)
-  cr_is es factors d i e l = ap (λ fs. ((get_or fs i no_factor).cr).0) e ∙ ap (λ (x : Weighed). x.cr.0) (get_or-map (weighed_of p) es i d no_factor l)
-
-  places_corr : (es : List (Key × ℤ)) (categories : List VolatilityCategory) (factors : List Weighed) (d : Key × ℤ) → categories ≡ map (category_of p) es → factors ≡ map (weighed_of p) es → AllByRecursion (IsFactor p) es → Ascends key_cmp (map (λ e. e.0) es) → (i j : ℕ) → i < length es → j < length es → correlation scaling.Concentrated factors (rho_at p categories) i j ≡ factor_corr p (get_or es i d) (get_or es j d)
-  places_corr es categories factors d c e each s i j l m =
+  key_place : (es : List (Key × ℤ)) (d : Key × ℤ) → Ascends key_cmp (map (λ e. e.0) es) → (i j : ℕ) → i < length es → j < length es → same_key (get_or es i d).0 (get_or es j d).0 ≡ (i == j)
+  key_place es d s i j l m =
       let count : length (map (λ (x : Key × ℤ). x.0) es) ≡ length es = length-map es (λ (x : Key × ℤ). x.0) in
       let key_i : get_or (map (λ (x : Key × ℤ). x.0) es) i d.0 ≡ (get_or es i d).0 = get_or-map (λ (x : Key × ℤ). x.0) es i d d.0 l in
       let key_j : get_or (map (λ (x : Key × ℤ). x.0) es) j d.0 ≡ (get_or es j d).0 = get_or-map (λ (x : Key × ℤ). x.0) es j d d.0 m in
-      let same : same_key (get_or es i d).0 (get_or es j d).0 ≡ (i == j) =
       ap (λ k. same_key k (get_or es j d).0) (sym key_i) ∙ ap (λ k. same_key (get_or (map (λ (x : Key × ℤ). x.0) es) i d.0) k) (sym key_j)
-      ∙ same_place (map (λ (x : Key × ℤ). x.0) es) i j d.0 s (omega arith) (omega arith) in
-      ap (λ a. if i == j then one else combined (rho_of p a (category_at categories j)) (ratio (cr_at factors i) (cr_at factors j))) (category_is es categories d i c l)
-      ∙ ap (λ b. if i == j then one else combined (rho_of p (category_of p (get_or es i d)) b) (ratio (cr_at factors i) (cr_at factors j))) (category_is es categories d j c m)
-      ∙ ap (λ x. if i == j then one else combined (rho_of p (category_of p (get_or es i d)) (category_of p (get_or es j d))) (ratio x (cr_at factors j))) (cr_is es factors d i e l)
-      ∙ ap (λ y. if i == j then one else combined (rho_of p (category_of p (get_or es i d)) (category_of p (get_or es j d))) (ratio (factor_cr p (get_or es i d)) y)) (cr_is es factors d j e m)
-      ∙ ap (λ z. if i == j then one else z) (corr_is (get_or es i d) (get_or es j d) (each_at (IsFactor p) es i d each l).fx)
-      ∙ ap (λ t. if t then one else combined (delta_rho_of (get_or es i d).0.kind p (get_or es i d).0 (get_or es j d).0) (ratio (factor_cr p (get_or es i d)) (factor_cr p (get_or es j d)))) (sym same)
-      ∙ rho_once (same_key (get_or es i d).0 (get_or es j d).0) (delta_rho_of (get_or es i d).0.kind p (get_or es i d).0 (get_or es j d).0) (ratio (factor_cr p (get_or es i d)) (factor_cr p (get_or es j d)))
+      ∙ same_place (map (λ (x : Key × ℤ). x.0) es) i j d.0 s (omega arith) (omega arith)
 
-  amounts_are : (es : List (Key × ℤ)) (factors : List Weighed) → factors ≡ map (weighed_of p) es → map (λ (factor : Weighed). factor.w) factors ≡ map (factor_weighted p) es
-  amounts_are es factors e = ap (map (λ (factor : Weighed). factor.w)) e ∙ map-map (λ (factor : Weighed). factor.w) (weighed_of p) es
+  -- the table's correlation of two different places is the parameters' of the keys there
+  rho_is : (es : List (Key × ℤ)) (categories : List VolatilityCategory) (d : Key × ℤ) → categories ≡ map (category_of p) es → AllByRecursion (IsFactor p) es → Ascends key_cmp (map (λ e. e.0) es) → (i j : ℕ) → i < length es → j < length es → i ≢ j → rho_at p categories i j ≡ delta_rho p (get_or es i d).0 (get_or es j d).0
+  rho_is es categories d c each s i j l m apart =
+      ap (λ a. rho_of p a (category_at categories j)) (category_is es categories d i c l) ∙ ap (λ b. rho_of p (category_of p (get_or es i d)) b) (category_is es categories d j c m)
+      ∙ key_rho p (get_or es i d).0 (get_or es j d).0 (each_at (IsFactor p) es i d each l).fx
+      ∙ sym (ap (λ t. if t then pos 1000000 else delta_rho_of (get_or es i d).0.kind p (get_or es i d).0 (get_or es j d).0) (key_place es d s i j l m ∙ ne_eqb i j apart))
 
   -- the sum over places is that over factors
   pub sum_is : (es : List (Key × ℤ)) (categories : List VolatilityCategory) (factors : List Weighed) → categories ≡ map (category_of p) es → factors ≡ map (weighed_of p) es → AllByRecursion (IsFactor p) es → Ascends key_cmp (map (λ e. e.0) es) → pairs_of scaling.Concentrated factors (rho_at p categories) ≡ factor_sum p es
   sum_is es categories factors c e each s =
       let none : Key × ℤ = (fx_key product.RatesFX [], pos 0) in
-      pair_total-keys (factor_corr p) (factor_weighted p) es none (correlation scaling.Concentrated factors (rho_at p categories)) (map (λ (factor : Weighed). factor.w) factors) (amounts_are es factors e) (places_corr es categories factors none c e each s)
+      pairs_of-keys scaling.Concentrated (factor_weighted p) (factor_cr p) (λ k l. delta_rho p k.0 l.0) (λ k l. same_key k.0 l.0) es none factors (rho_at p categories) e (rho_is es categories none c each s) (key_place es none s)
 
   pub sizes_are : (es : List (Key × ℤ)) (factors : List Weighed) → factors ≡ map (weighed_of p) es → sum_by (λ factor. unsigned_abs factor.w) factors ≡ sum_by (λ e. unsigned_abs (factor_weighted p e)) es
   sizes_are es factors e = ap (sum_by (λ (factor : Weighed). unsigned_abs factor.w)) e ∙ sum_by-map (λ (factor : Weighed). unsigned_abs factor.w) (weighed_of p) es

@@ -2,3 +2,4 @@ pub mod Passing
 pub mod Correlations
 pub mod WeightedSums
 pub mod Groups
+pub mod OverKeys
