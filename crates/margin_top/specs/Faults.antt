@@ -22,8 +22,8 @@ fault_of_read (read.TooLong taken) = fault.Long
 fault_of_read read.Memory = fault.Memory
 
 abbrev pub fault_of_params : ParamFault → ValueFault
-fault_of_params params.Refused = value.Refused
 fault_of_params params.Memory = value.OfFile fault.Memory
+fault_of_params _ = value.Refused
 
 abbrev pub fault_of_crif : CrifFault → ValueFault
 fault_of_crif crif.Refused = value.Refused

@@ -94,8 +94,8 @@ impl From<ParamFault> for ValueFault {
 
     fn from(refused: ParamFault) -> ValueFault {
         match refused {
-            ParamFault::Refused => ValueFault::Refused,
             ParamFault::Memory => ValueFault::OfFile(FileFault::Memory),
+            _ => ValueFault::Refused,
         }
     }
 }

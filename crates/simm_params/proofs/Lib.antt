@@ -1,5 +1,3 @@
-pub mod Listing
-pub mod Steps
-pub mod Places
-pub mod Ranged
-pub mod Weighed
+mod Ranged
+mod Listing
+mod Weighed

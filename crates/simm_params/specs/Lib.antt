@@ -1,6 +1,5 @@
+pub mod Faults
 pub mod Ranges
-pub mod Gives
-pub mod Values
 pub mod Grammar
 pub mod Facts
 pub mod Categories

@@ -1,5 +1,4 @@
 ghost use Rattle.std.specs.Prelude.{◌≡◌, IfOk};
-ghost use Rattle.simm_params.specs.Ranges.{is_thick};
 
 use crate::currency_list::CurrencyList;
 use mh_units::Rate4;
@@ -44,22 +43,6 @@ pub struct FxParams {
 
 impl FxParams {
     ghost use Rattle.simm_params.specs.FxView.{fx_view};
-    ghost use Rattle.simm_params.specs.Grammar.{is_thick_fx};
-
-    /// Whether each threshold is thick beside the lesser weight.
-    pub fn is_thick(&self) -> bool
-        ensures { result ≡ is_thick_fx (fx_view self.now) }
-    {
-        let least = self.weights.regular.0.min(self.weights.high.0);
-        let thresholds = [
-            self.thresholds.first,
-            self.thresholds.second,
-            self.thresholds.third,
-        ];
-        thresholds
-            .iter()
-            .all(|threshold| is_thick(least, *threshold))
-    }
 
     /// The same parameters once more. The only error is want of memory.
     pub fn copy(&self, alloc: Global) -> Result<FxParams, AllocError>
@@ -74,14 +57,4 @@ impl FxParams {
             thresholds: self.thresholds,
         })
     }
-}
-
-/// The least product of a weight and a threshold.
-const THICK: i128 = 1_000_000_000_000;
-
-/// Whether a threshold in cents is thick beside a weight in ten-thousandths.
-fn is_thick(weight: i64, threshold: i64) -> bool
-    ensures { result ≡ is_thick weight threshold }
-{
-    i128::from(weight) * i128::from(threshold) >= THICK
 }

@@ -2,15 +2,15 @@
 #![tactic(auto)]
 
 mod category;
+mod currencies;
 mod currency_list;
-mod document;
 mod fault;
 mod fx;
 mod fx_table;
 mod params;
 mod range;
 mod reading;
-mod value;
+mod thickness;
 
 pub use category::VolatilityCategory;
 pub use fault::ParamFault;
