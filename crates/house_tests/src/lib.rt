@@ -18,6 +18,8 @@ mod mh_io_lines;
 #[cfg(test)]
 mod mh_units_calls;
 #[cfg(test)]
+mod moment_texts;
+#[cfg(test)]
 mod multiplier;
 #[cfg(test)]
 mod pair_sum_calls;
