@@ -1,28 +1,41 @@
 -- What a set keeps is kept by one event more.
 use mathlib.Core.Path.{fun_ext}
-use Rattle.std.proofs.Common.{◌≡◌, ℕ, ◌+◌, ◌≤◌, ◌<◌, arith, [], ◌∷◌, ◌++◌, length, Bool, true, false, not, cond, option_map, position, Option, Some, None, refl, sym, ap, ◌∙◌, subst, nat_le, nat_lt}
+use Rattle.std.proofs.Common.{◌≡◌, ℕ, ◌+◌, ◌≤◌, ◌<◌, arith, List, [], ◌∷◌, ◌++◌, length, Bool, true, false, not, cond, map, ℤ, ◌+ℤ◌, is_some, option_map, position, Option, Some, None, refl, sym, ap, ◌∙◌, subst, nat_le, nat_lt}
 use Rattle.std.proofs.lemmas.Bool.{true≢false, or_parts, leb-false, ltb-false}
-use Rattle.std.proofs.lemmas.List.{length-append}
+use Rattle.std.proofs.lemmas.List.{length-append, length-map}
 use Rattle.std.proofs.lemmas.List.Sums.{sum_by-append}
-use Rattle.simm_kinds.specs.Batch.{rows_of}
+use Rattle.simm_kinds.specs.declared.row.TradeRows.{TradeRows}
+use Rattle.simm_kinds.specs.Batch.{IsBatch, rows_of}
 use Rattle.simm_rules.specs.declared.values.RangeFault.{RangeFault}
 use Rattle.simm_rules.specs.Params.{Params}
 use Rattle.simm_rules.specs.Range.{range}
+use Rattle.simm_rules.specs.Simm.{simm}
 use Rattle.held_cell.specs.Entries.{entry}
 use Rattle.bucket_cache.specs.Live.{Live}
+use Rattle.csa_terms.specs.Terms.{Agreement, haircut_of}
+use Rattle.collateral_ledger.specs.declared.fault.LedgerFault.TheVariants as fault
+use Rattle.collateral_ledger.specs.Holdings.{Holdings}
+use Rattle.collateral_ledger.specs.Booked.{total, booked_of, settled, counted as counted_held}
+use Rattle.collateral_ledger.specs.Refusals.{put_refusal, is_lot_value, is_full as is_full_of}
 use Rattle.set_core.specs.declared.event.Event.{Event}
 use Rattle.set_core.specs.declared.event.Event.TheVariants as event
 use Rattle.set_core.specs.declared.reply.Reply.{Reply}
 use Rattle.set_core.specs.declared.reply.Reply.TheVariants as reply
 use Rattle.set_core.specs.declared.refusal.Refusal.{Refusal}
-use Rattle.set_core.specs.Book.{Silent, is_accepted, trades_of_event, accepted_trades, starts, book, with_rows_after}
-use Rattle.set_core.specs.Answer.{first_unknown, if_in_range, if_known, answer, IsLegal}
+use Rattle.set_core.specs.declared.refusal.Refusal.TheVariants as refusal
+use Rattle.set_core.specs.Book.{Silent, word_of_event, is_accepted, trades_of_event, accepted_trades, starts, book, with_rows_after}
+use Rattle.set_core.specs.Lots.{lots, is_there}
+use Rattle.set_core.specs.Calls.{made, outstanding, is_outstanding, booked}
+use Rattle.set_core.specs.Answer.{first_unknown, if_in_range, if_known, if_put, if_taken, if_closed, if_calling_day, answer, IsLegal}
 use Rattle.set_core.specs.Events.{IsEvent}
 use Rattle.set_core.specs.Room.{event_rows, journal_rows, is_full}
+use Rattle.set_core.specs.Ledger.{held_lot, holdings, holdings_after, ledger_reply}
 use Rattle.set_core.specs.Live.{live_reply, live_book, Does}
 use Rattle.set_core.specs.Kept.{AreDifferent, IsKept}
 use Rattle.set_core.proofs.Words.{Log}
-use Rattle.set_core.proofs.Puts.{different-map}
+use Rattle.set_core.proofs.Puts.{different-map, map-map}
+use Rattle.set_core.proofs.Calls.{made_few}
+use Rattle.set_core.proofs.Ledgers.{IsNew, has_lot-held, holdings_are}
 use Rattle.set_core.proofs.Books.{in_book, starts_different, book-silent, book-withdrawn, book-submitted}
 use Rattle.set_core.proofs.Legal.{legal-push}
 use Rattle.set_core.proofs.Batches.{different_trades}
@@ -30,47 +43,115 @@ use Rattle.set_core.proofs.Batches.{different_trades}
 book_different : (log : Log) → AreDifferent (starts [] log) → AreDifferent (book log)
 book_different log d = different-map (with_rows_after log) (λ t. refl) (starts [] log) d
 
--- ---- the live margin's reply is the answer
+-- ---- the reply is the answer
 
-pub answer_is : (p : Params) (log : Log) (e : Event) → AreDifferent (starts [] log) → IsEvent e → live_reply (record { params = p; book = book log }) e ≡ answer p log e
-answer_is p log (event.Submit batch) d is =
+put_answer : (there known in_range full : Bool) (value : ℤ) → ledger_reply (cond there (Some fault.LotKnown) (cond (not known) (Some fault.ClassUnknown) (cond (not in_range) (Some (fault.LotRange value)) (cond full (Some (fault.LotsFull 4096)) None)))) ≡ cond there (reply.Refused refusal.LotKnown) (cond (not known) (reply.Refused refusal.ClassUnknown) (cond (not in_range) (reply.Refused (refusal.LotRange value)) (cond full (reply.Refused (refusal.LotsFull 4096)) reply.Accepted)))
+put_answer true known in_range full value = refl
+put_answer false false in_range full value = refl
+put_answer false true false full value = refl
+put_answer false true true true value = refl
+put_answer false true true false value = refl
+
+put_is : (t : Agreement) (log : Log) (lot class : List ℕ) (value : ℤ) → ledger_reply (put_refusal (holdings t log) lot class value) ≡ if_put t log lot class value
+put_is t log lot class value =
+    ap (λ there. ledger_reply (cond there (Some fault.LotKnown) (cond (not (is_some (haircut_of t class))) (Some fault.ClassUnknown) (cond (not (is_lot_value value)) (Some (fault.LotRange value)) (cond (is_full_of (map (held_lot t) (lots log))) (Some (fault.LotsFull 4096)) None))))) (has_lot-held t lot (lots log))
+    ∙ ap (λ n. ledger_reply (cond (is_there log lot) (Some fault.LotKnown) (cond (not (is_some (haircut_of t class))) (Some fault.ClassUnknown) (cond (not (is_lot_value value)) (Some (fault.LotRange value)) (cond (nat_le 4096 n) (Some (fault.LotsFull 4096)) None))))) (length-map (lots log) (held_lot t))
+    ∙ put_answer (is_there log lot) (is_some (haircut_of t class)) (is_lot_value value) (nat_le 4096 (length (lots log))) value
+
+take_answer : (there : Bool) → ledger_reply (cond there None (Some fault.LotUnknown)) ≡ if_taken there
+take_answer true = refl
+take_answer false = refl
+
+mark_answer : (there in_range : Bool) (value : ℤ) → ledger_reply (cond (not there) (Some fault.LotUnknown) (cond (not in_range) (Some (fault.LotRange value)) None)) ≡ cond (not there) (reply.Refused refusal.LotUnknown) (cond (not in_range) (reply.Refused (refusal.LotRange value)) reply.Accepted)
+mark_answer false in_range value = refl
+mark_answer true false value = refl
+mark_answer true true value = refl
+
+close_answer : (open_call : Bool) → ledger_reply (cond open_call None (Some fault.CallUnknown)) ≡ if_closed open_call
+close_answer true = refl
+close_answer false = refl
+
+booked_is : (t : Agreement) (log : Log) → booked_of (holdings t log) ≡ booked t log
+booked_is t log = ap (λ values. total values +ℤ total (map settled (outstanding log))) (map-map (held_lot t) counted_held (lots log))
+
+pub answer_is : (p : Params) (t : Agreement) (log : Log) (e : Event) → AreDifferent (starts [] log) → IsEvent e → live_reply (record { params = p; book = book log }) (holdings t log) e ≡ answer p t log e
+answer_is p t log (event.Submit batch) d is =
     ap (λ trades. if_in_range (range p (rows_of trades))) (sym (book-submitted log 0 batch (different_trades batch is) (book_different log d)))
-answer_is p log (event.Withdraw names) d is =
+answer_is p t log (event.Withdraw names) d is =
     ap (λ test. if_known (option_map (λ i. i + 1) (position test names))) (fun_ext (λ name. ap not (in_book log name)))
-answer_is p log event.AskMargin d is = refl
+answer_is p t log (event.PutLot lot class value currency) d is = put_is t log lot class value
+answer_is p t log (event.TakeLot lot) d is = ap (λ there. ledger_reply (cond there None (Some fault.LotUnknown))) (has_lot-held t lot (lots log)) ∙ take_answer (is_there log lot)
+answer_is p t log (event.MarkLot lot value) d is =
+    ap (λ there. ledger_reply (cond (not there) (Some fault.LotUnknown) (cond (not (is_lot_value value)) (Some (fault.LotRange value)) None))) (has_lot-held t lot (lots log))
+    ∙ mark_answer (is_there log lot) (is_lot_value value) value
+answer_is p t log (event.CloseCall number) d is = close_answer (is_outstanding log number)
+answer_is p t log event.AskMargin d is = refl
+answer_is p t log (event.AskCall moment) d is = ap (λ booked. if_calling_day t (made log) (simm p (rows_of (book log))).total booked moment) (booked_is t log)
+
+-- a lot that is put is new
+put_new : (there : Bool) (rest : Reply) → is_accepted (cond there (reply.Refused refusal.LotKnown) rest) ≡ true → there ≡ false
+put_new true rest h = absurd (true≢false (sym h))
+put_new false rest h = refl
+
+is_new : (p : Params) (t : Agreement) (log : Log) (e : Event) (r : Reply) → r ≡ answer p t log e → is_accepted r ≡ true → IsNew (lots log) e
+is_new p t log (event.PutLot lot class value currency) r h accepted = put_new (is_there log lot) _ (sym (ap is_accepted h) ∙ accepted)
+is_new p t log (event.Submit batch) r h accepted = tt
+is_new p t log (event.Withdraw names) r h accepted = tt
+is_new p t log (event.TakeLot lot) r h accepted = tt
+is_new p t log (event.MarkLot lot value) r h accepted = tt
+is_new p t log (event.CloseCall number) r h accepted = tt
+is_new p t log event.AskMargin r h accepted = tt
+is_new p t log (event.AskCall moment) r h accepted = tt
 
 -- ---- the live margin's book after the answer is the journal's
 
-abbrev is_margin : Reply → Bool
-is_margin (reply.Margin _) = true
-is_margin _ = false
+-- a change of the book is done or refused
+abbrev is_settled : Reply → Bool
+is_settled reply.Accepted = true
+is_settled (reply.Refused _) = true
+is_settled _ = false
 
-range_no_margin : (f : Option RangeFault) → is_margin (if_in_range f) ≡ false
-range_no_margin None = refl
-range_no_margin (Some f) = refl
+range_settled : (f : Option RangeFault) → is_settled (if_in_range f) ≡ true
+range_settled None = refl
+range_settled (Some f) = refl
 
-known_no_margin : (place : Option ℕ) → is_margin (if_known place) ≡ false
-known_no_margin None = refl
-known_no_margin (Some place) = refl
+known_settled : (place : Option ℕ) → is_settled (if_known place) ≡ true
+known_settled None = refl
+known_settled (Some place) = refl
 
 refused_book : (log : Log) (caller : ℕ) (e : Event) (why : Refusal) → book (log ++ entry caller e (reply.Refused why) ∷ []) ≡ book log
 refused_book log caller e why = book-silent log (entry caller e (reply.Refused why)) (λ name. refl) refl
 
-asked_book : (log : Log) (caller : ℕ) (r : Reply) → book (log ++ entry caller event.AskMargin r ∷ []) ≡ book log
-asked_book log caller r = book-silent log (entry caller event.AskMargin r) (λ name. none Silent (is_accepted r)) (none [] (is_accepted r))
+other_book : (log : Log) (caller : ℕ) (e : Event) (r : Reply) → ((name : List ℕ) → word_of_event name e ≡ Silent) → trades_of_event e ≡ [] → book log ≡ book (log ++ entry caller e r ∷ [])
+other_book log caller e r silent none = sym (book-silent log (entry caller e r) (λ name. at (is_accepted r) (silent name)) (at (is_accepted r) none))
   where
-    none : {X : Type 0} (x : X) (s : Bool) → cond s x x ≡ x
-    none x true = refl
-    none x false = refl
+    at : {X : Type 0} {x y : X} (s : Bool) → x ≡ y → cond s x y ≡ y
+    at true h = h
+    at false h = refl
 
-pub book_is : (log : Log) (caller : ℕ) (e : Event) (r : Reply) (p : Params) → AreDifferent (starts [] log) → IsEvent e → r ≡ answer p log e → live_book (book log) e r ≡ book (log ++ entry caller e r ∷ [])
-book_is log caller (event.Submit batch) reply.Accepted p d is h = sym (book-submitted log caller batch (different_trades batch is) (book_different log d))
-book_is log caller (event.Submit batch) (reply.Refused why) p d is h = sym (refused_book log caller (event.Submit batch) why)
-book_is log caller (event.Submit batch) (reply.Margin b) p d is h = absurd (true≢false (ap is_margin h ∙ range_no_margin (range p (rows_of (book (log ++ entry 0 (event.Submit batch) reply.Accepted ∷ []))))))
-book_is log caller (event.Withdraw names) reply.Accepted p d is h = sym (book-withdrawn log caller names)
-book_is log caller (event.Withdraw names) (reply.Refused why) p d is h = sym (refused_book log caller (event.Withdraw names) why)
-book_is log caller (event.Withdraw names) (reply.Margin b) p d is h = absurd (true≢false (ap is_margin h ∙ known_no_margin (first_unknown log names)))
-book_is log caller event.AskMargin r p d is h = sym (asked_book log caller r)
+submit_book : (log : Log) (caller : ℕ) (batch : List TradeRows) (r : Reply) → AreDifferent (starts [] log) → IsBatch batch → is_settled r ≡ true → live_book (book log) (event.Submit batch) r ≡ book (log ++ entry caller (event.Submit batch) r ∷ [])
+submit_book log caller batch reply.Accepted d is h = sym (book-submitted log caller batch (different_trades batch is) (book_different log d))
+submit_book log caller batch (reply.Refused why) d is h = sym (refused_book log caller (event.Submit batch) why)
+submit_book log caller batch (reply.Margin b) d is h = absurd (true≢false (sym h))
+submit_book log caller batch (reply.Called note) d is h = absurd (true≢false (sym h))
+submit_book log caller batch (reply.NoCall excess margin booked) d is h = absurd (true≢false (sym h))
+
+withdraw_book : (log : Log) (caller : ℕ) (names : List (List ℕ)) (r : Reply) → is_settled r ≡ true → live_book (book log) (event.Withdraw names) r ≡ book (log ++ entry caller (event.Withdraw names) r ∷ [])
+withdraw_book log caller names reply.Accepted h = sym (book-withdrawn log caller names)
+withdraw_book log caller names (reply.Refused why) h = sym (refused_book log caller (event.Withdraw names) why)
+withdraw_book log caller names (reply.Margin b) h = absurd (true≢false (sym h))
+withdraw_book log caller names (reply.Called note) h = absurd (true≢false (sym h))
+withdraw_book log caller names (reply.NoCall excess margin booked) h = absurd (true≢false (sym h))
+
+pub book_is : (log : Log) (caller : ℕ) (e : Event) (r : Reply) (p : Params) (t : Agreement) → AreDifferent (starts [] log) → IsEvent e → r ≡ answer p t log e → live_book (book log) e r ≡ book (log ++ entry caller e r ∷ [])
+book_is log caller (event.Submit batch) r p t d is h = submit_book log caller batch r d is (ap is_settled h ∙ range_settled (range p (rows_of (book (log ++ entry 0 (event.Submit batch) reply.Accepted ∷ [])))))
+book_is log caller (event.Withdraw names) r p t d is h = withdraw_book log caller names r (ap is_settled h ∙ known_settled (first_unknown log names))
+book_is log caller (event.PutLot lot class value currency) r p t d is h = other_book log caller (event.PutLot lot class value currency) r (λ name. refl) refl
+book_is log caller (event.TakeLot lot) r p t d is h = other_book log caller (event.TakeLot lot) r (λ name. refl) refl
+book_is log caller (event.MarkLot lot value) r p t d is h = other_book log caller (event.MarkLot lot value) r (λ name. refl) refl
+book_is log caller (event.CloseCall number) r p t d is h = other_book log caller (event.CloseCall number) r (λ name. refl) refl
+book_is log caller event.AskMargin r p t d is h = other_book log caller event.AskMargin r (λ name. refl) refl
+book_is log caller (event.AskCall moment) r p t d is h = other_book log caller (event.AskCall moment) r (λ name. refl) refl
 
 -- ---- all of it
 
@@ -79,38 +160,50 @@ accepted_different e r caller is = at (is_accepted r) (of_event e is)
   where
     of_event : (e : Event) → IsEvent e → AreDifferent (trades_of_event e)
     of_event (event.Submit batch) is = different_trades batch is
-    of_event (event.Withdraw names) is = tt
-    of_event event.AskMargin is = tt
+    of_event _ is = tt
 
     at : (s : Bool) → AreDifferent (trades_of_event e) → AreDifferent (cond s (trades_of_event e) [])
     at true d = d
     at false d = tt
 
-pub record Applied (l new : Live) (count caller : ℕ) (log : Log) (e : Event) (r : Reply) : Type 0 where
-  pub kept : IsKept new (count + event_rows e) (log ++ entry caller e r ∷ [])
+pub record Applied (l new : Live) (h has : Holdings) (count caller : ℕ) (log : Log) (e : Event) (r : Reply) : Type 0 where
+  pub kept : IsKept new has (count + event_rows e) (log ++ entry caller e r ∷ [])
   pub params : new.params ≡ l.params
-  pub value : r ≡ answer l.params log e
+  pub terms : has.terms ≡ h.terms
+  pub value : r ≡ answer l.params h.terms log e
 
-pub applied : (l new : Live) (count caller : ℕ) (log : Log) (e : Event) (r : Reply) → IsKept l count log → is_full log e ≡ false → IsEvent e → Does l new e r → Applied l new count caller log e r
-applied l new count caller log e r kept room is does =
+pub applied : (l new : Live) (h has : Holdings) (count caller : ℕ) (log : Log) (e : Event) (r : Reply) → IsKept l h count log → is_full log e ≡ false → IsEvent e → Does l new h has e r → Applied l new h has count caller log e r
+applied l new h has count caller log e r kept room is does =
+    let longer : Log = log ++ entry caller e r ∷ [] in
     let room : (nat_le 65535 (length log) ≡ false) × (nat_lt 500000 (journal_rows log + event_rows e) ≡ false) = or_parts (nat_le 65535 (length log)) (nat_lt 500000 (journal_rows log + event_rows e)) room in
     let few : length log < 65535 = leb-false 65535 (length log) room.0 in
     let light : journal_rows log + event_rows e ≤ 500000 = ltb-false 500000 (journal_rows log + event_rows e) room.1 in
     let same : l ≡ record { params = l.params; book = book log } = ap (λ b. record { params = l.params; book = b }) kept.book in
-    let value : r ≡ answer l.params log e = does.value ∙ ap (λ m. live_reply m e) same ∙ answer_is l.params log e kept.different is in
-    let params : new.params ≡ l.params = ap (λ m. m.params) does.after in
-    let rows : journal_rows (log ++ entry caller e r ∷ []) ≡ journal_rows log + event_rows e = sum_by-append (λ x. event_rows x.event) log (entry caller e r ∷ []) ∙ omega arith in
+    let value : r ≡ answer l.params h.terms log e =
+    does.value ∙ ap (λ m. live_reply m h e) same ∙ ap (λ held. live_reply (record { params = l.params; book = book log }) held e) kept.ledger
+    ∙ answer_is l.params h.terms log e kept.different is in
+    let params : new.params ≡ l.params = ap (λ m. m.params) does.live in
+    let terms : has.terms ≡ h.terms = ap (λ held. held.terms) does.ledger in
+    let ledger : has ≡ holdings h.terms longer =
+    does.ledger ∙ ap (λ held. holdings_after held e r) kept.ledger ∙ holdings_are h.terms log caller e r (is_new l.params h.terms log e r value) in
+    let rows : journal_rows longer ≡ journal_rows log + event_rows e = sum_by-append (λ x. event_rows x.event) log (entry caller e r ∷ []) ∙ omega arith in
     record {
       kept = record {
         set = record {
           few = omega (arith, few, length-append log (entry caller e r ∷ []));
           light = omega (arith, light, rows);
-          legal = subst (λ p. IsLegal p (log ++ entry caller e r ∷ [])) (sym params) (legal-push l.params log (entry caller e r) kept.set.legal value);
+          legal = subst (λ p. IsLegal p has.terms longer) (sym params) (subst (λ t. IsLegal l.params t longer) (sym terms) (legal-push l.params h.terms log (entry caller e r) kept.set.legal value));
         };
-        book = ap (λ m. m.book) does.after ∙ ap (λ b. live_book b e r) kept.book ∙ book_is log caller e r l.params kept.different is value;
+        book = ap (λ m. m.book) does.live ∙ ap (λ b. live_book b e r) kept.book ∙ book_is log caller e r l.params h.terms kept.different is value;
+        ledger = ledger ∙ ap (λ t. holdings t longer) (sym terms);
         rows = omega (arith, kept.rows, rows);
         different = starts_different log (entry caller e r) (accepted_different e r caller is) kept.different;
       };
       params = params;
+      terms = terms;
       value = value;
     }
+
+-- no more calls were added than the journal has entries
+pub few_calls : (l : Live) (h : Holdings) (count : ℕ) (log : Log) → IsKept l h count log → h.added ≤ 65535
+few_calls l h count log kept = omega (arith, ap (λ held. held.added) kept.ledger, made_few log, kept.set.few)

@@ -45,7 +45,7 @@ given_of_event name (event.Withdraw names) = at (is_named names name)
     at : (s : Bool) → false ≡ is_given (cond s Taken Silent)
     at true = refl
     at false = refl
-given_of_event name event.AskMargin = refl
+given_of_event name _ = refl
 
 given_of_entry : (name : List ℕ) (e : Entry Event Reply) → has_trade (accepted_trades e) name ≡ is_given (word name e)
 given_of_entry name e = at (is_accepted e.reply) (given_of_event name e.event)

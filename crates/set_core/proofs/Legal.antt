@@ -2,6 +2,7 @@
 use Rattle.std.proofs.Common.{◌≡◌, List, [], ◌∷◌, ◌++◌, Bool, true, false, refl, sym, ap, ◌∙◌, subst}
 use Rattle.std.proofs.lemmas.Bool.{true≢false}
 use Rattle.simm_rules.specs.Params.{Params}
+use Rattle.csa_terms.specs.Terms.{Agreement}
 use Rattle.held_cell.specs.declared.entry.Entry.{Entry}
 use Rattle.set_core.specs.declared.event.Event.{Event}
 use Rattle.set_core.specs.declared.reply.Reply.{Reply}
@@ -41,9 +42,9 @@ stands (l ∷ log) (b ∷ before) after e x h = deeper (stands log before after 
     deeper (Last g i) = Last (ap (λ y. y ∷ log) (ap (head_or l) h) ∙ ap (λ ys. b ∷ ys) g) i
     deeper (Within rest g) = Within rest (ap (λ y. y ∷ log) (ap (head_or l) h) ∙ ap (λ ys. b ∷ ys) g)
 
-pub legal-push : (p : Params) (log : Log) (e : Entry Event Reply) → IsLegal p log → e.reply ≡ answer p log e.event → IsLegal p (log ++ e ∷ [])
-legal-push p log e legal right before after x h = at (stands log before after e x h)
+pub legal-push : (p : Params) (t : Agreement) (log : Log) (e : Entry Event Reply) → IsLegal p t log → e.reply ≡ answer p t log e.event → IsLegal p t (log ++ e ∷ [])
+legal-push p t log e legal right before after x h = at (stands log before after e x h)
   where
-    at : Stands log before after e x → x.reply ≡ answer p before x.event
-    at (Last g i) = subst (λ y. y.reply ≡ answer p before y.event) i (subst (λ ys. e.reply ≡ answer p ys e.event) g right)
+    at : Stands log before after e x → x.reply ≡ answer p t before x.event
+    at (Last g i) = subst (λ y. y.reply ≡ answer p t before y.event) i (subst (λ ys. e.reply ≡ answer p t ys e.event) g right)
     at (Within rest g) = legal before rest x g

@@ -2,7 +2,12 @@ pub mod Filters
 pub mod Names
 pub mod Words
 pub mod Puts
+pub mod Lots
+pub mod Calls
+pub mod Ledgers
 pub mod Books
 pub mod Batches
 pub mod Legal
+pub mod Changes
+pub mod Demands
 pub mod Applies

@@ -1,11 +1,19 @@
 -- The answer to an event after a journal, by the written rule, and the journals that hold nothing else.
-use Rattle.std.specs.Prelude.{ℕ, ◌+◌, ◌≡◌, List, [], ◌∷◌, ◌++◌, Option, Some, None, option_map, position, not}
+use Rattle.std.specs.Prelude.{ℕ, ◌+◌, ◌*◌, ◌^◌, ◌≡◌, List, [], ◌∷◌, ◌++◌, length, Bool, true, false, ◌&&◌, not, if◌then◌else◌, nat_le, Option, Some, None, is_some, option_map, position, ℤ, pos, int_le, unsigned_abs}
+use Rattle.jiff_core.specs.Calendar.{days_from_civil}
 use Rattle.simm_kinds.specs.declared.row.TradeRows.{TradeRows}
 use Rattle.simm_kinds.specs.Batch.{rows_of}
 use Rattle.simm_rules.specs.declared.values.RangeFault.{RangeFault}
 use Rattle.simm_rules.specs.Params.{Params}
 use Rattle.simm_rules.specs.Simm.{simm}
 use Rattle.simm_rules.specs.Range.{range}
+use Rattle.csa_terms.specs.declared.flow.Flow.TheVariants as flow
+use Rattle.csa_terms.specs.Terms.{Agreement, haircut_of}
+use Rattle.csa_terms.specs.Calendar.{Moment, due_day}
+use Rattle.csa_calls.specs.declared.CallAmount.{CallAmount}
+use Rattle.csa_calls.specs.declared.CallAmount.TheVariants as amount
+use Rattle.csa_calls.specs.CallRule.{call_of, excess}
+use Rattle.collateral_ledger.specs.Refusals.{is_lot_value}
 use Rattle.held_cell.specs.declared.entry.Entry.{Entry}
 use Rattle.held_cell.specs.Entries.{entry}
 use Rattle.set_core.specs.declared.event.Event.{Event}
@@ -14,6 +22,8 @@ use Rattle.set_core.specs.declared.reply.Reply.{Reply}
 use Rattle.set_core.specs.declared.reply.Reply.TheVariants as reply
 use Rattle.set_core.specs.declared.refusal.Refusal.TheVariants as refusal
 use Rattle.set_core.specs.Book.{is_current, book}
+use Rattle.set_core.specs.Lots.{lots, is_there}
+use Rattle.set_core.specs.Calls.{made, is_outstanding, booked}
 
 -- the first place, from 1, whose name isn't current
 abbrev pub first_unknown : List (Entry Event Reply) → List (List ℕ) → Option ℕ
@@ -31,13 +41,72 @@ if_known (Some place) = reply.Refused (refusal.UnknownTrade place)
 abbrev pub book_with : List (Entry Event Reply) → Event → List TradeRows
 book_with log event = book (log ++ entry 0 event reply.Accepted ∷ [])
 
--- a submit is refused where the book with it is out of range, a withdrawal where a name isn't current; a margin is
--- that of the written rule
-abbrev pub answer : Params → List (Entry Event Reply) → Event → Reply
-answer p log (event.Submit trades) = if_in_range (range p (rows_of (book_with log (event.Submit trades))))
-answer p log (event.Withdraw names) = if_known (first_unknown log names)
-answer p log event.AskMargin = reply.Margin (simm p (rows_of (book log)))
+-- ---- lots
+
+-- why a lot isn't put, in the order of the tests; at most 4,096 are there
+abbrev pub if_put : Agreement → List (Entry Event Reply) → List ℕ → List ℕ → ℤ → Reply
+if_put t log lot class value =
+    if is_there log lot then reply.Refused refusal.LotKnown
+    else (if not (is_some (haircut_of t class)) then reply.Refused refusal.ClassUnknown
+    else (if not (is_lot_value value) then reply.Refused (refusal.LotRange value)
+    else (if nat_le 4096 (length (lots log)) then reply.Refused (refusal.LotsFull 4096) else reply.Accepted)))
+
+abbrev pub if_taken : Bool → Reply
+if_taken true = reply.Accepted
+if_taken false = reply.Refused refusal.LotUnknown
+
+abbrev pub if_marked : Bool → ℤ → Reply
+if_marked there value =
+    if not there then reply.Refused refusal.LotUnknown
+    else (if not (is_lot_value value) then reply.Refused (refusal.LotRange value) else reply.Accepted)
+
+-- ---- calls
+
+abbrev pub if_closed : Bool → Reply
+if_closed true = reply.Accepted
+if_closed false = reply.Refused refusal.CallUnknown
+
+-- calls are made where neither the margin nor what is booked is above 4 * 10^17 cents in size
+abbrev pub is_calling_range : ℤ → ℤ → Bool
+is_calling_range margin booked = int_le margin (pos (4 * 10 ^ 17)) && nat_le (unsigned_abs booked) (4 * 10 ^ 17)
+
+-- what is called for; past the calling range nothing
+abbrev pub called_for : ℤ → ℤ → Agreement → CallAmount
+called_for margin booked t =
+    if is_calling_range margin booked then call_of margin booked t else amount.Nothing (excess margin booked t)
+
+-- a call has the number of calls made, with this one
+abbrev pub noted : ℕ → ℤ → ℤ → ℤ → CallAmount → Reply
+noted made due margin booked (amount.Delivery cents) =
+    reply.Called (record { number = made + 1; flow = flow.Delivery; amount = cents; due = due; margin = margin; booked = booked })
+noted made due margin booked (amount.Return cents) =
+    reply.Called (record { number = made + 1; flow = flow.Return; amount = cents; due = due; margin = margin; booked = booked })
+noted made due margin booked (amount.Nothing excess) = reply.NoCall excess margin booked
+
+-- a day of the years 1 to 9000
+abbrev pub is_calling_day : ℤ → Bool
+is_calling_day day = int_le (days_from_civil (pos 1) 1 1) day && int_le day (days_from_civil (pos 9000) 12 31)
+
+abbrev pub if_calling_day : Agreement → ℕ → ℤ → ℤ → Moment → Reply
+if_calling_day t made margin booked moment =
+    if is_calling_day moment.day then noted made (due_day moment t) margin booked (called_for margin booked t)
+    else reply.Refused (refusal.DayRange moment.day)
+
+-- ---- all events
+
+-- A submit is refused where the book with it is out of range, a withdrawal where a name isn't current; lots and calls
+-- as above. A margin is that of the written rule, and a call is made of it and of what is booked.
+abbrev pub answer : Params → Agreement → List (Entry Event Reply) → Event → Reply
+answer p t log (event.Submit trades) = if_in_range (range p (rows_of (book_with log (event.Submit trades))))
+answer p t log (event.Withdraw names) = if_known (first_unknown log names)
+answer p t log (event.PutLot lot class value currency) = if_put t log lot class value
+answer p t log (event.TakeLot lot) = if_taken (is_there log lot)
+answer p t log (event.MarkLot lot value) = if_marked (is_there log lot) value
+answer p t log (event.CloseCall number) = if_closed (is_outstanding log number)
+answer p t log event.AskMargin = reply.Margin (simm p (rows_of (book log)))
+answer p t log (event.AskCall moment) =
+    if_calling_day t (made log) (simm p (rows_of (book log))).total (booked t log) moment
 
 -- each entry's reply is the answer to its event after the entries before it
-abbrev pub IsLegal : Params → List (Entry Event Reply) → Type 0
-IsLegal p log = (before after : List (Entry Event Reply)) (e : Entry Event Reply) → log ≡ before ++ e ∷ after → e.reply ≡ answer p before e.event
+abbrev pub IsLegal : Params → Agreement → List (Entry Event Reply) → Type 0
+IsLegal p t log = (before after : List (Entry Event Reply)) (e : Entry Event Reply) → log ≡ before ++ e ∷ after → e.reply ≡ answer p t before e.event

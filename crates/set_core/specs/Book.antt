@@ -27,7 +27,7 @@ is_named names name = list_any (same_name name) names
 abbrev pub word_of_event : List ℕ → Event → Word
 word_of_event name (event.Submit trades) = word_of_batch name trades
 word_of_event name (event.Withdraw names) = if is_named names name then Taken else Silent
-word_of_event name event.AskMargin = Silent
+word_of_event name _ = Silent
 
 -- an entry is accepted where its reply is no refusal; a question that is answered is accepted too
 abbrev pub is_accepted : Reply → Bool

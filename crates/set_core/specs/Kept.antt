@@ -1,4 +1,5 @@
--- What a set keeps beside its journal: the live margin has the journal's book, and the rows are counted.
+-- What a set keeps beside its journal: the live margin has the journal's book, the ledger its lots and calls, and the rows are
+-- counted.
 use Rattle.std.specs.Prelude.{◌≡◌, ℕ, List, [], ◌∷◌, false}
 use Rattle.simm_kinds.specs.declared.row.TradeRows.{TradeRows}
 use Rattle.held_cell.specs.declared.entry.Entry.{Entry}
@@ -8,14 +9,17 @@ use Rattle.set_core.specs.declared.reply.Reply.{Reply}
 use Rattle.set_core.specs.Book.{book, starts}
 use Rattle.set_core.specs.Room.{journal_rows}
 use Rattle.set_core.specs.Set.{IsSet}
+use Rattle.set_core.specs.Ledger.{holdings}
+use Rattle.collateral_ledger.specs.Holdings.{Holdings}
 
 -- no trade stands twice
 abbrev pub AreDifferent : List TradeRows → Type 0
 AreDifferent [] = Unit {0}
 AreDifferent (t ∷ trades) = (is_current trades t.trade ≡ false) × AreDifferent trades
 
-pub record IsKept (live : Live) (count : ℕ) (log : List (Entry Event Reply)) : Type 0 where
-  pub set : IsSet live.params log
+pub record IsKept (live : Live) (held : Holdings) (count : ℕ) (log : List (Entry Event Reply)) : Type 0 where
+  pub set : IsSet live.params held.terms log
   pub book : live.book ≡ book log
+  pub ledger : held ≡ holdings held.terms log
   pub rows : count ≡ journal_rows log
   pub different : AreDifferent (starts [] log)

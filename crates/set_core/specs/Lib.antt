@@ -1,8 +1,11 @@
 pub mod Book
+pub mod Lots
+pub mod Calls
 pub mod Answer
 pub mod Events
 pub mod Room
 pub mod Set
+pub mod Ledger
 pub mod Live
 pub mod Kept
 pub mod Text

@@ -1,21 +1,30 @@
--- What a live margin makes of an event.
+-- What a live margin and a ledger make of an event.
 use Rattle.std.specs.Prelude.{◌≡◌, List}
 use Rattle.simm_kinds.specs.declared.row.TradeRows.{TradeRows}
 use Rattle.simm_kinds.specs.Batch.{rows_of}
 use Rattle.simm_rules.specs.Range.{range}
 use Rattle.simm_rules.specs.Simm.{simm}
 use Rattle.bucket_cache.specs.Live.{Live, put_trades, without, first_unknown}
+use Rattle.collateral_ledger.specs.Holdings.{Holdings}
+use Rattle.collateral_ledger.specs.Booked.{booked_of}
+use Rattle.collateral_ledger.specs.Refusals.{put_refusal, take_refusal, mark_refusal, close_refusal}
 use Rattle.set_core.specs.declared.event.Event.{Event}
 use Rattle.set_core.specs.declared.event.Event.TheVariants as event
 use Rattle.set_core.specs.declared.reply.Reply.{Reply}
 use Rattle.set_core.specs.declared.reply.Reply.TheVariants as reply
-use Rattle.set_core.specs.Answer.{if_in_range, if_known}
+use Rattle.set_core.specs.Answer.{if_in_range, if_known, if_calling_day}
+use Rattle.set_core.specs.Ledger.{holdings_after, ledger_reply}
 
 -- the reply to an event
-abbrev pub live_reply : Live → Event → Reply
-live_reply l (event.Submit trades) = if_in_range (range l.params (rows_of (put_trades trades l.book)))
-live_reply l (event.Withdraw names) = if_known (first_unknown names l.book)
-live_reply l event.AskMargin = reply.Margin (simm l.params (rows_of l.book))
+abbrev pub live_reply : Live → Holdings → Event → Reply
+live_reply l h (event.Submit trades) = if_in_range (range l.params (rows_of (put_trades trades l.book)))
+live_reply l h (event.Withdraw names) = if_known (first_unknown names l.book)
+live_reply l h (event.PutLot lot class value currency) = ledger_reply (put_refusal h lot class value)
+live_reply l h (event.TakeLot lot) = ledger_reply (take_refusal h lot)
+live_reply l h (event.MarkLot lot value) = ledger_reply (mark_refusal h lot value)
+live_reply l h (event.CloseCall number) = ledger_reply (close_refusal h number)
+live_reply l h event.AskMargin = reply.Margin (simm l.params (rows_of l.book))
+live_reply l h (event.AskCall moment) = if_calling_day h.terms h.added (simm l.params (rows_of l.book)).total (booked_of h) moment
 
 -- the book after the event and its reply
 abbrev pub live_book : List TradeRows → Event → Reply → List TradeRows
@@ -23,6 +32,7 @@ live_book book (event.Submit trades) reply.Accepted = put_trades trades book
 live_book book (event.Withdraw names) reply.Accepted = without names book
 live_book book _ _ = book
 
-pub record Does (old new : Live) (e : Event) (r : Reply) : Type 0 where
-  pub value : r ≡ live_reply old e
-  pub after : new ≡ record old { book = live_book old.book e r }
+pub record Does (old new : Live) (had has : Holdings) (e : Event) (r : Reply) : Type 0 where
+  pub value : r ≡ live_reply old had e
+  pub live : new ≡ record old { book = live_book old.book e r }
+  pub ledger : has ≡ holdings_after had e r

@@ -25,7 +25,7 @@ with_entry s caller event reply = record s { journal = s.journal ++ entry caller
 -- entries and rows, or memory ran out; then the event comes back and the set stands.
 pub record IsAnswered (old new : Set) (caller : ℕ) (event : Event) (reply : Reply) : Type 0 where
   pub room : is_full old.journal event ≡ false
-  pub value : reply ≡ answer old.params old.journal event
+  pub value : reply ≡ answer old.params old.terms old.journal event
   pub after : new ≡ with_entry old caller event reply
 
 pub record IsFull (old : Set) (e : Event) (shown_entries shown_rows : ℕ) (back : Event) : Type 0 where
@@ -44,10 +44,10 @@ Explains old event (fault.JournalFull entries rows back) = IsFull old event entr
 Explains old event (fault.Memory back) = HasRoom old event back
 
 -- what each set keeps
-pub record IsSet (p : Params) (log : List (Entry Event Reply)) : Type 0 where
+pub record IsSet (p : Params) (t : Agreement) (log : List (Entry Event Reply)) : Type 0 where
   pub few : length log ≤ 65535
   pub light : journal_rows log ≤ 500000
-  pub legal : IsLegal p log
+  pub legal : IsLegal p t log
 
 -- the entry at a place, from 1
 abbrev pub entry_at : List (Entry Event Reply) → ℕ → Option (Entry Event Reply)

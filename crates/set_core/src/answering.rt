@@ -1,32 +1,49 @@
-//! What a live margin makes of an event, each kind by a function of its own.
-ghost use Rattle.std.specs.Prelude.{◌≡◌, IfOk, OnErr};
+//! What a live margin and a ledger make of an event, each kind by a function of its own.
+ghost use Rattle.std.specs.Prelude.{◌≡◌, ◌≤◌, IfOk, OnErr};
 ghost use Rattle.simm_kinds.specs.Batch.{rows_of};
 ghost use Rattle.set_core.specs.Live.{Does};
+ghost use Rattle.collateral_ledger.specs.Holdings.{Holdings};
 ghost use Rattle.set_core.specs.declared.event.Event.TheVariants as events;
 
+use crate::calling::ask_call;
+use crate::collateral::{close, mark, put, take};
 use crate::{Event, Refusal, Reply};
 use bucket_cache::{LiveMargin, SubmitFault, WithdrawFault};
+use collateral_ledger::Ledger;
 use simm_kinds::{Batch, Name};
 use std::alloc::{AllocError, Global};
 
-/// Answers an event, and changes the live margin as its reply says. For want of memory nothing changes.
+/// Answers an event, and changes the live margin and the ledger as its reply says. For want of memory nothing changes.
 pub(crate) fn answer(
     alloc: Global,
     live: &mut LiveMargin,
+    ledger: &mut Ledger,
     event: &Event,
 ) -> Result<Reply, AllocError>
-    ensures does { IfOk result (λ reply. Does live.old live.new event.now reply) }
-    ensures unchanged { OnErr result (live.new ≡ live.old) }
+    requires { ledger.old.added ≤ 65535 }
+    ensures does { IfOk result (λ reply. Does live.old live.new ledger.old ledger.new event.now reply) }
+    ensures trades { OnErr result (live.new ≡ live.old) }
+    ensures collateral { OnErr result (ledger.new ≡ ledger.old) }
 {
     match event {
         Event::Submit(batch) => submit(alloc, live, batch),
         Event::Withdraw(names) => withdraw(alloc, live, names.as_slice()),
+        Event::PutLot {
+            lot,
+            class,
+            value,
+            currency,
+        } => put(alloc, ledger, lot, class, *value, *currency),
+        Event::TakeLot { lot } => take(ledger, lot),
+        Event::MarkLot { lot, value } => mark(ledger, lot, *value),
+        Event::CloseCall { number } => close(ledger, *number),
         Event::AskMargin => Ok(Reply::Margin(live.margin(alloc)?)),
+        Event::AskCall { moment } => ask_call(alloc, live, ledger, *moment),
     }
 }
 
 fn submit(alloc: Global, live: &mut LiveMargin, batch: &Batch) -> Result<Reply, AllocError>
-    ensures does { IfOk result (λ reply. Does live.old live.new (events.Submit batch.now) reply) }
+    ensures does { IfOk result (λ reply. (h : Holdings) → Does live.old live.new h h (events.Submit batch.now) reply) }
     ensures unchanged { OnErr result (live.new ≡ live.old) }
 {
     match live.submit(alloc, batch.trades()) {
@@ -37,7 +54,7 @@ fn submit(alloc: Global, live: &mut LiveMargin, batch: &Batch) -> Result<Reply, 
 }
 
 fn withdraw(alloc: Global, live: &mut LiveMargin, names: &[Name]) -> Result<Reply, AllocError>
-    ensures does { IfOk result (λ reply. Does live.old live.new (events.Withdraw names.now) reply) }
+    ensures does { IfOk result (λ reply. (h : Holdings) → Does live.old live.new h h (events.Withdraw names.now) reply) }
     ensures unchanged { OnErr result (live.new ≡ live.old) }
 {
     match live.withdraw(alloc, names) {

@@ -3,6 +3,7 @@ ghost use Rattle.simm_kinds.specs.Batch.{IsBatch, rows_of};
 ghost use Rattle.set_core.specs.Room.{event_rows};
 ghost use Rattle.set_core.specs.Events.{IsEvent};
 
+use csa_terms::{LotCurrency, Moment};
 use simm_kinds::{Batch, Listed, Name, TradeRows};
 
 /// What a caller asks of a netting set.
@@ -12,8 +13,32 @@ pub enum Event {
     Submit(Batch),
     /// Takes out each trade that is named.
     Withdraw(Listed<Name>),
+    /// Puts a lot of a class, with its value in cents, in the agreement's currency or another.
+    PutLot {
+        lot: Name,
+        class: Name,
+        value: i64,
+        currency: LotCurrency,
+    },
+    /// Takes a lot out.
+    TakeLot {
+        lot: Name,
+    },
+    /// Gives a lot another value, in cents.
+    MarkLot {
+        lot: Name,
+        value: i64,
+    },
+    /// Closes an outstanding call, as it was settled.
+    CloseCall {
+        number: u32,
+    },
     /// Asks the margin of all current trades.
     AskMargin,
+    /// Demands collateral at a local time: a call is made where the margin and what is booked want one.
+    AskCall {
+        moment: Moment,
+    },
 }
 
 impl Event {
@@ -32,7 +57,7 @@ impl Event {
     {
         match self {
             Event::Submit(batch) => count_rows(batch.trades()),
-            Event::Withdraw(_) | Event::AskMargin => 0,
+            _ => 0,
         }
     }
 }

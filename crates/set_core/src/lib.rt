@@ -1,8 +1,12 @@
-//! A netting set: trades are submitted, replaced and withdrawn, its margin is asked, and a journal holds each call with
-//! its answer. Each answer is the written rule, from scratch, over the journal's earlier accepted entries.
+//! A netting set: trades are submitted, replaced and withdrawn, lots of collateral are put, taken and marked, its margin is
+//! asked and collateral is called for, and a journal holds each event with its answer. Each answer is the written rule, from
+//! scratch, over the journal's earlier accepted entries.
 #![tactic(auto)]
 
 mod answering;
+mod call_note;
+mod calling;
+mod collateral;
 mod event;
 mod fault;
 mod refusal;
@@ -10,6 +14,7 @@ mod reply;
 mod reply_words;
 mod set_state;
 
+pub use call_note::CallNote;
 pub use event::Event;
 pub use fault::ApplyFault;
 pub use refusal::Refusal;

@@ -10,6 +10,20 @@ pub enum Refusal {
     UnknownTrade { place: u64 },
     /// The book with this batch would be out of range; the first quantity that is above its limit.
     Range(RangeFault),
+    /// A lot of this name is there.
+    LotKnown,
+    /// No lot of this name is there.
+    LotUnknown,
+    /// The terms have no haircut for the class.
+    ClassUnknown,
+    /// No outstanding call has this number.
+    CallUnknown,
+    /// The value, in cents, is below 0 or above 10^15.
+    LotRange(i64),
+    /// There are as many lots as there may be, this many.
+    LotsFull(u32),
+    /// The demand's day, counted from 1970-01-01, isn't in the years 1 to 9000.
+    DayRange(i32),
 }
 
 impl Refusal {
@@ -20,6 +34,13 @@ impl Refusal {
         match self {
             Refusal::UnknownTrade { .. } => 1,
             Refusal::Range(_) => 3,
+            Refusal::LotKnown => 4,
+            Refusal::LotUnknown => 5,
+            Refusal::ClassUnknown => 6,
+            Refusal::CallUnknown => 7,
+            Refusal::LotRange(_) => 8,
+            Refusal::LotsFull(_) => 9,
+            Refusal::DayRange(_) => 10,
         }
     }
 }

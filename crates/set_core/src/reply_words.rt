@@ -1,7 +1,10 @@
 ghost use Rattle.std.specs.Prelude.{◌≡◌, ◌++◌, codes, IfOk, OnOk};
-ghost use Rattle.set_core.specs.Text.{refusal_text, reply_text};
+ghost use Rattle.csa_terms.specs.Moments.{day_text};
+ghost use Rattle.mh_units.specs.Money.{money_text};
+ghost use Rattle.set_core.specs.Text.{refusal_text, flow_text, basis_text, call_text, note_text, reply_text};
 
-use crate::{Refusal, Reply};
+use crate::{CallNote, Refusal, Reply};
+use csa_terms::{Flow, push_day};
 use itoa::{Buffer, Integer};
 use mh_units::{Cents, Text, push_cents};
 use std::alloc::{AllocError, Global};
@@ -31,8 +34,18 @@ pub fn push_reply(text: &mut Text, reply: &Reply) -> Result<(), AllocError>
         Reply::Accepted => text.extend(b"OK"),
         Reply::Refused(refusal) => push_refusal(text, *refusal),
         Reply::Margin(margin) => {
-            text.extend(b"MARGIN\t")?;
-            push_cents(text, Cents(margin.total))
+            text.extend(b"MARGIN")?;
+            push_amount(text, margin.total)
+        }
+        Reply::Called(note) => push_note(text, note),
+        Reply::NoCall {
+            excess,
+            margin,
+            booked,
+        } => {
+            text.extend(b"NOCALL")?;
+            push_amount(text, *excess)?;
+            push_basis(text, *margin, *booked)
         }
     }
 }
@@ -50,6 +63,54 @@ fn push_refusal(text: &mut Text, refusal: Refusal) -> Result<(), AllocError>
             push_number(text, fault.value)?;
             push_number(text, fault.limit)
         }
+        Refusal::LotRange(value) => push_amount(text, i128::from(value)),
+        Refusal::LotsFull(count) => push_number(text, count),
+        Refusal::DayRange(day) => push_number(text, day),
+        Refusal::LotKnown | Refusal::LotUnknown | Refusal::ClassUnknown | Refusal::CallUnknown =>
+            Ok(()),
+    }
+}
+
+/// Adds the text of a call.
+fn push_note(text: &mut Text, note: &CallNote) -> Result<(), AllocError>
+    ensures { OnOk result (text.new ≡ text.old ++ note_text note.now) }
+{
+    push_call(text, note)?;
+    push_due(text, note.due)?;
+    push_basis(text, note.margin, note.booked)
+}
+
+/// Adds the number and the amount of a call.
+fn push_call(text: &mut Text, note: &CallNote) -> Result<(), AllocError>
+    ensures { OnOk result (text.new ≡ text.old ++ call_text note.now) }
+{
+    text.extend(flow_word(note.flow))?;
+    push_number(text, note.number)?;
+    push_amount(text, i128::from(note.amount))
+}
+
+/// Adds the margin, and what was booked.
+fn push_basis(text: &mut Text, margin: i128, booked: i128) -> Result<(), AllocError>
+    ensures { OnOk result (text.new ≡ text.old ++ basis_text margin booked) }
+{
+    push_amount(text, margin)?;
+    push_amount(text, booked)
+}
+
+/// Adds a tab and a day.
+fn push_due(text: &mut Text, day: i32) -> Result<(), AllocError>
+    ensures { OnOk result (text.new ≡ text.old ++ (codes "\t" ++ day_text day)) }
+{
+    text.push(b'\t')?;
+    push_day(text, day)
+}
+
+fn flow_word(flow: Flow) -> &'static [u8]
+    ensures { result.now ≡ flow_text flow }
+{
+    match flow {
+        Flow::Delivery => b"DELIVERY",
+        Flow::Return => b"RETURN",
     }
 }
 
@@ -59,4 +120,12 @@ fn push_number<N: Integer>(text: &mut Text, number: N) -> Result<(), AllocError>
 {
     text.push(b'\t')?;
     text.extend(Buffer::new().format(number).as_bytes())
+}
+
+/// Adds a tab and an amount of money, which is in cents.
+fn push_amount(text: &mut Text, cents: i128) -> Result<(), AllocError>
+    ensures { OnOk result (text.new ≡ text.old ++ (codes "\t" ++ money_text cents)) }
+{
+    text.push(b'\t')?;
+    push_cents(text, Cents(cents))
 }

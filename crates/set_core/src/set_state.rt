@@ -8,17 +8,18 @@ ghost use Rattle.set_core.specs.Set.{IsSet, IsAnswered, Explains, entry_at};
 use crate::answering::answer;
 use crate::{ApplyFault, Entry, Event, Reply};
 use bucket_cache::LiveMargin;
+use collateral_ledger::Ledger;
 use csa_terms::SetTerms;
 use simm_params::Params;
 use std::alloc::{AllocError, Global};
 use std::marker::Model;
 
-/// A netting set: what it works on, its current trades, and the journal of its calls. Contracts see the parameters, the
+/// A netting set: what it works on, its current trades, its lots and outstanding calls, and the journal of its calls. Contracts see the parameters, the
 /// terms and the journal; all else is the written rule over the journal.
 #[derive(Drop)]
 pub struct SetState {
     live: LiveMargin,
-    terms: SetTerms,
+    ledger: Ledger,
     journal: Vec<Entry>,
     rows: u32,
 }
@@ -29,9 +30,9 @@ impl Model for SetState {
 
     ghost Value = { Set };
 
-    ghost view = { λ s. record { params = s.live.params; terms = s.terms; journal = s.journal.items } };
+    ghost view = { λ s. record { params = s.live.params; terms = s.ledger.terms; journal = s.journal.items } };
 
-    ghost invariant = { λ s. IsKept s.live s.rows s.journal.items };
+    ghost invariant = { λ s. IsKept s.live s.ledger s.rows s.journal.items };
 }
 
 /// How many entries a journal has at most.
@@ -52,7 +53,7 @@ impl SetState {
         let live = LiveMargin::new(alloc, params)?;
         Ok(SetState {
             live,
-            terms,
+            ledger: Ledger::new(alloc, terms),
             journal: Vec::new(alloc),
             rows: 0,
         })
@@ -82,7 +83,7 @@ impl SetState {
         if self.journal.reserve(1).is_err() {
             return Err(ApplyFault::Memory { event });
         }
-        let Ok(reply) = answer(alloc, &mut self.live, &event) else {
+        let Ok(reply) = answer(alloc, &mut self.live, &mut self.ledger, &event) else {
             return Err(ApplyFault::Memory { event });
         };
         self.rows += rows as u32;
@@ -96,7 +97,7 @@ impl SetState {
 
     /// What each set keeps: its journal is legal, and within its limits. It does nothing.
     pub fn facts(&self)
-        ensures { IsSet self.now.params self.now.journal }
+        ensures { IsSet self.now.params self.now.terms self.now.journal }
     {
         let _rows = self.rows;
     }
@@ -135,7 +136,7 @@ impl SetState {
     pub fn terms(&self) -> &SetTerms
         ensures { result.now ≡ self.now.terms }
     {
-        &self.terms
+        self.ledger.terms()
     }
 
     /// Whether the journal has no room for an event of so many rows.

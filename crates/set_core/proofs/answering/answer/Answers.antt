@@ -1,9 +1,37 @@
-use Rattle.std.proofs.Common.{sym, ap, subst}
+use Rattle.std.proofs.Common.{rules, refl, sym, ap, ◌∙◌, subst, IfOk, ℤ, FitsSigned, w64, to_z, of_z}
+use Rattle.mh_units.proofs.Integers.{same64}
+use Rattle.set_core.specs.declared.event.Event.{Event}
+use Rattle.set_core.specs.declared.event.Event.TheVariants as event
 use Rattle.set_core.specs.declared.reply.Reply.TheVariants as reply
 use Rattle.set_core.specs.Live.{Does}
+use Rattle.set_core.proofs.Changes.{beside}
 use Rattle.set_core.proofs.answering.answer.Goals as goal
 
 pub returns-in_ok-margin-in-AskMargin-clause-does : goal.returns-in_ok-margin-in-AskMargin-clause-does
 returns-in_ok-margin-in-AskMargin-clause-does c =
-    subst (λ e. Does c.args.live.now c.margin.new.self e (reply.Margin c.in_ok-margin-in-AskMargin.field-0)) (sym c.in-AskMargin.is)
-    (record { value = ap reply.Margin c.in_ok-margin-in-AskMargin.ensures.value; after = c.in_ok-margin-in-AskMargin.ensures.unchanged })
+    subst (λ e. Does c.args.live.now c.margin.new.self c.args.ledger.now c.args.ledger.now e (reply.Margin c.in_ok-margin-in-AskMargin.field-0)) (sym c.in-AskMargin.is)
+    (record { value = ap reply.Margin c.in_ok-margin-in-AskMargin.ensures.value; live = c.in_ok-margin-in-AskMargin.ensures.unchanged; ledger = refl })
+
+pub returns-in-PutLot-clause-does : goal.returns-in-PutLot-clause-does
+returns-in-PutLot-clause-does c =
+    let fits : FitsSigned w64 c.in-PutLot.value = search rules in
+    let put : ℤ → Event = λ value. event.PutLot c.in-PutLot.lot c.in-PutLot.class value c.in-PutLot.currency in
+    subst (λ e. IfOk c.put.result (λ r. Does c.args.live.now c.args.live.now c.args.ledger.now c.put.new.ledger e r)) (ap put (same64 c.in-PutLot.value fits) ∙ sym c.in-PutLot.is)
+    (beside c.args.ledger.now c.put.new.ledger c.args.live.now (put (to_z w64 (of_z w64 c.in-PutLot.value))) c.put.result c.put.ensures.does)
+
+pub returns-in-TakeLot-clause-does : goal.returns-in-TakeLot-clause-does
+returns-in-TakeLot-clause-does c =
+    subst (λ e. IfOk c.take.result (λ r. Does c.args.live.now c.args.live.now c.args.ledger.now c.take.new.ledger e r)) (sym c.in-TakeLot.is)
+    (beside c.args.ledger.now c.take.new.ledger c.args.live.now (event.TakeLot c.in-TakeLot.lot) c.take.result c.take.ensures.does)
+
+pub returns-in-MarkLot-clause-does : goal.returns-in-MarkLot-clause-does
+returns-in-MarkLot-clause-does c =
+    let fits : FitsSigned w64 c.in-MarkLot.value = search rules in
+    let mark : ℤ → Event = λ value. event.MarkLot c.in-MarkLot.lot value in
+    subst (λ e. IfOk c.mark.result (λ r. Does c.args.live.now c.args.live.now c.args.ledger.now c.mark.new.ledger e r)) (ap mark (same64 c.in-MarkLot.value fits) ∙ sym c.in-MarkLot.is)
+    (beside c.args.ledger.now c.mark.new.ledger c.args.live.now (mark (to_z w64 (of_z w64 c.in-MarkLot.value))) c.mark.result c.mark.ensures.does)
+
+pub returns-in-CloseCall-clause-does : goal.returns-in-CloseCall-clause-does
+returns-in-CloseCall-clause-does c =
+    subst (λ e. IfOk c.close.result (λ r. Does c.args.live.now c.args.live.now c.args.ledger.now c.close.new.ledger e r)) (sym c.in-CloseCall.is)
+    (beside c.args.ledger.now c.close.new.ledger c.args.live.now (event.CloseCall c.in-CloseCall.number) c.close.result c.close.ensures.does)

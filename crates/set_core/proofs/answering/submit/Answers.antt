@@ -1,4 +1,5 @@
-use Rattle.std.proofs.Common.{sym, ap, subst, Err}
+use Rattle.std.proofs.Common.{refl, sym, ap, subst, Err}
+use Rattle.collateral_ledger.specs.Holdings.{Holdings}
 use Rattle.set_core.specs.declared.event.Event.TheVariants as events
 use Rattle.set_core.specs.declared.reply.Reply.TheVariants as reply
 use Rattle.set_core.specs.declared.refusal.Refusal.TheVariants as refusal
@@ -8,10 +9,10 @@ use Rattle.set_core.proofs.answering.submit.Goals as goal
 
 pub returns-in-Ok-clause-does : goal.returns-in-Ok-clause-does
 returns-in-Ok-clause-does c =
-    subst (λ batch. Does c.args.live.now c.submit.new.self (events.Submit batch) reply.Accepted) c.trades.ensures.value
-    (record { value = ap if_in_range (sym c.in-Ok.ensures.in_range); after = c.in-Ok.ensures.book })
+    subst (λ batch. (h : Holdings) → Does c.args.live.now c.submit.new.self h h (events.Submit batch) reply.Accepted) c.trades.ensures.value
+    (λ h. record { value = ap if_in_range (sym c.in-Ok.ensures.in_range); live = c.in-Ok.ensures.book; ledger = refl })
 
 pub returns-in-Err-Range-clause-does : goal.returns-in-Err-Range-clause-does
 returns-in-Err-Range-clause-does c =
-    subst (λ batch. Does c.args.live.now c.submit.new.self (events.Submit batch) (reply.Refused (refusal.Range c.in-Err-Range.fault))) c.trades.ensures.value
-    (record { value = ap if_in_range (sym (c.in-Err-Range.ensures.range c.in-Err-Range.fault (ap Err c.in-Err-Range.field-0-is))); after = c.in-Err-Range.ensures.unchanged })
+    subst (λ batch. (h : Holdings) → Does c.args.live.now c.submit.new.self h h (events.Submit batch) (reply.Refused (refusal.Range c.in-Err-Range.fault))) c.trades.ensures.value
+    (λ h. record { value = ap if_in_range (sym (c.in-Err-Range.ensures.range c.in-Err-Range.fault (ap Err c.in-Err-Range.field-0-is))); live = c.in-Err-Range.ensures.unchanged; ledger = refl })

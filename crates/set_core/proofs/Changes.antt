@@ -1,0 +1,51 @@
+-- What an event makes of the ledger alone.
+use Rattle.std.proofs.Common.{◌≡◌, Option, None, Some, is_some, Result, Ok, Err, OnOk, OnErr, IfOk, MatchResult, sym, ap, ◌∙◌}
+use Rattle.std.proofs.lemmas.Bool.{true≢false}
+use Rattle.std.specs.declared.alloc.AllocError.{AllocError}
+use Rattle.bucket_cache.specs.Live.{Live}
+use Rattle.collateral_ledger.specs.declared.fault.LedgerFault.{LedgerFault}
+use Rattle.collateral_ledger.specs.declared.fault.LedgerFault.TheVariants as fault
+use Rattle.collateral_ledger.specs.Holdings.{Holdings}
+use Rattle.collateral_ledger.specs.Refusals.{IsCause}
+use Rattle.set_core.specs.declared.event.Event.{Event}
+use Rattle.set_core.specs.declared.reply.Reply.{Reply}
+use Rattle.set_core.specs.declared.reply.Reply.TheVariants as reply
+use Rattle.set_core.specs.declared.refusal.Refusal.{Refusal}
+use Rattle.set_core.specs.Ledger.{Replies, refusal_of, if_allowed, ledger_reply, holdings_after}
+use Rattle.set_core.specs.Live.{live_reply, live_book, Does}
+
+-- A change of a ledger, which is made or has its cause to refuse, does the event whose reply it has.
+pub change_does : (Cause : LedgerFault → Type 0) (old new after : Holdings) (refusal : Option LedgerFault) (e : Event)
+    → ((f : LedgerFault) (why : Refusal) → refusal_of f ≡ Some why → Cause f → refusal ≡ Some f)
+    → ((l : Live) → live_reply l old e ≡ ledger_reply refusal)
+    → ((l : Live) (r : Reply) → l ≡ record l { book = live_book l.book e r })
+    → after ≡ holdings_after old e reply.Accepted
+    → ((why : Refusal) → old ≡ holdings_after old e (reply.Refused why))
+    → (change : Result (Unit {0}) LedgerFault) → MatchResult change (λ _. refusal ≡ None) Cause → OnOk change (new ≡ after) → OnErr change (new ≡ old)
+    → (result : Result Reply AllocError) → IfOk result (λ r. Replies change r) → IfOk result (λ r. (l : Live) → Does l l old new e r)
+change_does Cause old new after refusal e cause value book made refused change answer ok err (Err _) is = tt
+change_does Cause old new after refusal e cause value book made refused (Ok _) answer ok err (Ok r) is = λ l. record {
+  value = is ∙ ap ledger_reply (sym answer) ∙ sym (value l);
+  live = book l r;
+  ledger = ok ∙ made ∙ ap (holdings_after old e) (sym is);
+}
+change_does Cause old new after refusal e cause value book made refused (Err f) answer ok err (Ok r) is = λ l. record {
+  value = is.2 ∙ ap if_allowed (sym is.1) ∙ ap ledger_reply (sym (cause f is.0 is.1 answer)) ∙ sym (value l);
+  live = book l r;
+  ledger = err ∙ refused is.0 ∙ ap (holdings_after old e) (sym is.2);
+}
+
+-- a cause that isn't want of memory
+pub cause_is : (refusal : Option LedgerFault) (f : LedgerFault) (why : Refusal) → refusal_of f ≡ Some why → IsCause refusal f → refusal ≡ Some f
+cause_is refusal fault.LotKnown why h cause = cause
+cause_is refusal fault.LotUnknown why h cause = cause
+cause_is refusal fault.ClassUnknown why h cause = cause
+cause_is refusal fault.CallUnknown why h cause = cause
+cause_is refusal (fault.LotRange value) why h cause = cause
+cause_is refusal (fault.LotsFull count) why h cause = cause
+cause_is refusal fault.Memory why h cause = absurd (true≢false (sym (ap is_some h)))
+
+-- whatever the live margin is
+pub beside : (old new : Holdings) (l : Live) (e : Event) (result : Result Reply AllocError) → IfOk result (λ r. (m : Live) → Does m m old new e r) → IfOk result (λ r. Does l l old new e r)
+beside old new l e (Err _) is = tt
+beside old new l e (Ok r) is = is l

@@ -1,0 +1,42 @@
+-- What a demand makes of a live margin and a ledger.
+use Rattle.std.proofs.Common.{◌≡◌, refl, Bool, true, false, cond, ℤ, None, Some, is_some, Result, Ok, Err, IfOk, OnErr, sym, ap, ◌∙◌}
+use Rattle.std.proofs.lemmas.Bool.{true≢false}
+use Rattle.std.specs.declared.alloc.AllocError.{AllocError}
+use Rattle.std.specs.Prelude.{unwrap_or}
+use Rattle.simm_kinds.specs.Batch.{rows_of}
+use Rattle.simm_rules.specs.Simm.{simm}
+use Rattle.csa_terms.specs.Calendar.{Moment, due_day}
+use Rattle.bucket_cache.specs.Live.{Live}
+use Rattle.collateral_ledger.specs.Holdings.{Holdings}
+use Rattle.collateral_ledger.specs.Booked.{booked_of}
+use Rattle.set_core.specs.declared.event.Event.TheVariants as event
+use Rattle.set_core.specs.declared.reply.Reply.{Reply}
+use Rattle.set_core.specs.declared.reply.Reply.TheVariants as reply
+use Rattle.set_core.specs.declared.refusal.Refusal.TheVariants as refusal
+use Rattle.set_core.specs.Answer.{is_calling_day, called_for, noted}
+use Rattle.set_core.specs.Ledger.{with_call}
+use Rattle.set_core.specs.Live.{Does}
+
+-- a day that is found is that of a calling day
+pub is_found : (calling : Bool) (due day : ℤ) → Some due ≡ cond calling (Some day) None → (calling ≡ true) × (due ≡ day)
+is_found true due day h = (refl, ap (λ found. unwrap_or found due) h)
+is_found false due day h = absurd (true≢false (ap is_some h))
+
+pub demand_does : (l new : Live) (h has : Holdings) (moment : Moment) (due margin booked : ℤ) → new ≡ l
+    → is_calling_day moment.day ≡ true → due ≡ due_day moment h.terms → margin ≡ (simm l.params (rows_of l.book)).total → booked ≡ booked_of h
+    → (result : Result Reply AllocError) → IfOk result (λ r. r ≡ noted h.added due margin booked (called_for margin booked h.terms)) → IfOk result (λ r. has ≡ with_call h r)
+    → IfOk result (λ r. Does l new h has (event.AskCall moment) r)
+demand_does l new h has moment due margin booked same calling due_is margin_is booked_is (Err _) value after = tt
+demand_does l new h has moment due margin booked same calling due_is margin_is booked_is (Ok r) value after = record {
+  value = value
+      ∙ ap (λ d. noted h.added d margin booked (called_for margin booked h.terms)) due_is
+      ∙ ap (λ m. noted h.added (due_day moment h.terms) m booked (called_for m booked h.terms)) margin_is
+      ∙ ap (λ b. noted h.added (due_day moment h.terms) (simm l.params (rows_of l.book)).total b (called_for (simm l.params (rows_of l.book)).total b h.terms)) booked_is
+      ∙ ap (λ c. cond c (noted h.added (due_day moment h.terms) (simm l.params (rows_of l.book)).total (booked_of h) (called_for (simm l.params (rows_of l.book)).total (booked_of h) h.terms)) (reply.Refused (refusal.DayRange moment.day))) (sym calling);
+  live = same;
+  ledger = after;
+}
+
+pub on_err : {T E A : Type 0} (result : Result T E) → A → OnErr result A
+on_err (Ok x) a = tt
+on_err (Err e) a = a

@@ -1,0 +1,82 @@
+-- The ledger of a netting set: what it holds after a journal, and what it makes of an event.
+use Rattle.std.specs.Prelude.{◌≡◌, ℕ, ◌+◌, List, [], ◌∷◌, ◌++◌, map, if◌then◌else◌, Option, None, Some, Result, Ok, Err}
+use Rattle.csa_terms.specs.Terms.{Agreement}
+use Rattle.collateral_ledger.specs.declared.fault.LedgerFault.{LedgerFault}
+use Rattle.collateral_ledger.specs.declared.fault.LedgerFault.TheVariants as fault
+use Rattle.collateral_ledger.specs.Holdings.{Lot as Held, Call, Holdings}
+use Rattle.collateral_ledger.specs.Booked.{rate_of}
+use Rattle.collateral_ledger.specs.Changes.{with_value, without_lot, without_call}
+use Rattle.held_cell.specs.declared.entry.Entry.{Entry}
+use Rattle.set_core.specs.declared.event.Event.{Event}
+use Rattle.set_core.specs.declared.event.Event.TheVariants as event
+use Rattle.set_core.specs.declared.reply.Reply.{Reply}
+use Rattle.set_core.specs.declared.reply.Reply.TheVariants as reply
+use Rattle.set_core.specs.declared.refusal.Refusal.{Refusal}
+use Rattle.set_core.specs.declared.refusal.Refusal.TheVariants as refusal
+use Rattle.set_core.specs.Book.{is_accepted}
+use Rattle.set_core.specs.Lots.{Lot, lots}
+use Rattle.set_core.specs.Calls.{made, outstanding}
+
+abbrev pub held_lot : Agreement → Lot → Held
+held_lot t lot = record { name = lot.name; value = lot.value; rate = rate_of t lot.class lot.currency }
+
+abbrev pub holdings : Agreement → List (Entry Event Reply) → Holdings
+holdings t log = record { terms = t; lots = map (held_lot t) (lots log); calls = outstanding log; added = made log }
+
+-- ---- what an event and its reply leave of it
+
+abbrev pub lots_after : Agreement → List Held → Event → Reply → List Held
+lots_after t held (event.PutLot lot class value currency) r =
+    if is_accepted r then held ++ held_lot t (record { name = lot; class = class; currency = currency; value = value }) ∷ [] else held
+lots_after t held (event.TakeLot lot) r = if is_accepted r then without_lot lot held else held
+lots_after t held (event.MarkLot lot value) r = if is_accepted r then with_value lot value held else held
+lots_after t held _ r = held
+
+abbrev pub calls_closed : List Call → Event → Reply → List Call
+calls_closed calls (event.CloseCall number) r = if is_accepted r then without_call number calls else calls
+calls_closed calls _ r = calls
+
+abbrev pub calls_added : ℕ → List Call → Reply → List Call
+calls_added added calls (reply.Called note) = calls ++ record { number = added + 1; flow = note.flow; amount = note.amount } ∷ []
+calls_added added calls _ = calls
+
+abbrev pub count_after : ℕ → Reply → ℕ
+count_after added (reply.Called note) = added + 1
+count_after added _ = added
+
+-- a call more
+abbrev pub with_call : Holdings → Reply → Holdings
+with_call h r = record h { calls = calls_added h.added h.calls r; added = count_after h.added r }
+
+abbrev pub holdings_after : Holdings → Event → Reply → Holdings
+holdings_after h e r = record {
+  terms = h.terms;
+  lots = lots_after h.terms h.lots e r;
+  calls = calls_added h.added (calls_closed h.calls e r) r;
+  added = count_after h.added r;
+}
+
+-- ---- its refusals
+
+-- the refusal that a fault is; want of memory is none
+abbrev pub refusal_of : LedgerFault → Option Refusal
+refusal_of fault.LotKnown = Some refusal.LotKnown
+refusal_of fault.LotUnknown = Some refusal.LotUnknown
+refusal_of fault.ClassUnknown = Some refusal.ClassUnknown
+refusal_of fault.CallUnknown = Some refusal.CallUnknown
+refusal_of (fault.LotRange value) = Some (refusal.LotRange value)
+refusal_of (fault.LotsFull count) = Some (refusal.LotsFull count)
+refusal_of fault.Memory = None
+
+abbrev pub if_allowed : Option Refusal → Reply
+if_allowed None = reply.Accepted
+if_allowed (Some why) = reply.Refused why
+
+abbrev pub ledger_reply : Option LedgerFault → Reply
+ledger_reply None = reply.Accepted
+ledger_reply (Some f) = if_allowed (refusal_of f)
+
+-- the reply to a change that was made, or was refused
+abbrev pub Replies : Result (Unit {0}) LedgerFault → Reply → Type 0
+Replies (Ok _) r = r ≡ reply.Accepted
+Replies (Err f) r = (why : Refusal) × (refusal_of f ≡ Some why) × (r ≡ reply.Refused why)
