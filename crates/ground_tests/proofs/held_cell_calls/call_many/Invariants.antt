@@ -1,6 +1,6 @@
 use Rattle.std.proofs.Common.{◌≡◌}
 use Rattle.held_cell.specs.Seats.{IsSeatOf}
-use Rattle.house_tests.proofs.held_cell_calls.call_many.Given as goal
+use Rattle.ground_tests.proofs.held_cell_calls.call_many.Given as goal
 
 abbrev pub invariant-loop-event : goal.invariant-loop-event
 invariant-loop-event g l = record {

@@ -1,7 +1,7 @@
 use Rattle.std.proofs.Common.{◌≡◌, ◌++◌, ◌-◌, ◌≤◌, ◌∙◌, [], length, sym, ap, subst, arith, take, drop, append-nil}
 use Rattle.std.proofs.lemmas.List.{take-append-drop, take_all, length-drop}
 use Rattle.factor_book.specs.Factors.{factors_of, AreAmounts}
-use Rattle.house_tests.proofs.factor_book_calls.book.Goals as goal
+use Rattle.ground_tests.proofs.factor_book_calls.book.Goals as goal
 
 pub add_rows-requires : goal.add_rows-requires
 add_rows-requires c = record { held = []; are = c.new-factors.ensures; few = omega (arith, c.requires.few) }

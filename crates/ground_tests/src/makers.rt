@@ -1,9 +1,7 @@
-//! What the tests are made of: names, keys, rows, batches, parameters, terms, sources.
+//! What the tests are made of: names, keys, trades, sources.
 use mh_io::MemSource;
 use mh_units::Bytes;
-use simm_kinds::{
-    Batch, BucketId, CrifRow, FactorKey, Listed, Name, ProductClass, RiskType, TradeRows,
-};
+use simm_kinds::{BucketId, CrifRow, FactorKey, Listed, Name, ProductClass, RiskType, TradeRows};
 use std::process::Abort;
 
 pub fn name(rt: &(impl Abort + AllocGlobal), text: &str) -> Name {
@@ -22,13 +20,7 @@ pub fn fx_key(rt: &(impl Abort + AllocGlobal), product: ProductClass, currency: 
     )
 }
 
-/// A row of a currency, with its amount in cents.
-pub fn row(rt: &(impl Abort + AllocGlobal), currency: &str, amount: i64) -> CrifRow {
-    let key = fx_key(rt, ProductClass::RatesFX, currency);
-    CrifRow { key, amount }
-}
-
-/// A trade with this many equal rows.
+/// A trade with this many equal rows, of a currency and an amount in cents.
 pub fn trade(
     rt: &(impl Abort + AllocGlobal),
     text: &str,
@@ -38,22 +30,13 @@ pub fn trade(
 ) -> TradeRows {
     let mut rows = Listed::new(rt.alloc());
     for _ in 0..count {
-        rows.push(row(rt, currency, amount))
-            .ok()
-            .expect(rt, "memory");
+        let key = fx_key(rt, ProductClass::RatesFX, currency);
+        rows.push(CrifRow { key, amount }).ok().expect(rt, "memory");
     }
     TradeRows {
         trade: name(rt, text),
         rows,
     }
-}
-
-/// The batch of one trade with one row.
-pub fn batch(rt: &(impl Abort + AllocGlobal), text: &str, currency: &str, amount: i64) -> Batch {
-    let trade = trade(rt, text, currency, amount, 1);
-    let mut trades = Listed::new(rt.alloc());
-    trades.push(trade).ok().expect(rt, "memory");
-    Batch::make(rt.alloc(), trades).ok().expect(rt, "a batch")
 }
 
 /// A source of these bytes, so many at a call, that fails at one call, or at none for 0.

@@ -201,7 +201,7 @@ fn files_are_found_over_memory(rt: HostRuntime) {
 
 #[test]
 fn a_real_file_is_written_and_read(rt: HostRuntime) {
-    let name = "house_tests_real_file";
+    let name = "ground_tests_real_file";
     let file = fs::create(&rt, name).ok().expect(&rt, "a file");
     let mut sink = RealSink::new(file);
     assert!(rt; put_all(&mut sink, b"a line\nand one more").is_ok());
@@ -214,7 +214,7 @@ fn a_real_file_is_written_and_read(rt: HostRuntime) {
 // A file that was opened to be read takes no bytes.
 #[test]
 fn a_read_file_takes_no_bytes(rt: HostRuntime) {
-    let name = "house_tests_read_file";
+    let name = "ground_tests_read_file";
     assert!(rt; fs::write(&rt, name, "text").is_ok());
     let file = fs::open(&rt, name).ok().expect(&rt, "a file");
     let mut closed = RealSink::new(file);
@@ -226,7 +226,7 @@ fn a_read_file_takes_no_bytes(rt: HostRuntime) {
 #[test]
 fn no_file_and_a_directory_have_faults(rt: HostRuntime) {
     let mut folder = RealFolder::new(rt.clone().ok().expect(&rt, "a runtime"));
-    for (name, wanted) in [("house_tests_no_file", "not found"), (".", "not read")] {
+    for (name, wanted) in [("ground_tests_no_file", "not found"), (".", "not read")] {
         let read = read_file(rt.alloc(), &mut folder, name);
         assert!(rt; outcome(&read) == wanted.as_bytes());
     }

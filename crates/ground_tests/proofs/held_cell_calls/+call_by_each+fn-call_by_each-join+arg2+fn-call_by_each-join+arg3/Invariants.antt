@@ -1,5 +1,5 @@
 use Rattle.std.proofs.Common.{◌+◌, ◌*◌}
-use Rattle.house_tests.proofs.held_cell_calls.+call_by_each+fn-call_by_each-join+arg2+fn-call_by_each-join+arg3.Given as goal
+use Rattle.ground_tests.proofs.held_cell_calls.+call_by_each+fn-call_by_each-join+arg2+fn-call_by_each-join+arg3.Given as goal
 
 -- twice the callers, and one more in a thread's closure
 abbrev pub decreases-call_by_each : goal.decreases-call_by_each
