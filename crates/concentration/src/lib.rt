@@ -26,8 +26,8 @@ pub fn cr(net: i128, threshold: i64) -> Corr6
     Corr6(Corr6::ONE.0.max(root as i64))
 }
 
-/// The lesser of two concentration factors over the greater, rounded down: how alike two concentrations are. Two equal ones
-/// are divided by nothing.
+/// The lesser of two concentration factors over the greater, rounded down: how alike two concentrations are. Two equal
+/// factors take no division.
 pub fn ratio(a: Corr6, b: Corr6) -> Corr6
     requires first_from_one { one ≤ℤ a.0 }
     requires first_below { a.0 <ℤ pos 347000000 }
@@ -43,7 +43,7 @@ pub fn ratio(a: Corr6, b: Corr6) -> Corr6
     Corr6(quotient_below_one(a.0.min(b.0), a.0.max(b.0)))
 }
 
-/// The product of two correlations, rounded towards zero. A factor of 1 is multiplied by nothing.
+/// The product of two correlations, rounded towards zero. Where `f` is 1 it takes no division.
 pub fn combine(rho: Corr6, f: Corr6) -> Corr6
     requires first { unsigned_abs rho.0 ≤ 1000000 }
     requires second { unsigned_abs f.0 ≤ 1000000 }

@@ -1,5 +1,6 @@
 ghost use Rattle.std.specs.Prelude.{◌≡◌, ◌*◌, ◌^◌, ◌<◌, ◌≤◌, refl, sum_by, unsigned_abs};
-ghost use Rattle.pair_sum.specs.WithItself.{with_itself, with_itself-symmetric, with_itself-at_most_one, with_itself-one};
+ghost use Rattle.pair_sum.proofs.Itself.{with_itself-symmetric, with_itself-at_most_one, with_itself-one};
+ghost use Rattle.pair_sum.specs.WithItself.{with_itself};
 
 use mh_units::Corr6;
 use pair_sum::{

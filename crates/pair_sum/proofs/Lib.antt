@@ -3,3 +3,4 @@ pub mod Squares
 pub mod RootBounds
 pub mod Outer
 pub mod OverLists
+pub mod Itself
