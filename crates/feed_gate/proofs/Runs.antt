@@ -29,7 +29,7 @@ after_calls-append s (x ∷ xs) ys = after_calls-append (called s x) xs ys
 called_params : (s : Set) (e : Event) → (called s e).params ≡ s.params
 called_params s e = at (is_full s.journal e)
   where
-    at : (b : Bool) → (cond b s (with_entry s 0 e (answer s.params s.journal e))).params ≡ s.params
+    at : (b : Bool) → (cond b s (with_entry s 0 e (answer s.params s.terms s.journal e))).params ≡ s.params
     at true = refl
     at false = refl
 
@@ -40,7 +40,7 @@ after_params s (x ∷ xs) = after_params (called s x) xs ∙ called_params s x
 called_terms : (s : Set) (e : Event) → (called s e).terms ≡ s.terms
 called_terms s e = at (is_full s.journal e)
   where
-    at : (b : Bool) → (cond b s (with_entry s 0 e (answer s.params s.journal e))).terms ≡ s.terms
+    at : (b : Bool) → (cond b s (with_entry s 0 e (answer s.params s.terms s.journal e))).terms ≡ s.terms
     at true = refl
     at false = refl
 

@@ -16,13 +16,23 @@ use Rattle.set_core.specs.Set.{Set, with_entry}
 abbrev pub set_of : Message → List ℕ
 set_of (message.Crif set block) = set
 set_of (message.Withdraw set names) = set
+set_of (message.Put set lot class value currency) = set
+set_of (message.Take set lot) = set
+set_of (message.Mark set lot value) = set
+set_of (message.Close set number) = set
 set_of (message.Ask set) = set
+set_of (message.Call set moment) = set
 
 -- the event of a message; a block of records that is no batch has none
 abbrev pub event_of : Message → Option Event
 event_of (message.Crif set block) = option_map event.Submit (crif_of block)
 event_of (message.Withdraw set names) = Some (event.Withdraw names)
+event_of (message.Put set lot class value currency) = Some (event.PutLot lot class value currency)
+event_of (message.Take set lot) = Some (event.TakeLot lot)
+event_of (message.Mark set lot value) = Some (event.MarkLot lot value)
+event_of (message.Close set number) = Some (event.CloseCall number)
 event_of (message.Ask set) = Some event.AskMargin
+event_of (message.Call set moment) = Some (event.AskCall moment)
 
 -- the call of an item on the set of this name, if it makes one
 abbrev pub call_on : List ℕ → Item → Option Event
@@ -35,7 +45,7 @@ calls name items = filter_map (call_on name) items
 
 -- a set after a call of caller 0: its answer joins the journal, unless the journal is full
 abbrev pub called : Set → Event → Set
-called s e = if is_full s.journal e then s else with_entry s 0 e (answer s.params s.journal e)
+called s e = if is_full s.journal e then s else with_entry s 0 e (answer s.params s.terms s.journal e)
 
 abbrev pub after_calls : Set → List Event → Set
 after_calls s [] = s

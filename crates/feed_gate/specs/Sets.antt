@@ -10,7 +10,7 @@ pub record AreApart (sets : List Set) : Type 0 where
 
 -- each journal is legal, and within its limits
 abbrev pub AreLegal : List Set → Type 0
-AreLegal sets = AllByRecursion (λ s. IsSet s.params s.journal) sets
+AreLegal sets = AllByRecursion (λ s. IsSet s.params s.terms s.journal) sets
 
 -- each set has the parameters and the terms that it had, and a legal journal
 pub record AreKept (old new : List Set) : Type 0 where

@@ -42,7 +42,14 @@ fn set_of(message: &Message) -> &Name
     ensures { result.now ≡ set_of message.now }
 {
     match message {
-        Message::Crif { set, .. } | Message::Withdraw { set, .. } | Message::Ask { set } => set,
+        Message::Crif { set, .. }
+        | Message::Withdraw { set, .. }
+        | Message::Put { set, .. }
+        | Message::Take { set, .. }
+        | Message::Mark { set, .. }
+        | Message::Close { set, .. }
+        | Message::Ask { set }
+        | Message::Call { set, .. } => set,
     }
 }
 
@@ -60,7 +67,23 @@ fn event_of(alloc: Global, message: Message) -> Result<Option<Event>, AllocError
     match message {
         Message::Crif { block, .. } => submit_of(alloc, &block),
         Message::Withdraw { names, .. } => Ok(Some(Event::Withdraw(names))),
+        Message::Put {
+            lot,
+            class,
+            value,
+            currency,
+            ..
+        } => Ok(Some(Event::PutLot {
+            lot,
+            class,
+            value,
+            currency,
+        })),
+        Message::Take { lot, .. } => Ok(Some(Event::TakeLot { lot })),
+        Message::Mark { lot, value, .. } => Ok(Some(Event::MarkLot { lot, value })),
+        Message::Close { number, .. } => Ok(Some(Event::CloseCall { number })),
         Message::Ask { .. } => Ok(Some(Event::AskMargin)),
+        Message::Call { moment, .. } => Ok(Some(Event::AskCall { moment })),
     }
 }
 

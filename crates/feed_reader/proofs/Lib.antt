@@ -1,4 +1,5 @@
 pub mod FieldNames
+pub mod NumberFields
 pub mod FeedTakings
 pub mod FeedLines
 pub mod FeedItems

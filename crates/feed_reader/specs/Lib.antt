@@ -1,4 +1,8 @@
 pub mod Fault
+pub mod Fields
+pub mod Values
+pub mod Words
+pub mod Messages
 pub mod Line
 pub mod Feed
 pub mod Answers

@@ -1,104 +1,133 @@
-ghost use Rattle.std.specs.Prelude.{◌≡◌, Some, None, IfOk};
-ghost use Rattle.feed_reader.specs.Line.{fields_of, full_name, full_names, only_name, opening, question, withdrawal, meaning_of};
+//! The fields of a line, read one after another.
+ghost use Rattle.std.specs.Prelude.{◌≡◌, ◌∷◌, [], not, MatchResult};
+ghost use Rattle.csa_terms.specs.Moments.{moment_of};
+ghost use Rattle.feed_reader.specs.declared.unread.Unread.TheVariants as unread;
+ghost use Rattle.feed_reader.specs.Fields.{fields_of, fields_left, first, is_nil, no_more, Gives};
+ghost use Rattle.feed_reader.specs.Values.{full_name, full_names, amount, number, lot_currency};
+ghost use Rattle.feed_reader.specs.Words.{word_of};
 
-use crate::message::{Meaning, Message};
-use crate::words::{ASK, CRIF, TAB, WITHDRAW, is_word};
+use crate::unread::Unread;
+use crate::values::{cents_in, currency_in, number_in};
+use crate::words::Word;
+use csa_terms::{LotCurrency, Moment};
 use mh_units::cut_at;
 use simm_kinds::{Listed, Name};
-use std::alloc::{AllocError, Global};
+use std::alloc::Global;
 
-/// The name that the field is, or `None` where it is empty or no name.
-fn read_name(alloc: Global, field: &[u8]) -> Result<Option<Name>, AllocError>
-    ensures { IfOk result (λ name. name ≡ full_name field.now) }
-{
-    if !Name::is_full_name(field) {
-        return Ok(None);
-    }
-    Ok(Some(Name::of_bytes(alloc, field)?))
+/// What separates the fields of a line.
+const TAB: u8 = b'\t';
+
+/// The fields of a line that are still to be read.
+#[derive(Debug, Drop)]
+pub(crate) struct Fields<'a> {
+    /// With tabs between; `None` behind the last one.
+    rest: Option<&'a [u8]>,
 }
 
-/// The names that the fields are, or `None` where one of them is none.
-fn read_names(alloc: Global, fields: &[u8]) -> Result<Option<Listed<Name>>, AllocError>
-    ensures { IfOk result (λ names. names ≡ full_names (fields_of fields.now)) }
-{
-    let mut names = Listed::new(alloc);
-    let mut rest = fields;
-    while let Some((field, further)) = cut_at(rest, TAB) {
-        let Some(name) = read_name(alloc, field)? else {
-            return Ok(None);
+impl<'a> Fields<'a> {
+    /// All fields of a line.
+    pub fn of(line: &'a [u8]) -> Fields<'a>
+        ensures { fields_left result ≡ fields_of line.now }
+    {
+        Fields { rest: Some(line) }
+    }
+
+    /// The next field.
+    fn next(&mut self) -> Result<&'a [u8], Unread>
+        ensures { MatchResult result (λ field. fields_left self.old ≡ field.now ∷ fields_left self.new) (λ e. (e ≡ unread.Bad) × (fields_left self.old ≡ [])) }
+    {
+        let Some(rest) = self.rest else {
+            return Err(Unread::Bad);
         };
-        names.push(name)?;
-        rest = further;
+        match cut_at(rest, TAB) {
+            Some((field, further)) => {
+                self.rest = Some(further);
+                Ok(field)
+            }
+            None => {
+                self.rest = None;
+                Ok(rest)
+            }
+        }
     }
-    let Some(name) = read_name(alloc, rest)? else {
-        return Ok(None);
-    };
-    names.push(name)?;
-    Ok(Some(names))
-}
 
-/// The set that is the only field, or `None` where there are more or it is no name.
-fn read_set(alloc: Global, fields: &[u8]) -> Result<Option<Name>, AllocError>
-    ensures { IfOk result (λ set. set ≡ only_name (fields_of fields.now)) }
-{
-    match cut_at(fields, TAB) {
-        Some(_) => Ok(None),
-        None => read_name(alloc, fields),
+    /// Whether fields are left.
+    fn has_more(&self) -> bool
+        ensures { result ≡ not (is_nil (fields_left self.now)) }
+    {
+        self.rest.is_some()
     }
-}
 
-fn read_crif(alloc: Global, fields: &[u8]) -> Result<Meaning, AllocError>
-    ensures { IfOk result (λ meaning. meaning ≡ opening (fields_of fields.now)) }
-{
-    match read_set(alloc, fields)? {
-        Some(set) => Ok(Meaning::Opens { set }),
-        None => Ok(Meaning::Bad),
+    /// Tests that no field is left.
+    pub fn end(&self) -> Result<(), Unread>
+        ensures { Gives (λ u. u) result (no_more (fields_left self.now)) }
+    {
+        if self.has_more() {
+            return Err(Unread::Bad);
+        }
+        Ok(())
     }
-}
 
-fn read_ask(alloc: Global, fields: &[u8]) -> Result<Meaning, AllocError>
-    ensures { IfOk result (λ meaning. meaning ≡ question (fields_of fields.now)) }
-{
-    match read_set(alloc, fields)? {
-        Some(set) => Ok(Meaning::Tells {
-            message: Message::Ask { set },
-        }),
-        None => Ok(Meaning::Bad),
+    /// The word that the next field is.
+    pub fn word(&mut self) -> Result<Word, Unread>
+        ensures { Gives (λ word. (word, fields_left self.new)) result (first word_of (fields_left self.old)) }
+    {
+        let field = self.next()?;
+        Word::of(field).ok_or(Unread::Bad)
     }
-}
 
-fn read_withdraw(alloc: Global, fields: &[u8]) -> Result<Meaning, AllocError>
-    ensures { IfOk result (λ meaning. meaning ≡ withdrawal (fields_of fields.now)) }
-{
-    let Some((first, further)) = cut_at(fields, TAB) else {
-        return Ok(Meaning::Bad);
-    };
-    let Some(set) = read_name(alloc, first)? else {
-        return Ok(Meaning::Bad);
-    };
-    match read_names(alloc, further)? {
-        Some(names) => Ok(Meaning::Tells {
-            message: Message::Withdraw { set, names },
-        }),
-        None => Ok(Meaning::Bad),
+    /// The name that the next field is; it isn't empty.
+    pub fn name(&mut self, alloc: Global) -> Result<Name, Unread>
+        ensures { Gives (λ name. (name, fields_left self.new)) result (first full_name (fields_left self.old)) }
+    {
+        let field = self.next()?;
+        if !Name::is_full_name(field) {
+            return Err(Unread::Bad);
+        }
+        Ok(Name::of_bytes(alloc, field)?)
     }
-}
 
-/// What a line outside a block is.
-#[tactic(auto, unfolding(crate::specs::Line::meaning_of))]
-pub(crate) fn read_line(alloc: Global, line: &[u8]) -> Result<Meaning, AllocError>
-    ensures { IfOk result (λ meaning. meaning ≡ meaning_of line.now) }
-{
-    let Some((word, fields)) = cut_at(line, TAB) else {
-        return Ok(Meaning::Bad);
-    };
-    if is_word(word, CRIF) {
-        read_crif(alloc, fields)
-    } else if is_word(word, WITHDRAW) {
-        read_withdraw(alloc, fields)
-    } else if is_word(word, ASK) {
-        read_ask(alloc, fields)
-    } else {
-        Ok(Meaning::Bad)
+    /// The names that the fields are that are left: one at least.
+    pub fn names(&mut self, alloc: Global) -> Result<Listed<Name>, Unread>
+        ensures { Gives (λ names. names) result (full_names (fields_left self.old)) }
+    {
+        let mut names = Listed::new(alloc);
+        names.push(self.name(alloc)?)?;
+        while self.has_more() {
+            names.push(self.name(alloc)?)?;
+        }
+        Ok(names)
+    }
+
+    /// The amount that the next field is, in cents.
+    pub fn cents(&mut self) -> Result<i64, Unread>
+        ensures { Gives (λ cents. (cents, fields_left self.new)) result (first amount (fields_left self.old)) }
+    {
+        let field = self.next()?;
+        cents_in(field).ok_or(Unread::Bad)
+    }
+
+    /// The number from 1 that the next field is.
+    pub fn number(&mut self) -> Result<u32, Unread>
+        ensures { Gives (λ n. (n, fields_left self.new)) result (first number (fields_left self.old)) }
+    {
+        let field = self.next()?;
+        number_in(field).ok_or(Unread::Bad)
+    }
+
+    /// The currency of a lot that the next field is.
+    pub fn currency(&mut self) -> Result<LotCurrency, Unread>
+        ensures { Gives (λ currency. (currency, fields_left self.new)) result (first lot_currency (fields_left self.old)) }
+    {
+        let field = self.next()?;
+        currency_in(field).ok_or(Unread::Bad)
+    }
+
+    /// The time of a demand that the next field is.
+    pub fn moment(&mut self) -> Result<Moment, Unread>
+        ensures { Gives (λ moment. (moment, fields_left self.new)) result (first moment_of (fields_left self.old)) }
+    {
+        let field = self.next()?;
+        Moment::read(field).ok_or(Unread::Bad)
     }
 }

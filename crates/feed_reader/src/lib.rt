@@ -4,8 +4,12 @@
 mod block;
 mod fault;
 mod fields;
+mod line;
 mod message;
+mod messages;
 mod read;
+mod unread;
+mod values;
 mod words;
 
 pub use fault::FeedFault;

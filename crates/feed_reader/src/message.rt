@@ -1,15 +1,53 @@
+use csa_terms::{LotCurrency, Moment};
 use mh_units::Bytes;
 use simm_kinds::{Listed, Name};
 
-/// A message of a feed. Names are not empty.
+/// A message of a feed. Names are not empty, amounts are in cents. Its fields stand in a line with tabs between.
 #[derive(Debug, Drop)]
 pub enum Message {
-    /// `CRIF`, a tab and the set, then lines, then `END`: `block` has the lines between, each with LF.
-    Crif { set: Name, block: Bytes },
-    /// `WITHDRAW`, the set and at least one trade, with tabs between.
-    Withdraw { set: Name, names: Listed<Name> },
-    /// `ASK`, a tab and the set.
-    Ask { set: Name },
+    /// `CRIF` and the set, then lines, then `END`: `block` has the lines between, each with LF.
+    Crif {
+        set: Name,
+        block: Bytes,
+    },
+    /// `WITHDRAW`, the set and at least one trade.
+    Withdraw {
+        set: Name,
+        names: Listed<Name>,
+    },
+    /// `PUT`, the set, a lot of collateral, its class, its value, and `same` or `other` for its currency.
+    Put {
+        set: Name,
+        lot: Name,
+        class: Name,
+        value: i64,
+        currency: LotCurrency,
+    },
+    /// `TAKE`, the set and a lot.
+    Take {
+        set: Name,
+        lot: Name,
+    },
+    /// `MARK`, the set, a lot, and the value that it has from then on.
+    Mark {
+        set: Name,
+        lot: Name,
+        value: i64,
+    },
+    /// `CLOSE`, the set and the number of a call, from 1.
+    Close {
+        set: Name,
+        number: u32,
+    },
+    /// `ASK` and the set.
+    Ask {
+        set: Name,
+    },
+    /// `CALL`, the set, and the local time of a demand, `YYYY-MM-DDTHH:MM`.
+    Call {
+        set: Name,
+        moment: Moment,
+    },
 }
 
 /// A message, with the number of its first line.

@@ -8,7 +8,7 @@ ghost use Rattle.feed_reader.specs.Answers.{TellsItems, Follows, Answers, StopsL
 ghost use Rattle.feed_reader.specs.Steps.{Tells, feed_fault};
 
 use crate::block::{read_block, skip_to_line};
-use crate::fields::read_line;
+use crate::line::read_line;
 use crate::message::Meaning;
 use crate::{Fed, FeedFault, Message};
 use mh_io::{LineFault, LineStep, Lines, Source};

@@ -1,15 +1,58 @@
 ghost use Rattle.std.specs.Prelude.{◌≡◌};
 ghost use Rattle.std.specs.Str.{bytes_eq};
 ghost use Rattle.feed_reader.specs.Line.{is_passed_over, is_end};
+ghost use Rattle.feed_reader.specs.Words.{word_text, word_of};
 
-/// What separates the fields of a line.
-pub(crate) const TAB: u8 = b'\t';
+/// The first field of a message, which says what the others are.
+#[derive(Clone, Copy, Debug, PartialEq, Eq)]
+pub(crate) enum Word {
+    Crif,
+    Withdraw,
+    Put,
+    Take,
+    Mark,
+    Close,
+    Ask,
+    Call,
+}
 
-pub(crate) const CRIF: &str = "CRIF";
+impl Word {
+    const ALL: [Word; 8] = [
+        Word::Crif,
+        Word::Withdraw,
+        Word::Put,
+        Word::Take,
+        Word::Mark,
+        Word::Close,
+        Word::Ask,
+        Word::Call,
+    ];
 
-pub(crate) const WITHDRAW: &str = "WITHDRAW";
+    fn text(self) -> &'static str
+        ensures { result.now ≡ word_text self }
+    {
+        match self {
+            Word::Crif => "CRIF",
+            Word::Withdraw => "WITHDRAW",
+            Word::Put => "PUT",
+            Word::Take => "TAKE",
+            Word::Mark => "MARK",
+            Word::Close => "CLOSE",
+            Word::Ask => "ASK",
+            Word::Call => "CALL",
+        }
+    }
 
-pub(crate) const ASK: &str = "ASK";
+    /// The word that the field is, if it is one.
+    pub fn of(field: &[u8]) -> Option<Word>
+        ensures { result ≡ word_of field.now }
+    {
+        Word::ALL
+            .iter()
+            .find(|word| is_word(field, word.text()))
+            .copied()
+    }
+}
 
 /// The line that ends a block.
 const END: &str = "END";

@@ -10,10 +10,14 @@ use std::process::Abort;
 const PIECES: [usize; 4] = [1, 2, 7, 65_536];
 
 /// Feeds, and what their messages are: the last digit of a line's number and a letter for each.
-const FEEDS: [(&str, &str); 3] = [
+const FEEDS: [(&str, &str); 4] = [
     (
         "ASK\tA\nHELLO\nCRIF\tB\nx\nEND\n\nWITHDRAW\tA\tT1\r\nASK\tA",
         "1a2b3c7w8aE",
+    ),
+    (
+        "PUT\tA\tL\tC\t1.50\tother\nMARK\tA\tL\t2\nTAKE\tA\tL\nCLOSE\tA\t1\nCALL\tA\t2024-03-01T10:00\n",
+        "1p2m3t4l5dE",
     ),
     ("ASK\tA\n\nCRIF\tA\nx\nEND \n", "1a3C"),
     ("", "E"),
@@ -23,7 +27,12 @@ fn message_letter(message: &Message) -> u8 {
     match message {
         Message::Crif { .. } => b'c',
         Message::Withdraw { .. } => b'w',
+        Message::Put { .. } => b'p',
+        Message::Take { .. } => b't',
+        Message::Mark { .. } => b'm',
+        Message::Close { .. } => b'l',
         Message::Ask { .. } => b'a',
+        Message::Call { .. } => b'd',
     }
 }
 

@@ -1,0 +1,43 @@
+//! The values that single fields are.
+ghost use Rattle.std.specs.Prelude.{◌≡◌};
+ghost use Rattle.feed_reader.specs.Values.{amount, number, lot_currency};
+
+use crate::words::is_word;
+use csa_terms::LotCurrency;
+use mh_units::read_cents;
+
+/// The cents of a numeral.
+pub(crate) fn cents_in(field: &[u8]) -> Option<i64>
+    ensures { result ≡ amount field.now }
+{
+    match read_cents(field) {
+        Ok(cents) => Some(cents.0 as i64),
+        Err(_) => None,
+    }
+}
+
+/// A number from 1 in decimal, without a sign or a leading zero.
+pub(crate) fn number_in(field: &[u8]) -> Option<u32>
+    ensures { result ≡ number field.now }
+{
+    let [b'1'..=b'9', ..] = field else {
+        return None;
+    };
+    match std::str::from_utf8(field) {
+        Ok(text) => text.parse().ok(),
+        Err(_) => None,
+    }
+}
+
+/// Whether a lot is in the agreement's currency.
+pub(crate) fn currency_in(field: &[u8]) -> Option<LotCurrency>
+    ensures { result ≡ lot_currency field.now }
+{
+    if is_word(field, "same") {
+        Some(LotCurrency::Same)
+    } else if is_word(field, "other") {
+        Some(LotCurrency::Other)
+    } else {
+        None
+    }
+}
