@@ -2,7 +2,11 @@
 -- trades and rows of a submit, or the parts of a margin.
 use Rattle.std.specs.Prelude.{ℕ, ◌+◌, List, [], ◌∷◌, ◌++◌, length, codes, decimal}
 use Rattle.std.specs.List.{flat_map}
+use Rattle.mh_units.specs.Money.{money_text}
 use Rattle.simm_kinds.specs.Batch.{rows_of}
+use Rattle.csa_terms.specs.Moments.{moment_text}
+use Rattle.csa_terms.specs.declared.lot_currency.LotCurrency.{LotCurrency}
+use Rattle.csa_terms.specs.declared.lot_currency.LotCurrency.TheVariants as currency
 use Rattle.held_cell.specs.declared.entry.Entry.{Entry}
 use Rattle.set_core.specs.declared.event.Event.{Event}
 use Rattle.set_core.specs.declared.event.Event.TheVariants as event
@@ -13,11 +17,23 @@ use Rattle.margin_text.specs.Fields.{field, last_field}
 use Rattle.margin_text.specs.Margins.{part_lines}
 use Rattle.margin_text.specs.Rows.{trade_lines}
 
--- a submit with the numbers of its trades and of their rows; a withdrawal with the number of its names and each of them
+-- the word of a lot's currency, as in a feed
+abbrev pub currency_word : LotCurrency → List ℕ
+currency_word currency.Same = codes "same"
+currency_word currency.Other = codes "other"
+
+-- A submit with the numbers of its trades and of their rows; a withdrawal with the number of its names and each of them;
+-- the others as in a feed, without the set. Values are amounts of money.
 abbrev pub event_fields : Event → List ℕ
 event_fields (event.Submit trades) = field (codes "SUBMIT") ++ field (decimal (length trades)) ++ field (decimal (length (rows_of trades)))
 event_fields (event.Withdraw names) = field (codes "WITHDRAW") ++ field (decimal (length names)) ++ flat_map field names
+event_fields (event.PutLot lot class value currency) =
+    field (codes "PUT") ++ field lot ++ field class ++ field (money_text value) ++ field (currency_word currency)
+event_fields (event.TakeLot lot) = field (codes "TAKE") ++ field lot
+event_fields (event.MarkLot lot value) = field (codes "MARK") ++ field lot ++ field (money_text value)
+event_fields (event.CloseCall number) = field (codes "CLOSE") ++ field (decimal number)
 event_fields event.AskMargin = field (codes "ASK")
+event_fields (event.AskCall moment) = field (codes "CALL") ++ field (moment_text moment)
 
 -- the lines of an event under its entry's line
 abbrev pub event_lines : Event → List ℕ

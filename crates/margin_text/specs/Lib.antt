@@ -4,3 +4,4 @@ pub mod KindWords
 pub mod Rows
 pub mod Journal
 pub mod Feeds
+pub mod TermsLine

@@ -1,55 +1,14 @@
 //! The lines of an entry: its own, and those under it.
-ghost use Rattle.std.specs.Prelude.{◌≡◌, ◌++◌, OnOk, length, codes, decimal};
-ghost use Rattle.std.specs.List.{flat_map};
-ghost use Rattle.margin_text.specs.Fields.{field};
-ghost use Rattle.margin_text.specs.Journal.{event_fields, event_lines, reply_lines, entry_line, entry_lines};
+ghost use Rattle.std.specs.Prelude.{◌≡◌, ◌++◌, OnOk};
+ghost use Rattle.margin_text.specs.Journal.{event_lines, reply_lines, entry_line, entry_lines};
 
 use crate::breakdown_lines::push_parts;
+use crate::event_fields::push_event;
 use crate::pieces::{push_field, push_number};
 use crate::trade_lines::push_trades;
 use mh_units::Text;
 use set_core::{Entry, Event, Reply, push_reply};
-use simm_kinds::Name;
 use std::alloc::AllocError;
-
-/// Adds the fields of a submit.
-fn push_submit(text: &mut Text, trades: usize, rows: usize) -> Result<(), AllocError>
-    ensures { OnOk result (text.new ≡ text.old ++ (field (codes "SUBMIT") ++ field (decimal trades) ++ field (decimal rows))) }
-{
-    push_field(text, b"SUBMIT")?;
-    push_number(text, trades)?;
-    push_number(text, rows)
-}
-
-/// Adds each name as a field.
-fn push_names(text: &mut Text, names: &[Name]) -> Result<(), AllocError>
-    ensures { OnOk result (text.new ≡ text.old ++ flat_map field names.now) }
-{
-    for name in names {
-        push_field(text, name.bytes())?;
-    }
-    Ok(())
-}
-
-/// Adds the fields of a withdrawal.
-fn push_withdrawal(text: &mut Text, names: &[Name]) -> Result<(), AllocError>
-    ensures { OnOk result (text.new ≡ text.old ++ (field (codes "WITHDRAW") ++ field (decimal (length names.now)) ++ flat_map field names.now)) }
-{
-    push_field(text, b"WITHDRAW")?;
-    push_number(text, names.len())?;
-    push_names(text, names)
-}
-
-/// Adds the fields of an event.
-fn push_event(text: &mut Text, event: &Event) -> Result<(), AllocError>
-    ensures { OnOk result (text.new ≡ text.old ++ event_fields event.now) }
-{
-    match event {
-        Event::Submit(batch) => push_submit(text, batch.trades().len(), event.row_count()),
-        Event::Withdraw(names) => push_withdrawal(text, names.as_slice()),
-        Event::AskMargin => push_field(text, b"ASK"),
-    }
-}
 
 /// Adds the lines of an event under its entry's line.
 fn push_event_lines(text: &mut Text, event: &Event) -> Result<(), AllocError>
@@ -57,7 +16,7 @@ fn push_event_lines(text: &mut Text, event: &Event) -> Result<(), AllocError>
 {
     match event {
         Event::Submit(batch) => push_trades(text, batch.trades()),
-        Event::Withdraw(_) | Event::AskMargin => Ok(()),
+        _ => Ok(()),
     }
 }
 
@@ -67,7 +26,7 @@ fn push_reply_lines(text: &mut Text, reply: &Reply) -> Result<(), AllocError>
 {
     match reply {
         Reply::Margin(margin) => push_parts(text, margin),
-        Reply::Accepted | Reply::Refused(_) => Ok(()),
+        Reply::Accepted | Reply::Refused(_) | Reply::Called(_) | Reply::NoCall { .. } => Ok(()),
     }
 }
 

@@ -1,8 +1,10 @@
-//! Printed text: the lines of a margin, of a set's journal and of a feed's report.
+//! Printed text: the lines of a margin, of a set's journal, of a feed's report and of a fault of the terms.
 #![tactic(auto)]
 
 mod breakdown_lines;
 mod entry_lines;
+mod event_fields;
+mod fault_lines;
 mod feed_lines;
 mod kind_words;
 mod pieces;
@@ -10,5 +12,6 @@ mod set_journal;
 mod trade_lines;
 
 pub use breakdown_lines::margin_lines;
+pub use fault_lines::terms_line;
 pub use feed_lines::push_report;
 pub use set_journal::{journal_text, push_journal};

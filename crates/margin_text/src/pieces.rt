@@ -37,6 +37,14 @@ pub(crate) fn push_last_number<N: Integer>(text: &mut Text, number: N) -> Result
     push_last(text, Buffer::new().format(number).as_bytes())
 }
 
+/// Adds an amount, in cents, as a field that another follows.
+pub(crate) fn push_amount(text: &mut Text, cents: i64) -> Result<(), AllocError>
+    ensures { OnOk result (text.new ≡ text.old ++ field (money_text cents)) }
+{
+    push_cents(text, Cents(i128::from(cents)))?;
+    text.push(b'\t')
+}
+
 /// Adds an amount as the last field of a line.
 pub(crate) fn push_last_amount(text: &mut Text, cents: i128) -> Result<(), AllocError>
     ensures { OnOk result (text.new ≡ text.old ++ last_field (money_text cents)) }

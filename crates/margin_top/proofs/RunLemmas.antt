@@ -1,5 +1,5 @@
 -- The stages of a run, one after the other.
-use Rattle.std.proofs.Common.{◌≡◌, ℕ, ◌+◌, ◌≤◌, arith, List, [], ◌∷◌, ◌++◌, map, length, take, drop, zero, suc, append-nil, false, Ok, Err, Some, refl, sym, ap, ◌∙◌, subst, inr, ⊎_elim}
+use Rattle.std.proofs.Common.{◌≡◌, ℕ, ◌≤◌, arith, List, [], ◌∷◌, ◌++◌, map, length, take, drop, zero, suc, append-nil, false, Ok, Err, Some, refl, sym, ap, ◌∙◌, subst, inr, ⊎_elim}
 use Rattle.std.specs.List.{AllByRecursion, IsDistinct}
 use Rattle.std.proofs.lemmas.Bool.{cases_lt}
 use Rattle.std.proofs.lemmas.List.{length-map, length-take-le, drop_all, take_all}

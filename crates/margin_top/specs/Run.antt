@@ -18,6 +18,7 @@ use Rattle.feed_gate.specs.declared.report.FeedReport.{FeedReport}
 use Rattle.feed_gate.specs.Run.{RanOver}
 use Rattle.margin_text.specs.Journal.{journal_text}
 use Rattle.margin_text.specs.Feeds.{feed_text}
+use Rattle.margin_text.specs.TermsLine.{terms_fault}
 use Rattle.margin_top.specs.declared.status.Status.{Status}
 use Rattle.margin_top.specs.declared.status.Status.TheVariants as status
 use Rattle.margin_top.specs.declared.fault.FileFault.{FileFault}
@@ -25,7 +26,7 @@ use Rattle.margin_top.specs.declared.run_fault.TermsFileFault.{TermsFileFault}
 use Rattle.margin_top.specs.declared.run_fault.TermsFileFault.TheVariants as terms
 use Rattle.margin_top.specs.declared.run_fault.RunFault.{RunFault}
 use Rattle.margin_top.specs.declared.run_fault.RunFault.TheVariants as fault
-use Rattle.margin_top.specs.Lines.{params_fault, find_fault, terms_fault}
+use Rattle.margin_top.specs.Lines.{params_fault, find_fault}
 use Rattle.margin_top.specs.Files.{FolderSeen, no_deeds, with_reading, Did, IsWhole, IsRead, IsMissing, Failed, NoValue}
 use Rattle.margin_top.specs.Calc.{SinkSeen, Got, GotFront, GotLine, HasParams, status_of_file, status_of_value, line_of_file, line_of_value}
 
@@ -69,7 +70,7 @@ pub record HasRun (params_name terms_name feed_name : List ℕ) (old new : Folde
   pub mid : FolderSeen
   pub inputs : HasInputs params_name terms_name old mid p agreements
   pub fed : IsFed feed_name mid new (map (start p) agreements) sets r
-  pub legal : AllByRecursion (λ s. IsSet s.params s.journal) sets
+  pub legal : AllByRecursion (λ s. IsSet s.params s.terms s.journal) sets
 
 -- all that is printed: the sets' journals in the order of the terms, and then what became of the feed
 abbrev pub run_text : List Set → FeedReport → List ℕ

@@ -12,7 +12,7 @@ use Rattle.margin_top.specs.declared.run_fault.RunFault.{RunFault}
 use Rattle.csa_terms.specs.declared.fault.TermsFault.{TermsFault}
 use Rattle.csa_terms.specs.declared.fault.TermsFault.TheVariants as reader
 use Rattle.margin_top.specs.declared.fault.FileFault.TheVariants as file
-use Rattle.margin_top.specs.Lines.{terms_fault}
+use Rattle.margin_text.specs.TermsLine.{terms_fault}
 use Rattle.margin_top.specs.Files.{FolderSeen, no_deeds, IsRead, Failed}
 use Rattle.margin_top.specs.Run.{IsFed, FindEnds, HasRun, RunCause}
 

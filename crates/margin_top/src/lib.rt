@@ -13,7 +13,6 @@ mod run_files;
 mod run_printing;
 mod running;
 mod status;
-mod terms_line;
 mod value_files;
 mod words;
 

@@ -9,10 +9,10 @@ ghost use Rattle.margin_top.specs.RunStages.{TermsEnds, FeedEnds, RunFilesEnd, I
 use crate::fault::FileFault;
 use crate::file::read_file;
 use crate::run_fault::{RunFault, TermsFileFault};
-use crate::terms_line::terms_line;
 use crate::value_files::read_param_file;
 use csa_terms::{Terms, TermsFault, read_terms};
 use feed_gate::{FeedReport, run_feed};
+use margin_text::terms_line;
 use mh_io::{FindRefused, Folder};
 use set_core::SetState;
 use simm_params::Params;

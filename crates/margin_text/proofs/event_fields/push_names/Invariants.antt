@@ -1,7 +1,7 @@
 use Rattle.std.proofs.Common.{◌≡◌, ◌++◌, drop}
 use Rattle.std.specs.List.{flat_map}
 use Rattle.margin_text.specs.Fields.{field}
-use Rattle.margin_text.proofs.entry_lines.push_names.Given as goal
+use Rattle.margin_text.proofs.event_fields.push_names.Given as goal
 
 -- the text so far and what is left to add are the whole
 abbrev pub invariant-loop-name : goal.invariant-loop-name
