@@ -1,20 +1,20 @@
 -- The holidays of an array's places, each once and in order.
-use Rattle.std.proofs.Common.{◌≡◌, ℕ, ◌+◌, ◌<◌, ◌≤◌, List, [], ◌∷◌, length, get_or, drop, Less, Equal, Greater, Result, Ok, Some, ℤ, decimal, codes, refl, sym, ap, ◌∙◌, subst, arith}
+use Rattle.std.proofs.Common.{◌≡◌, ℕ, ◌+◌, ◌<◌, ◌≤◌, List, [], ◌∷◌, length, get_or, drop, Less, Equal, Greater, Bool, Result, Ok, Err, Some, ℤ, refl, sym, ap, ◌∙◌, arith}
 use Rattle.std.specs.BTreeSet.{insert_key}
 use Rattle.std.specs.List.{AllByRecursion}
 use Rattle.std.specs.declared.cmp.Ordering.{Ordering}
 use Rattle.std.specs.Ordering.{int_cmp, match_ordering}
 use Rattle.std.proofs.lemmas.List.{drop_all}
-use Rattle.toml.specs.Data.{Data, item}
+use Rattle.toml.specs.Data.{item}
 use Rattle.toml.specs.View.{view, items_view}
 use Rattle.toml.specs.declared.value.Value.{Value}
 use Rattle.toml.proofs.Views.{items_view-drop}
 use Rattle.csa_terms.specs.declared.fault.TermsFault.{TermsFault}
-use Rattle.csa_terms.specs.declared.fault.TermsFault.TheVariants.{Toml, Missing, BadNumber, OutOfRange, DuplicateSet, BadDate, TooManySets, BadName, Memory}
 use Rattle.csa_terms.specs.Terms.{IsCalendarDay, AreHolidays}
-use Rattle.csa_terms.specs.Faults.{part_path, ◌>>=◌, at, Fails}
+use Rattle.toml_values.specs.Answers.{◌>>=◌, Unless}
+use Rattle.toml_values.proofs.Places.{Unless-from}
 use Rattle.csa_terms.specs.Values.{date_of}
-use Rattle.csa_terms.specs.Grammar.{holidays_from}
+use Rattle.csa_terms.specs.Grammar.{holiday_path, holidays_from}
 
 -- ---- a day more
 
@@ -47,21 +47,6 @@ holidays-with_day days day room h is = record {
 
 -- ---- the places
 
--- a fault of the first test is one of the chain that it begins
-chain_fails : {A B : Type 0} (e : TermsFault) (r : Result A TermsFault) (f : A → Result B TermsFault) → Fails e r → Fails e (r >>= f)
-chain_fails Memory r f h = tt
-chain_fails Toml r f h = rw h refl
-chain_fails (Missing p) r f h = rw h refl
-chain_fails (BadNumber p) r f h = rw h refl
-chain_fails (OutOfRange p n) r f h = rw h refl
-chain_fails (DuplicateSet n) r f h = rw h refl
-chain_fails (BadDate p) r f h = rw h refl
-chain_fails (TooManySets n) r f h = rw h refl
-chain_fails (BadName p) r f h = rw h refl
-
-abbrev pub holiday_at : ℕ → ℕ → Data → Result ℤ TermsFault
-holiday_at set place value = at (part_path set (codes "holidays") (decimal place)) (date_of (Some value))
-
 -- what is left of an array, behind the days so far, gives what the whole array gives
 pub record DaysSoFar (set : ℕ) (days : List ℤ) (i : ℕ) (vs : List Value) : Type 0 where
   pub value : holidays_from set days (i + 1) (items_view (drop i vs)) ≡ holidays_from set [] 1 (items_view vs)
@@ -74,19 +59,19 @@ module _ (set : ℕ) (days : List ℤ) (i : ℕ) (vs : List Value) (so_far : Day
   abbrev rest : ℤ → Result (List ℤ) TermsFault
   rest day = holidays_from set (with_day days day) (i + 1 + 1) (items_view (drop (i + 1) vs))
 
-  place : (x : Value) → i < length vs → x ≡ get_or vs i x → holidays_from set days (i + 1) (items_view (drop i vs)) ≡ (holiday_at set (i + 1) (view x) >>= rest)
+  place : (x : Value) → i < length vs → x ≡ get_or vs i x → holidays_from set days (i + 1) (items_view (drop i vs)) ≡ (date_of (holiday_path set (i + 1)) (Some (view x)) >>= rest)
   unfolding holidays_from
   place x lt at = ap (holidays_from set days (i + 1)) (items_view-drop vs i x lt ∙ ap (λ v. item (view v) (items_view (drop (i + 1) vs))) (sym at))
 
-  pub day_goes_on : (x : Value) (day : ℤ) → i < length vs → x ≡ get_or vs i x → holiday_at set (i + 1) (view x) ≡ Ok day → DaysSoFar set (with_day days day) (i + 1) vs
+  pub day_goes_on : (x : Value) (day : ℤ) → i < length vs → x ≡ get_or vs i x → date_of (holiday_path set (i + 1)) (Some (view x)) ≡ Ok day → DaysSoFar set (with_day days day) (i + 1) vs
   day_goes_on x day lt at h =
       let one : holidays_from set days (i + 1) (items_view (drop i vs)) ≡ rest day = place x lt at ∙ ap (λ r. r >>= rest) h in
       let count = so_far.count in
       let more = length-with_day days day in
       record { value = sym one ∙ so_far.value; count = omega arith }
 
-  pub day_ends : (e : TermsFault) (x : Value) → i < length vs → x ≡ get_or vs i x → Fails e (holiday_at set (i + 1) (view x)) → Fails e (holidays_from set [] 1 (items_view vs))
-  day_ends e x lt at h = subst (Fails e) (sym (place x lt at) ∙ so_far.value) (chain_fails e (holiday_at set (i + 1) (view x)) rest h)
+  pub day_ends : (b : Bool) (e : TermsFault) (x : Value) → i < length vs → x ≡ get_or vs i x → Unless b (date_of (holiday_path set (i + 1)) (Some (view x)) ≡ Err e) → Unless b (holidays_from set [] 1 (items_view vs) ≡ Err e)
+  day_ends b e x lt at h = Unless-from b (λ is. sym so_far.value ∙ place x lt at ∙ ap (λ r. r >>= rest) is) h
 
   pub days_done : length vs ≤ i → holidays_from set [] 1 (items_view vs) ≡ Ok days
   unfolding holidays_from

@@ -1,6 +1,5 @@
--- The entries of a table and the places of an array, read one after another.
-use Rattle.std.proofs.Common.{◌≡◌, ℕ, suc, ◌-◌, None, Bool, true, false, cond, ◌||◌, is_some, take, Less, subst, length-append, slice_range, ◌+◌, ◌<◌, ◌≤◌, List, [], ◌∷◌, ◌++◌, length, map, get_or, drop, Result, Ok, Err, Some, String, string_bytes, Global, refl, sym, ap, ◌∙◌, arith, append_assoc, add-one}
-use Rattle.std.specs.Result.{result_map_both}
+-- The entries of a table, read one after another, and the names of the sets.
+use Rattle.std.proofs.Common.{◌≡◌, ℕ, suc, ◌-◌, None, Bool, true, false, cond, ◌||◌, is_some, take, Less, subst, length-append, slice_range, ◌+◌, ◌<◌, ◌≤◌, List, [], ◌∷◌, ◌++◌, length, map, get_or, drop, Result, Ok, Err, Some, String, string_bytes, Global, refl, sym, ap, ◌∙◌, arith, append_assoc}
 use Rattle.std.specs.List.{AllByRecursion, IsDistinct, list_any}
 use Rattle.std.specs.List.Sorted.{IsStrictlySortedBy}
 use Rattle.std.specs.Map.{keys_of}
@@ -10,46 +9,19 @@ use Rattle.std.proofs.lemmas.Cmp.{eq_by_cmp_equiv, nat_list_cmp_total}
 use Rattle.std.proofs.lemmas.Map.Keys.{IsDistinct-push}
 use Rattle.std.proofs.Math.Seq.{drop-cons}
 use Rattle.std.proofs.lemmas.List.{append-nil, drop_all, take_more}
-use Rattle.toml.specs.Data.{Data, Items, no_items, item, as_table}
+use Rattle.toml.specs.Data.{as_table}
 use Rattle.toml.specs.View.{view, items_view, members_view}
 use Rattle.toml.specs.declared.value.Value.{Value}
-use Rattle.toml.proofs.Views.{Entry, items_view-drop}
+use Rattle.toml.proofs.Views.{Entry}
 use Rattle.simm_kinds.specs.Order.{name_cmp, same_name}
 use Rattle.csa_terms.specs.declared.fault.TermsFault.{TermsFault}
-use Rattle.csa_terms.specs.declared.fault.TermsFault.TheVariants.{Toml, Missing, BadNumber, OutOfRange, DuplicateSet, BadDate, TooManySets, BadName, Memory}
 use Rattle.csa_terms.specs.Terms.{Haircut, Agreement}
 use Rattle.csa_terms.specs.Held.{classes, with_haircut}
-use Rattle.csa_terms.specs.Faults.{◌>>=◌, at, Fails}
-use Rattle.csa_terms.specs.Grammar.{members_count, items_count, haircut_of_entry, haircuts_of, set_at, sets_of, has_table, repeated}
+use Rattle.toml_values.specs.Answers.{◌>>=◌, Unless}
+use Rattle.toml_values.specs.Values.{items_count}
+use Rattle.toml_values.proofs.Places.{with_front, with_none, regroup, Unless-from, fails_first}
+use Rattle.csa_terms.specs.Grammar.{haircut_of_entry, haircuts_of, has_table, repeated}
 use Rattle.csa_terms.proofs.Tables.{with-last}
-
--- what is read behind what was read
-abbrev pub with_front : {A : Type 0} → List A → Result (List A) TermsFault → Result (List A) TermsFault
-with_front front read = result_map_both (λ xs. front ++ xs) (λ e. e) read
-
-pub regroup : {A : Type 0} (front : List A) (x : A) (read : Result (List A) TermsFault) → with_front front (read >>= (λ xs. Ok (x ∷ xs))) ≡ with_front (front ++ x ∷ []) read
-regroup front x (Ok xs) = ap Ok (sym (append_assoc front (x ∷ []) xs))
-regroup front x (Err e) = refl
-
--- a fault of a test is one of the chain that begins with it
-pub Fails-first : {A B : Type 0} (e : TermsFault) (front : List B) (r : Result A TermsFault) (f : A → Result (List B) TermsFault) → Fails e r → Fails e (with_front front (r >>= f))
-Fails-first Memory front r f h = tt
-Fails-first Toml front r f h = rw h refl
-Fails-first (Missing p) front r f h = rw h refl
-Fails-first (BadNumber p) front r f h = rw h refl
-Fails-first (OutOfRange p n) front r f h = rw h refl
-Fails-first (DuplicateSet n) front r f h = rw h refl
-Fails-first (BadDate p) front r f h = rw h refl
-Fails-first (TooManySets n) front r f h = rw h refl
-Fails-first (BadName p) front r f h = rw h refl
-
-pub items_count-view : (vs : List Value) → items_count (items_view vs) ≡ length vs
-items_count-view [] = refl
-items_count-view (v ∷ vs) = ap (λ n. n + 1) (items_count-view vs) ∙ add-one (length vs)
-
-pub members_count-view : (es : List Entry) → members_count (members_view es) ≡ length es
-members_count-view [] = refl
-members_count-view (e ∷ es) = ap (λ n. n + 1) (members_count-view es) ∙ add-one (length es)
 
 pub has_table-view : (vs : List Value) → list_any (λ v. is_some (as_table (view v))) vs ≡ has_table (items_view vs)
 has_table-view [] = refl
@@ -58,58 +30,6 @@ has_table-view (v ∷ vs) = ap (λ b. is_some (as_table (view v)) || b) (has_tab
 pub has_table-some : (vs : List Value) → has_table (items_view vs) ≡ true → 0 < items_count (items_view vs)
 has_table-some [] h = absurd cc
 has_table-some (v ∷ vs) h = omega arith
-
--- ---- the places of an array, which count from 1, by a test of each
-
--- what is left of an array, behind what was read, gives what the whole array gives
-pub record SoFar {A : Type 0} (each : ℕ → Items → Result (List A) TermsFault) (front : List A) (i : ℕ) (vs : List Value) (total : Result (List A) TermsFault) : Type 0 where
-  pub value : with_front front (each (i + 1) (items_view (drop i vs))) ≡ total
-  pub count : length front ≡ i
-
--- each place is read by the test
-pub record Reads {A : Type 0} (test : ℕ → Data → Result A TermsFault) (each : ℕ → Items → Result (List A) TermsFault) : Type 0 where
-  pub none : (n : ℕ) → each n no_items ≡ Ok []
-  pub more : (n : ℕ) (d : Data) (ds : Items) → each n (item d ds) ≡ (test n d >>= (λ x. each (n + 1) ds >>= (λ xs. Ok (x ∷ xs))))
-
-with_none : {A : Type 0} (read : Result (List A) TermsFault) → with_front [] read ≡ read
-with_none (Ok xs) = refl
-with_none (Err e) = refl
-
-pub begins : {A : Type 0} (each : ℕ → Items → Result (List A) TermsFault) (vs : List Value) → SoFar each [] 0 vs (each 1 (items_view vs))
-begins each vs = record { value = with_none (each 1 (items_view vs)); count = refl }
-
-module _ {A : Type 0} {test : ℕ → Data → Result A TermsFault} {each : ℕ → Items → Result (List A) TermsFault} (reads : Reads test each)
-    (front : List A) (i : ℕ) (vs : List Value) (total : Result (List A) TermsFault) where
-  abbrev rest : A → Result (List A) TermsFault
-  rest y = each (i + 1 + 1) (items_view (drop (i + 1) vs)) >>= (λ xs. Ok (y ∷ xs))
-
-  place : (x : Value) → i < length vs → x ≡ get_or vs i x → each (i + 1) (items_view (drop i vs)) ≡ (test (i + 1) (view x) >>= rest)
-  place x lt at =
-      ap (each (i + 1)) (items_view-drop vs i x lt ∙ ap (λ v. item (view v) (items_view (drop (i + 1) vs))) (sym at))
-      ∙ reads.more (i + 1) (view x) (items_view (drop (i + 1) vs))
-
-  pub goes_on : (x : Value) (y : A) → i < length vs → x ≡ get_or vs i x → test (i + 1) (view x) ≡ Ok y → SoFar each front i vs total → SoFar each (front ++ y ∷ []) (i + 1) vs total
-  goes_on x y lt at h so_far =
-      let one : each (i + 1) (items_view (drop i vs)) ≡ rest y = place x lt at ∙ ap (λ r. r >>= rest) h in
-      let count = so_far.count in
-      record {
-        value = sym (regroup front y (each (i + 1 + 1) (items_view (drop (i + 1) vs)))) ∙ ap (with_front front) (sym one) ∙ so_far.value;
-        count = simp length-append (omega arith);
-      }
-
-  pub ends : (e : TermsFault) (x : Value) → i < length vs → x ≡ get_or vs i x → Fails e (test (i + 1) (view x)) → SoFar each front i vs total → Fails e total
-  ends e x lt at h so_far =
-      subst (Fails e) (ap (with_front front) (sym (place x lt at)) ∙ so_far.value) (Fails-first e front (test (i + 1) (view x)) rest h)
-
-  pub is_done : length vs ≤ i → SoFar each front i vs total → total ≡ Ok front
-  is_done le so_far =
-      let none : drop i vs ≡ [] = drop_all i vs le in
-      sym so_far.value ∙ ap (λ (l : List Value). with_front front (each (i + 1) (items_view l))) none ∙ ap (with_front front) (reads.none (i + 1)) ∙ ap Ok (append-nil front)
-
--- the sets
-pub sets_read : Reads set_at sets_of
-unfolding sets_of
-sets_read = record { none = λ n. refl; more = λ n d ds. refl }
 
 -- ---- the entries of a set's haircuts
 
@@ -146,11 +66,11 @@ module _ (set : ℕ) (table : List Haircut) (class : String Global) (value : Val
   pub has_room : length table < 256
   has_room = let room = so_far.room in omega arith
 
-  pub entry_ends : (e : TermsFault) → Fails e (haircut_of_entry set (string_bytes class) (view value)) → Fails e total
+  pub entry_ends : (b : Bool) (e : TermsFault) → Unless b (haircut_of_entry set (string_bytes class) (view value) ≡ Err e) → Unless b (total ≡ Err e)
   unfolding haircuts_of
-  entry_ends e h =
-      subst (Fails e) so_far.value
-      (Fails-first e table (haircut_of_entry set (string_bytes class) (view value)) (λ x. haircuts_of set (members_view left) >>= (λ xs. Ok (x ∷ xs))) h)
+  entry_ends b e h =
+      Unless-from b (λ is. sym so_far.value ∙ is)
+      (fails_first b e table (haircut_of_entry set (string_bytes class) (view value)) (λ x. haircuts_of set (members_view left) >>= (λ xs. Ok (x ∷ xs))) h)
 
   pub entry_goes_on : (h : Haircut) (new : List Haircut) → haircut_of_entry set (string_bytes class) (view value) ≡ Ok h → h.class ≡ string_bytes class
       → new ≡ with_haircut table h.class h.rate → EntriesSoFar set new left total

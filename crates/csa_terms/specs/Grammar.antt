@@ -5,37 +5,50 @@ use Rattle.std.specs.Prelude.{ℕ, ◌+◌, List, [], ◌∷◌, ◌++◌, Bool,
 use Rattle.std.specs.BTreeSet.{insert_key}
 use Rattle.std.specs.List.{list_any}
 use Rattle.std.specs.Ordering.{int_cmp}
-use Rattle.std.specs.Str.{is_utf8}
 use Rattle.toml.specs.Data.{Data, Items, no_items, item, Members, no_members, member, get_member, as_table}
-use Rattle.toml.specs.Parse.{parse_document}
 use Rattle.simm_kinds.specs.Order.{same_name}
+use Rattle.toml_values.specs.declared.range.Range.{Range}
+use Rattle.toml_values.specs.declared.fault.ValueFault.{ValueFault}
+use Rattle.toml_values.specs.declared.fault.ValueFault.TheVariants.{Missing, OutOfRange}
+use Rattle.toml_values.specs.Paths.{joined}
+use Rattle.toml_values.specs.Answers.{◌>>=◌}
+use Rattle.toml_values.specs.Values.{members_count, items_count, array_of, table_of, money_of, rate_of}
+use Rattle.toml_values.specs.Places.{each_of}
+use Rattle.toml_values.specs.Document.{document_of}
 use Rattle.csa_terms.specs.declared.fault.TermsFault.{TermsFault}
-use Rattle.csa_terms.specs.declared.fault.TermsFault.TheVariants.{Toml, Missing, OutOfRange, DuplicateSet, TooManySets}
-use Rattle.csa_terms.specs.declared.range.Range.{Range}
+use Rattle.csa_terms.specs.declared.fault.TermsFault.TheVariants.{Toml, DuplicateSet, TooManySets}
 use Rattle.csa_terms.specs.Terms.{Haircut, Agreement}
 use Rattle.csa_terms.specs.Ranges.{amounts, units, shares}
-use Rattle.csa_terms.specs.Faults.{set_path, key_path, part_path, ◌>>=◌, at}
-use Rattle.csa_terms.specs.Values.{array_of, table_of, set_name_of, name_of, money_of, rate_of, minute_of, date_of}
+use Rattle.csa_terms.specs.Faults.{of_value}
+use Rattle.csa_terms.specs.Values.{set_name_of, name_of, minute_of, date_of}
 
--- how many entries a table has, and how many places an array
-abbrev pub members_count : Members → ℕ
-members_count no_members = 0
-members_count (member key value rest) = members_count rest + 1
+-- ---- paths, in which sets and places count from 1
 
-abbrev pub items_count : Items → ℕ
-items_count no_items = 0
-items_count (item value rest) = items_count rest + 1
+unfoldable pub sets_path : List ℕ
+sets_path = joined (codes "set" ∷ [])
+
+unfoldable pub set_path : ℕ → List ℕ
+set_path set = joined (codes "set" ∷ decimal set ∷ [])
+
+unfoldable pub key_path : ℕ → List ℕ → List ℕ
+key_path set key = joined (codes "set" ∷ decimal set ∷ key ∷ [])
+
+unfoldable pub class_path : ℕ → List ℕ → List ℕ
+class_path set class = joined (codes "set" ∷ decimal set ∷ codes "haircuts" ∷ class ∷ [])
+
+unfoldable pub holiday_path : ℕ → ℕ → List ℕ
+holiday_path set place = joined (codes "set" ∷ decimal set ∷ codes "holidays" ∷ decimal place ∷ [])
 
 -- more than the most are out of range, with their count
-abbrev pub at_most : ℕ → List ℕ → ℕ → Result (Unit {0}) TermsFault
+abbrev pub at_most : ℕ → List ℕ → ℕ → Result (Unit {0}) ValueFault
 at_most most path count = if nat_lt most count then Err (OutOfRange path (pos count)) else Ok tt
 
 -- ---- haircuts, in the order of their classes: the class is tested before its rate
 
 unfoldable pub haircut_of_entry : ℕ → List ℕ → Data → Result Haircut TermsFault
 haircut_of_entry set class value = do
-  name ← at (part_path set (codes "haircuts") class) (name_of class)
-  rate ← at (part_path set (codes "haircuts") class) (rate_of shares (Some value))
+  name ← name_of (class_path set class) class
+  rate ← of_value (rate_of (class_path set class) shares (Some value))
   Ok (record { class = name; rate = rate })
 
 unfoldable pub haircuts_of : ℕ → Members → Result (List Haircut) TermsFault
@@ -47,8 +60,8 @@ haircuts_of set (member class value rest) = do
 
 unfoldable pub haircut_table_of : ℕ → Members → Result (List Haircut) TermsFault
 haircut_table_of set table = do
-  entries ← at (key_path set (codes "haircuts")) (table_of (get_member (codes "haircuts") table))
-  few ← at_most 256 (key_path set (codes "haircuts")) (members_count entries)
+  entries ← of_value (table_of (key_path set (codes "haircuts")) (get_member (codes "haircuts") table))
+  few ← of_value (at_most 256 (key_path set (codes "haircuts")) (members_count entries))
   haircuts_of set entries
 
 -- ---- holidays, whose places count from 1: behind the days of the places before, each day once and in order
@@ -56,21 +69,21 @@ haircut_table_of set table = do
 unfoldable pub holidays_from : ℕ → List ℤ → ℕ → Items → Result (List ℤ) TermsFault
 holidays_from set days place no_items = Ok days
 holidays_from set days place (item value rest) = do
-  day ← at (part_path set (codes "holidays") (decimal place)) (date_of (Some value))
+  day ← date_of (holiday_path set place) (Some value)
   holidays_from set (insert_key int_cmp days day) (place + 1) rest
 
 unfoldable pub holiday_list_of : ℕ → Members → Result (List ℤ) TermsFault
 holiday_list_of set table = do
-  places ← at (key_path set (codes "holidays")) (array_of (get_member (codes "holidays") table))
-  few ← at_most 4096 (key_path set (codes "holidays")) (items_count places)
+  places ← of_value (array_of (key_path set (codes "holidays")) (get_member (codes "holidays") table))
+  few ← of_value (at_most 4096 (key_path set (codes "holidays")) (items_count places))
   holidays_from set [] 1 places
 
 -- ---- a set
 
-abbrev pub money_at : ℕ → List ℕ → Members → Range → Result ℤ TermsFault
-money_at set key table range = at (key_path set key) (money_of range (get_member key table))
+abbrev pub money_at : ℕ → List ℕ → Members → Range → Result ℤ ValueFault
+money_at set key table range = money_of (key_path set key) range (get_member key table)
 
-unfoldable pub amounts_of : ℕ → Members → Result (ℤ × ℤ × ℤ × ℤ) TermsFault
+unfoldable pub amounts_of : ℕ → Members → Result (ℤ × ℤ × ℤ × ℤ) ValueFault
 amounts_of set table = do
   threshold ← money_at set (codes "threshold") table amounts
   mta_delivery ← money_at set (codes "mta_delivery") table amounts
@@ -80,10 +93,10 @@ amounts_of set table = do
 
 unfoldable pub set_of : ℕ → Members → Result Agreement TermsFault
 set_of set table = do
-  name ← at (key_path set (codes "name")) (set_name_of (get_member (codes "name") table))
-  cents ← amounts_of set table
-  notification ← at (key_path set (codes "notification")) (minute_of (get_member (codes "notification") table))
-  fx_haircut ← at (key_path set (codes "fx_haircut")) (rate_of shares (get_member (codes "fx_haircut") table))
+  name ← set_name_of (key_path set (codes "name")) (get_member (codes "name") table)
+  cents ← of_value (amounts_of set table)
+  notification ← minute_of (key_path set (codes "notification")) (get_member (codes "notification") table)
+  fx_haircut ← of_value (rate_of (key_path set (codes "fx_haircut")) shares (get_member (codes "fx_haircut") table))
   haircuts ← haircut_table_of set table
   holidays ← holiday_list_of set table
   Ok (record {
@@ -100,25 +113,21 @@ set_of set table = do
 
 -- ---- the sets, counted from 1
 
-unfoldable pub set_at : ℕ → Data → Result Agreement TermsFault
-set_at number value = do
-  table ← at (set_path number) (table_of (Some value))
+unfoldable pub set_of_place : ℕ → Data → Result Agreement TermsFault
+set_of_place number value = do
+  table ← of_value (table_of (set_path number) (Some value))
   set_of number table
 
-unfoldable pub sets_of : ℕ → Items → Result (List Agreement) TermsFault
-sets_of number no_items = Ok []
-sets_of number (item value rest) = do
-  set ← set_at number value
-  others ← sets_of (number + 1) rest
-  Ok (set ∷ others)
+abbrev pub set_at : ℕ → List Agreement → Data → Result Agreement TermsFault
+set_at number before value = set_of_place number value
 
 -- a place has a table
 abbrev pub has_table : Items → Bool
 has_table no_items = false
 has_table (item value rest) = is_some (as_table value) || has_table rest
 
-abbrev pub some_table : Items → Result (Unit {0}) TermsFault
-some_table places = if has_table places then Ok tt else Err (Missing (codes "set"))
+abbrev pub some_table : Items → Result (Unit {0}) ValueFault
+some_table places = if has_table places then Ok tt else Err (Missing sets_path)
 
 abbrev pub few_sets : ℕ → Result (Unit {0}) TermsFault
 few_sets count = if nat_lt 16 count then Err (TooManySets count) else Ok tt
@@ -137,16 +146,14 @@ once_each (Some name) = Err (DuplicateSet name)
 
 unfoldable pub terms_of_table : Members → Result (List Agreement) TermsFault
 terms_of_table root = do
-  places ← at (codes "set") (array_of (get_member (codes "set") root))
+  places ← of_value (array_of sets_path (get_member (codes "set") root))
   few ← few_sets (items_count places)
-  some ← some_table places
-  sets ← sets_of 1 places
+  some ← of_value (some_table places)
+  sets ← each_of set_at 1 [] places
   different ← once_each (repeated [] sets)
   Ok sets
 
--- the TOML document of UTF-8 text
-unfoldable pub document_of : List ℕ → Result Members TermsFault
-document_of bytes = ok_or (if is_utf8 bytes then parse_document bytes else None) Toml
-
 unfoldable pub terms_of : List ℕ → Result (List Agreement) TermsFault
-terms_of bytes = document_of bytes >>= terms_of_table
+terms_of bytes = do
+  root ← ok_or (document_of bytes) Toml
+  terms_of_table root

@@ -4,6 +4,7 @@ ghost use Rattle.csa_terms.specs.Faults.{terms_fault_number};
 use mh_units::Text;
 use simm_kinds::Name;
 use std::alloc::{AllocError, AllocFailed};
+use toml_values::ValueFault;
 
 /// Why a terms file was not taken: the first test that fails. A path is the keys joined by points, sets and places
 /// counted from 1, as `set.2.rounding`, `set.2.haircuts.CASH-USD` or `set.2.holidays.3`.
@@ -44,6 +45,21 @@ impl TermsFault {
             TermsFault::TooManySets(_) => Some(7),
             TermsFault::BadName(_) => Some(8),
             TermsFault::Memory => None,
+        }
+    }
+}
+
+impl From<ValueFault> for TermsFault {
+    ghost use Rattle.csa_terms.specs.Faults.{fault_of_value};
+
+    ghost from_gives = { λ value fault. fault ≡ fault_of_value value };
+
+    fn from(value: ValueFault) -> TermsFault {
+        match value {
+            ValueFault::Missing(path) => TermsFault::Missing(path),
+            ValueFault::BadNumber(path) => TermsFault::BadNumber(path),
+            ValueFault::OutOfRange(path, number) => TermsFault::OutOfRange(path, number),
+            ValueFault::Memory => TermsFault::Memory,
         }
     }
 }

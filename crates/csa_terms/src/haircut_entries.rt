@@ -1,21 +1,23 @@
-ghost use Rattle.std.specs.Prelude.{◌≡◌, ◌≤◌, Some, codes, length, IfOk};
+ghost use Rattle.std.specs.Prelude.{◌≡◌, ◌≤◌, Some, IfOk};
 ghost use Rattle.toml.specs.View.{view, table_view};
+ghost use Rattle.toml_values.specs.Answers.{Gives as GivesValue};
+ghost use Rattle.toml_values.specs.Values.{members_count, rate_of};
 ghost use Rattle.csa_terms.specs.Terms.{IsShare};
-ghost use Rattle.csa_terms.specs.Faults.{part_path, at, Gives};
+ghost use Rattle.csa_terms.specs.Faults.{Gives};
 ghost use Rattle.csa_terms.specs.Ranges.{shares};
-ghost use Rattle.csa_terms.specs.Values.{name_of, rate_of};
-ghost use Rattle.csa_terms.specs.Grammar.{members_count, haircut_of_entry, haircuts_of, haircut_table_of};
+ghost use Rattle.csa_terms.specs.Values.{name_of};
+ghost use Rattle.csa_terms.specs.Grammar.{class_path, haircut_of_entry, haircuts_of, haircut_table_of};
 
 use crate::fault::TermsFault;
 use crate::haircut_table::HaircutTable;
-use crate::keyed::{at_most, entry_count, table_at};
-use crate::path::{Path, at_path};
+use crate::keyed::{at_most, table_at};
 use crate::range::SHARE;
-use crate::value::{name, rate};
+use crate::value::name;
 use mh_units::Rate4;
 use simm_kinds::Name;
 use std::alloc::Global;
 use toml::{Table, Value};
+use toml_values::{Part, ValueFault, entry_count, rate};
 
 /// How many haircuts a set has at most.
 const MOST: usize = 256;
@@ -27,18 +29,32 @@ struct Entry {
     rate: Rate4,
 }
 
+#[tactic(auto, unfolding(crate::specs::Grammar::class_path))]
 fn class_of(alloc: Global, set: usize, class: &str) -> Result<Name, TermsFault>
-    ensures value { Gives (λ n. n) result (at (part_path set (codes "haircuts") class.now) (name_of class.now)) }
+    ensures value { Gives (λ n. n) result (name_of (class_path set class.now) class.now) }
     ensures same { IfOk result (λ n. n ≡ class.now) }
 {
-    at_path(alloc, Path::Haircut(set, class), name(alloc, class))
+    let path = [
+        Part::Key("set"),
+        Part::Place(set),
+        Part::Key("haircuts"),
+        Part::Key(class),
+    ];
+    name(alloc, &path, class)
 }
 
-fn rate_of(alloc: Global, set: usize, class: &str, value: &Value) -> Result<Rate4, TermsFault>
-    ensures value { Gives (λ r. r.0) result (at (part_path set (codes "haircuts") class.now) (rate_of shares (Some (view value.now)))) }
+#[tactic(auto, unfolding(crate::specs::Grammar::class_path))]
+fn rate_of(alloc: Global, set: usize, class: &str, value: &Value) -> Result<Rate4, ValueFault>
+    ensures value { GivesValue (λ r. r.0) result (rate_of (class_path set class.now) shares (Some (view value.now))) }
     ensures share { IfOk result (λ r. IsShare r.0) }
 {
-    at_path(alloc, Path::Haircut(set, class), rate(Some(value), SHARE))
+    let path = [
+        Part::Key("set"),
+        Part::Place(set),
+        Part::Key("haircuts"),
+        Part::Key(class),
+    ];
+    rate(alloc, &path, Some(value), SHARE)
 }
 
 #[tactic(auto, unfolding(crate::specs::Grammar::haircut_of_entry))]

@@ -1,27 +1,35 @@
-ghost use Rattle.std.specs.Prelude.{◌≤◌, [], Some, codes, decimal, length, IfOk};
+ghost use Rattle.std.specs.Prelude.{◌≡◌, ◌≤◌, [], Some, IfOk};
 ghost use Rattle.toml.specs.View.{view, items_view, table_view};
+ghost use Rattle.toml_values.specs.Values.{items_count};
 ghost use Rattle.csa_terms.specs.Terms.{IsCalendarDay};
-ghost use Rattle.csa_terms.specs.Faults.{part_path, at, Gives};
+ghost use Rattle.csa_terms.specs.Faults.{Gives};
 ghost use Rattle.csa_terms.specs.Values.{date_of};
-ghost use Rattle.csa_terms.specs.Grammar.{items_count, holidays_from, holiday_list_of};
+ghost use Rattle.csa_terms.specs.Grammar.{holiday_path, holidays_from, holiday_list_of};
 
 use crate::fault::TermsFault;
 use crate::holiday_list::HolidayList;
-use crate::keyed::{array_at, at_most, place_count};
-use crate::path::{Path, at_path};
+use crate::keyed::{array_at, at_most};
 use crate::value::date;
 use std::alloc::Global;
 use toml::{Table, Value};
+use toml_values::{Part, place_count};
 
 /// How many holidays a set has at most.
 const MOST: usize = 4_096;
 
 /// The day of a place, counted from 1.
+#[tactic(auto, unfolding(crate::specs::Grammar::holiday_path))]
 fn read_place(alloc: Global, set: usize, place: usize, value: &Value) -> Result<i32, TermsFault>
-    ensures value { Gives (λ d. d) result (at (part_path set (codes "holidays") (decimal place)) (date_of (Some (view value.now)))) }
+    ensures value { Gives (λ d. d) result (date_of (holiday_path set place) (Some (view value.now))) }
     ensures calendar { IfOk result IsCalendarDay }
 {
-    at_path(alloc, Path::Holiday(set, place), date(Some(value)))
+    let path = [
+        Part::Key("set"),
+        Part::Place(set),
+        Part::Key("holidays"),
+        Part::Place(place),
+    ];
+    date(alloc, &path, Some(value))
 }
 
 /// The holidays of an array's places.

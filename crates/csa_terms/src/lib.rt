@@ -15,7 +15,6 @@ mod lot_currency;
 mod moment;
 mod moment_words;
 mod names;
-mod path;
 mod range;
 mod reading;
 mod set_reader;
@@ -23,7 +22,6 @@ mod set_terms;
 mod sets;
 mod terms;
 mod value;
-mod value_fault;
 
 pub use due::{DayRange, due_day};
 pub use fault::TermsFault;

@@ -1,12 +1,4 @@
-ghost use Rattle.std.specs.Prelude.{◌≡◌, IsTrue};
-ghost use Rattle.csa_terms.specs.Ranges.{is_within, IsWithin};
-
-/// The numbers from `least` to `most`, both included.
-#[derive(Clone, Copy, Debug, PartialEq, Eq)]
-pub struct Range {
-    pub least: i64,
-    pub most: i64,
-}
+use toml_values::Range;
 
 /// An amount in cents: at most ten thousand billion dollars.
 pub const AMOUNT: Range = Range {
@@ -25,13 +17,3 @@ pub const SHARE: Range = Range {
     least: 0,
     most: 10_000,
 };
-
-impl Range {
-    /// Whether the number is one of the range.
-    pub fn contains(self, number: i128) -> bool
-        ensures value { result ≡ is_within self number }
-        ensures within { IsTrue result → IsWithin self number }
-    {
-        i128::from(self.least) <= number && number <= i128::from(self.most)
-    }
-}

@@ -1,5 +1,6 @@
 ghost use Rattle.std.specs.Prelude.{◌≡◌, IfOk};
 ghost use Rattle.toml.specs.View.{table_view};
+ghost use Rattle.toml_values.specs.Answers.{Gives as GivesValue};
 ghost use Rattle.csa_terms.specs.Terms.{IsAmount, IsRounding};
 ghost use Rattle.csa_terms.specs.Faults.{Gives};
 ghost use Rattle.csa_terms.specs.Grammar.{amounts_of, set_of};
@@ -12,10 +13,11 @@ use crate::range::{AMOUNT, UNIT};
 use crate::set_terms::{Amounts, SetTerms};
 use std::alloc::Global;
 use toml::Table;
+use toml_values::ValueFault;
 
 #[tactic(auto, unfolding(crate::specs::Grammar::amounts_of))]
-fn read_amounts(alloc: Global, set: usize, terms: &Table) -> Result<Amounts, TermsFault>
-    ensures value { Gives (λ a. (a.threshold.0, a.mta_delivery.0, a.mta_return.0, a.rounding.0)) result (amounts_of set (table_view terms.now)) }
+fn read_amounts(alloc: Global, set: usize, terms: &Table) -> Result<Amounts, ValueFault>
+    ensures value { GivesValue (λ a. (a.threshold.0, a.mta_delivery.0, a.mta_return.0, a.rounding.0)) result (amounts_of set (table_view terms.now)) }
     ensures amounts { IfOk result (λ a. IsAmount a.threshold.0 × IsAmount a.mta_delivery.0 × IsAmount a.mta_return.0 × IsRounding a.rounding.0) }
 {
     let threshold = money_at(alloc, set, terms, "threshold", AMOUNT)?;

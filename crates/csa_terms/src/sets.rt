@@ -1,29 +1,30 @@
-ghost use Rattle.std.specs.Prelude.{◌≡◌, ◌≤◌, ◌<◌, Some, is_some, codes, length, IfOk, OnOk};
-ghost use Rattle.toml.specs.Data.{get_member, as_table};
+ghost use Rattle.std.specs.Prelude.{◌≡◌, ◌≤◌, ◌<◌, [], Some, is_some, codes, length, IfOk, OnOk};
 ghost use Rattle.std.specs.List.{list_any};
+ghost use Rattle.toml.specs.Data.{get_member, as_table};
 ghost use Rattle.toml.specs.View.{view, items_view, table_view};
-ghost use Rattle.csa_terms.specs.Faults.{set_path, at, Gives};
-ghost use Rattle.csa_terms.specs.Values.{array_of, table_of};
-ghost use Rattle.csa_terms.specs.Grammar.{items_count, few_sets, some_table, set_at, sets_of, terms_of_table};
+ghost use Rattle.toml_values.specs.Answers.{Gives as GivesValue};
+ghost use Rattle.toml_values.specs.Values.{items_count, array_of, table_of};
+ghost use Rattle.toml_values.specs.Places.{each_of};
+ghost use Rattle.csa_terms.specs.Faults.{Gives};
+ghost use Rattle.csa_terms.specs.Grammar.{sets_path, set_path, few_sets, some_table, set_of_place, set_at, terms_of_table};
 
 use crate::fault::TermsFault;
-use crate::keyed::{member, place_count};
 use crate::names::check_names;
-use crate::path::{Path, at_path};
 use crate::set_reader::read_set;
 use crate::set_terms::SetTerms;
 use crate::terms::Terms;
-use crate::value::{array, table};
 use std::alloc::Global;
 use toml::{Table, Value};
+use toml_values::{Part, ValueFault, array, member, path_text, place_count, table};
 
 /// How many sets a file has at most.
 const MOST: usize = 16;
 
-fn set_places(alloc: Global, root: &Table) -> Result<&[Value], TermsFault>
-    ensures { Gives (λ a. items_view a.now) result (at (codes "set") (array_of (get_member (codes "set") (table_view root.now)))) }
+#[tactic(auto, unfolding(crate::specs::Grammar::sets_path))]
+fn set_places(alloc: Global, root: &Table) -> Result<&[Value], ValueFault>
+    ensures { GivesValue (λ a. items_view a.now) result (array_of sets_path (get_member (codes "set") (table_view root.now))) }
 {
-    at_path(alloc, Path::Sets, array(member(root, "set")))
+    array(alloc, &[Part::Key("set")], member(root, "set"))
 }
 
 fn check_count(places: &[Value]) -> Result<(), TermsFault>
@@ -43,25 +44,28 @@ fn has_table(places: &[Value]) -> bool
     places.iter().any(|value| value.as_table().is_some())
 }
 
-fn check_tables(alloc: Global, places: &[Value]) -> Result<(), TermsFault>
-    ensures value { Gives (λ u. u) result (some_table (items_view places.now)) }
+#[tactic(auto, unfolding(crate::specs::Grammar::sets_path))]
+fn check_tables(alloc: Global, places: &[Value]) -> Result<(), ValueFault>
+    ensures value { GivesValue (λ u. u) result (some_table (items_view places.now)) }
     ensures some { OnOk result (0 < items_count (items_view places.now)) }
 {
     if !has_table(places) {
-        return Err(TermsFault::Missing(Path::Sets.text(alloc)?));
+        return Err(ValueFault::Missing(path_text(alloc, &[Part::Key("set")])?));
     }
     Ok(())
 }
 
-fn set_table<'a>(alloc: Global, number: usize, value: &'a Value) -> Result<&'a Table, TermsFault>
-    ensures { Gives (λ t. table_view t.now) result (at (set_path number) (table_of (Some (view value.now)))) }
+#[tactic(auto, unfolding(crate::specs::Grammar::set_path))]
+fn set_table<'a>(alloc: Global, number: usize, value: &'a Value) -> Result<&'a Table, ValueFault>
+    ensures { GivesValue (λ t. table_view t.now) result (table_of (set_path number) (Some (view value.now))) }
 {
-    at_path(alloc, Path::Set(number), table(Some(value)))
+    let path = [Part::Key("set"), Part::Place(number)];
+    table(alloc, &path, Some(value))
 }
 
-#[tactic(auto, unfolding(crate::specs::Grammar::set_at))]
+#[tactic(auto, unfolding(crate::specs::Grammar::set_of_place))]
 fn read_place(alloc: Global, number: usize, value: &Value) -> Result<SetTerms, TermsFault>
-    ensures { Gives (λ t. t) result (set_at number (view value.now)) }
+    ensures { Gives (λ t. t) result (set_of_place number (view value.now)) }
 {
     let terms = set_table(alloc, number, value)?;
     read_set(alloc, number, terms)
@@ -69,7 +73,7 @@ fn read_place(alloc: Global, number: usize, value: &Value) -> Result<SetTerms, T
 
 /// The terms of the sets in their tables.
 fn read_places(alloc: Global, places: &[Value]) -> Result<Vec<SetTerms>, TermsFault>
-    ensures value { Gives (λ v. v.items) result (sets_of 1 (items_view places.now)) }
+    ensures value { Gives (λ v. v.items) result (each_of set_at 1 [] (items_view places.now)) }
     ensures len { IfOk result (λ v. length v.items ≡ items_count (items_view places.now)) }
 {
     let mut sets = Vec::with_capacity(alloc, places.len())?;

@@ -2,7 +2,9 @@ use Rattle.std.proofs.Common.{rules, ◌≡◌, ◌≤◌, length, arith}
 use Rattle.std.specs.Map.Iter.{deref_pair}
 use Rattle.std.proofs.lemmas.Map.Iter.{rest_more, rest_all}
 use Rattle.std.proofs.lemmas.Result.{err_from_is_err_and}
-use Rattle.csa_terms.proofs.Loops.{members_count-view, entries_begin, has_room, entry_ends, entry_goes_on, entries_done}
+use Rattle.toml_values.proofs.Shapes.{members_count-view}
+use Rattle.csa_terms.specs.Faults.{is_memory}
+use Rattle.csa_terms.proofs.Loops.{entries_begin, has_room, entry_ends, entry_goes_on, entries_done}
 use Rattle.csa_terms.proofs.haircut_entries.read_entries.Goals as goal
 
 pub loop-class-init : goal.loop-class-init
@@ -19,7 +21,7 @@ returns-in_err-entry c =
     let way = rw next at c.loop-class.invariant in
     let fails = rw c.as_str.ensures.value at c.in_err-entry.ensures.value in
     let p = err_from_is_err_and c.from_residual.result c.from_residual.ensures.1 in
-    rw (p.1, p.2) (entry_ends c.args.set c.loop-class.table c.in-Some.class.now c.in-Some.value.now c.next.new.self _ way c.in_err-entry.field-0.0 fails)
+    rw (p.1, p.2) (entry_ends c.args.set c.loop-class.table c.in-Some.class.now c.in-Some.value.now c.next.new.self _ way (is_memory c.in_err-entry.field-0.0) c.in_err-entry.field-0.0 fails)
 
 pub put-requires-clause-few : goal.put-requires-clause-few
 put-requires-clause-few c =

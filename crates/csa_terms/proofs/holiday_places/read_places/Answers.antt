@@ -1,7 +1,8 @@
 use Rattle.std.proofs.Common.{w32, FitsSigned, arith}
 use Rattle.std.proofs.lemmas.Int.{to_z-of_z, ints}
 use Rattle.std.proofs.lemmas.Result.{err_from_is_err_and}
-use Rattle.csa_terms.proofs.Loops.{items_count-view}
+use Rattle.toml_values.proofs.Shapes.{items_count-view}
+use Rattle.csa_terms.specs.Faults.{is_memory}
 use Rattle.csa_terms.proofs.Holidays.{days_begin, day_goes_on, day_ends, days_done}
 use Rattle.csa_terms.proofs.holiday_places.read_places.Goals as goal
 
@@ -12,7 +13,7 @@ pub returns-in_err-read_place : goal.returns-in_err-read_place
 returns-in_err-read_place c =
     let p = err_from_is_err_and c.from_residual.result c.from_residual.ensures.1 in
     rw (p.1, p.2)
-    (day_ends c.args.set c.loop-index.days c.loop-index.index c.args.places.now c.loop-index.invariant c.in_err-read_place.field-0.0 c.index-places-index.result c.loop-index-test.true c.index-places-index.is c.in_err-read_place.ensures.value)
+    (day_ends c.args.set c.loop-index.days c.loop-index.index c.args.places.now c.loop-index.invariant (is_memory c.in_err-read_place.field-0.0) c.in_err-read_place.field-0.0 c.index-places-index.result c.loop-index-test.true c.index-places-index.is c.in_err-read_place.ensures.value)
 
 pub insert-requires-clause-few : goal.insert-requires-clause-few
 insert-requires-clause-few c =

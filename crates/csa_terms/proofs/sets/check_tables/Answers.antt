@@ -1,9 +1,11 @@
 use Rattle.std.proofs.Common.{◌∙◌, sym, refl}
 use Rattle.csa_terms.proofs.Loops.{has_table-view, has_table-some}
+use Rattle.csa_terms.specs.Grammar.{sets_path}
 use Rattle.csa_terms.proofs.sets.check_tables.Goals as goal
 
 pub returns-then-not-has_table-clause-value : goal.returns-then-not-has_table-clause-value
-returns-then-not-has_table-clause-value c = rw (← has_table-view c.args.places.now, ← c.has_table.ensures, c.if-not-has_table.true, c.in_ok-text.ensures) refl
+unfolding sets_path
+returns-then-not-has_table-clause-value c = rw (← has_table-view c.args.places.now, ← c.has_table.ensures, c.if-not-has_table.true, c.in_ok-path_text.ensures) refl
 
 pub returns-clause-value : goal.returns-clause-value
 returns-clause-value c = rw (← has_table-view c.args.places.now, ← c.has_table.ensures, c.if-not-has_table.false) refl
