@@ -1,0 +1,4 @@
+pub mod Desk
+pub mod Publish
+pub mod Memory
+pub mod Text

@@ -1,0 +1,8 @@
+/// Why a desk did not take a notice.
+#[derive(Clone, Copy, Debug, PartialEq, Eq)]
+pub enum DeskFault {
+    /// The desk failed.
+    Failed,
+    /// The desk found no memory.
+    Memory,
+}

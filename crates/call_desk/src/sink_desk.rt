@@ -1,0 +1,70 @@
+ghost use Rattle.std.specs.Prelude.{◌≡◌, ℕ, None, option_map, OnOk, [], ◌++◌};
+ghost use Rattle.mh_io.specs.Told.{Appends};
+ghost use Rattle.mh_io.specs.Sink.{BreaksOff};
+ghost use Rattle.call_desk.specs.Desk.{Tells};
+ghost use Rattle.call_desk.specs.Text.{notice_text};
+
+use crate::desk::Desk;
+use crate::fault::DeskFault;
+use crate::notice::{Notice, push_notice};
+use mh_io::{Sink, put_all};
+use mh_units::Text;
+use std::alloc::Global;
+
+/// A desk that writes the line of each notice to a sink. It doesn't tell the notices that it was told.
+///
+/// A fault of the sink is a fault of the desk; a front of the line may have gone out then.
+#[derive(Drop)]
+pub struct SinkDesk<K> {
+    sink: K,
+    line: Text,
+    wants: u64,
+}
+
+impl<K> SinkDesk<K> {
+    /// A desk over a sink. It takes no memory.
+    pub fn new(alloc: Global, sink: K) -> SinkDesk<K>
+        ensures sink { result.sink ≡ sink }
+        ensures wants { result.wants ≡ 0 }
+    {
+        SinkDesk {
+            sink,
+            line: Text::new(alloc),
+            wants: 0,
+        }
+    }
+
+    /// Lends the sink. It takes no memory.
+    pub fn sink(&self) -> &K
+        ensures { result.now ≡ self.now.sink }
+    {
+        &self.sink
+    }
+}
+
+impl<K: Sink + Drop> Desk for SinkDesk<K> {
+    ghost seen = { λ d. record { faults = K.faults d.sink; wants = d.wants; told = None } };
+
+    fn tell(&mut self, notice: &Notice) -> Result<(), DeskFault>
+        ensures tells { Tells (record { faults = K.faults self.old.sink; wants = self.old.wants; told = None }) (record { faults = K.faults self.new.sink; wants = self.new.wants; told = None }) notice.now result }
+        ensures holds { OnOk result (Appends (K.holds self.old.sink) (K.holds self.new.sink) (notice_text notice.now)) }
+        ensures cut { result ≡ Err DeskFault.Failed → (put : ℕ) × BreaksOff (K.holds self.old.sink) (K.holds self.new.sink) (notice_text notice.now) put }
+        ensures stands { result ≡ Err DeskFault.Memory → self.new.sink ≡ self.old.sink }
+    {
+        self.line.clear();
+        if push_notice(&mut self.line, notice).is_err() {
+            self.wants = self.wants.saturating_add(1);
+            return Err(DeskFault::Memory);
+        }
+        match put_all(&mut self.sink, self.line.as_slice()) {
+            Ok(()) => Ok(()),
+            Err(_) => Err(DeskFault::Failed),
+        }
+    }
+
+    fn told_list(&self) -> Option<&[Notice]>
+        ensures { option_map (λ list. list.now) result ≡ None }
+    {
+        None
+    }
+}
