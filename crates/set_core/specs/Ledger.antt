@@ -17,9 +17,11 @@ use Rattle.set_core.specs.Book.{is_accepted}
 use Rattle.set_core.specs.Lots.{Lot, lots}
 use Rattle.set_core.specs.Calls.{made, outstanding}
 
+-- a lot with what counts of each dollar of it, looked up
 abbrev pub held_lot : Agreement → Lot → Held
 held_lot t lot = record { name = lot.name; value = lot.value; rate = rate_of t lot.class lot.currency }
 
+-- the lots and the outstanding calls of a journal, and how many calls were made
 abbrev pub holdings : Agreement → List (Entry Event Reply) → Holdings
 holdings t log = record { terms = t; lots = map (held_lot t) (lots log); calls = outstanding log; added = made log }
 
@@ -44,7 +46,7 @@ abbrev pub count_after : ℕ → Reply → ℕ
 count_after added (reply.Called note) = added + 1
 count_after added _ = added
 
--- a call more
+-- with the call that a reply makes
 abbrev pub with_call : Holdings → Reply → Holdings
 with_call h r = record h { calls = calls_added h.added h.calls r; added = count_after h.added r }
 
