@@ -3,4 +3,6 @@
 #![tactic(auto)]
 
 #[cfg(test)]
+mod call_desk_calls;
+#[cfg(test)]
 mod moment_texts;
