@@ -3,6 +3,22 @@
 #![tactic(auto)]
 
 #[cfg(test)]
+mod bucket_cache_calls;
+#[cfg(test)]
 mod call_desk_calls;
 #[cfg(test)]
+mod collateral_ledger_calls;
+#[cfg(test)]
+mod csa_calls_amounts;
+#[cfg(test)]
+mod csa_terms_calls;
+#[cfg(test)]
+mod makers;
+#[cfg(test)]
 mod moment_texts;
+#[cfg(test)]
+mod set_core_calls;
+#[cfg(test)]
+mod simm_params_calls;
+#[cfg(test)]
+mod simm_plain_calls;
