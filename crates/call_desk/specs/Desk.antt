@@ -1,5 +1,5 @@
 -- What is seen of a desk, and what telling it notices does.
-use Rattle.std.specs.Prelude.{◌≡◌, ℕ, ◌<◌, ◌≤◌, List, [], ◌∷◌, ◌++◌, Option, Some, Result, Err, length, take, option_map, IfNone, IsSome, OnOk, OnErr}
+use Rattle.std.specs.Prelude.{◌≡◌, ℕ, ◌<◌, ◌≤◌, List, [], ◌∷◌, ◌++◌, Option, Some, None, Result, Err, length, take, option_map, IfNone, IsSome, OnOk, OnErr}
 use Rattle.mh_io.specs.Faults.{Rises}
 use Rattle.call_desk.specs.declared.notice.Notice.{Notice}
 use Rattle.call_desk.specs.declared.fault.DeskFault.{DeskFault}
@@ -10,6 +10,10 @@ pub record DeskSeen : Type 0 where
   pub faults : ℕ
   pub wants : ℕ
   pub told : Option (List Notice)
+
+-- a desk that tells only these counts
+abbrev pub counts_alone : ℕ → ℕ → DeskSeen
+counts_alone faults wants = record { faults = faults; wants = wants; told = None }
 
 -- what is told gains these notices at its end
 abbrev pub Gains : DeskSeen → DeskSeen → List Notice → Type 0

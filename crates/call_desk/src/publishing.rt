@@ -112,7 +112,8 @@ fn tell_each(
 }
 
 /// Tells each desk the notices in order. A desk that answers a fault is told nothing more and is moved to the end of `retired`;
-/// the others keep their order. The caller drops what is retired.
+/// the others keep their order. The caller drops what is retired. Room for all desks is taken first, once among the retired and
+/// once for those that stay.
 ///
 /// # Errors
 ///

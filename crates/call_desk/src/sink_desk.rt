@@ -1,7 +1,7 @@
-ghost use Rattle.std.specs.Prelude.{◌≡◌, ℕ, None, option_map, OnOk, [], ◌++◌};
+ghost use Rattle.std.specs.Prelude.{◌≡◌, ℕ, None, option_map, OnOk};
 ghost use Rattle.mh_io.specs.Told.{Appends};
 ghost use Rattle.mh_io.specs.Sink.{BreaksOff};
-ghost use Rattle.call_desk.specs.Desk.{Tells};
+ghost use Rattle.call_desk.specs.Desk.{Tells, counts_alone};
 ghost use Rattle.call_desk.specs.Text.{notice_text};
 
 use crate::desk::Desk;
@@ -43,10 +43,12 @@ impl<K> SinkDesk<K> {
 }
 
 impl<K: Sink + Drop> Desk for SinkDesk<K> {
-    ghost seen = { λ d. record { faults = K.faults d.sink; wants = d.wants; told = None } };
+    ghost use Rattle.call_desk.specs.Desk.{counts_alone};
+
+    ghost seen = { λ d. counts_alone (K.faults d.sink) d.wants };
 
     fn tell(&mut self, notice: &Notice) -> Result<(), DeskFault>
-        ensures tells { Tells (record { faults = K.faults self.old.sink; wants = self.old.wants; told = None }) (record { faults = K.faults self.new.sink; wants = self.new.wants; told = None }) notice.now result }
+        ensures tells { Tells (counts_alone (K.faults self.old.sink) self.old.wants) (counts_alone (K.faults self.new.sink) self.new.wants) notice.now result }
         ensures holds { OnOk result (Appends (K.holds self.old.sink) (K.holds self.new.sink) (notice_text notice.now)) }
         ensures cut { result ≡ Err DeskFault.Failed → (put : ℕ) × BreaksOff (K.holds self.old.sink) (K.holds self.new.sink) (notice_text notice.now) put }
         ensures stands { result ≡ Err DeskFault.Memory → self.new.sink ≡ self.old.sink }
