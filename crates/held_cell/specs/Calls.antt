@@ -51,11 +51,11 @@ outcome_of (Err (halt.Full n heavy event)) entries = Full n heavy event
 outcome_of (Err (halt.Memory event)) entries = Memory event
 
 module _ {M E R B : Type 0} (weight : List (Entry E R) → ℕ) (is_full : List (Entry E R) → E → Type 0) where
-  -- Done ends what was seen with the call. Full comes by the limit of the journal seen, and shows its length and weight. At Full and Memory the event comes back
+  -- Done ends what was seen with the call. Full comes by the limit of the journal seen, and shows its length and weight. At Memory that journal had room. At Full and Memory the event comes back
   abbrev pub Answers : SeatState B E R → SeatState B E R → E → Outcome M E R B → Type 0
   Answers old new event (Done reply entries) = AddsCall is_full old new event reply × (entries ≡ length new.seen)
   Answers old new event (Full entries heavy back) = SeesMore old new × (entries ≡ length new.seen) × (heavy ≡ weight new.seen) × is_full new.seen event × (back ≡ event)
-  Answers old new event (Memory back) = SeesMore old new × (back ≡ event)
+  Answers old new event (Memory back) = SeesMore old new × (¬ is_full new.seen event) × (back ≡ event)
 
   -- the same without waiting
   abbrev pub TryAnswers : SeatState B E R → SeatState B E R → E → TryOutcome M E R B → Type 0

@@ -36,6 +36,10 @@ module _ {B E R : Type 0} where
   abbrev pub IsSeatOf : CellState B → SeatState B E R → Type 0
   IsSeatOf cell seat = (seat.table ≡ cell.table) × (seat.base ≡ Some cell.base)
 
+  -- its own are all entries of what it has seen whose caller is one of its callers, in order
+  abbrev pub HasOwn : SeatState B E R → Type 0
+  HasOwn seat = seat.own ≡ own_of seat.first seat.count seat.seen
+
   abbrev pub seat_state : TableId → View B E R → SeatState B E R
   seat_state table v = record {
     table = table;

@@ -1,6 +1,6 @@
 //! Calls in the name of a seat's first caller.
 ghost use Rattle.std.specs.Prelude.{◌≡◌, ◌+◌};
-ghost use Rattle.held_cell.specs.Seats.{IsSeatOf};
+ghost use Rattle.held_cell.specs.Seats.{HasOwn, IsSeatOf};
 ghost use Rattle.held_cell.specs.Calls.{Answers, TryAnswers, outcome_of};
 
 use crate::cell::HeldCell;
@@ -46,6 +46,7 @@ impl<M: Machine> HeldCell<M> {
     pub fn try_call(&self, seat: &mut Seat<M>, event: M::Event) -> TryOutcome<M>
         requires { IsSeatOf self.now seat.old }
         ensures legal { M.is_legal self.now.base seat.new.seen }
+        ensures own { HasOwn seat.new }
         ensures answer { TryAnswers M.weight M.is_full seat.old seat.new event result }
     {
         let loaded = self.load(&mut seat.pass);
@@ -74,10 +75,11 @@ impl<M: Machine> HeldCell<M> {
     ///
     /// At `Done` the seat has seen more: all that it had seen, and then what others did, and then this call, which is one
     /// more of its own. At `Full` and `Memory` it may have seen more of others, its own stand, and the event comes back;
-    /// `Full` comes by the limit of the journal that it has now seen.
+    /// `Full` comes by the limit of the journal that it has now seen, and `Memory` where that journal had room.
     pub fn call(&self, rt: &impl Wait, seat: &mut Seat<M>, event: M::Event) -> Outcome<M>
         requires { IsSeatOf self.now seat.old }
         ensures legal { M.is_legal self.now.base seat.new.seen }
+        ensures own { HasOwn seat.new }
         ensures once { seat.new.takes ≡ seat.old.takes + 1 }
         ensures answer { Answers M.weight M.is_full seat.old seat.new event result }
     {

@@ -1,5 +1,5 @@
 ghost use Rattle.std.specs.Prelude.{◌≡◌, ◌≤◌, [], IfOk};
-ghost use Rattle.held_cell.specs.Seats.{IsSeatOf};
+ghost use Rattle.held_cell.specs.Seats.{HasOwn, IsSeatOf};
 
 use crate::machine::Machine;
 use crate::seat::Seat;
@@ -71,6 +71,7 @@ impl<M: Machine> HeldCell<M> {
         requires callers { (1 ≤ callers) × (callers ≤ 1024) }
         ensures cell { IfOk result (λ r. (r.0.base ≡ M.base machine) × (r.0.callers ≡ callers)) }
         ensures seat { IfOk result (λ r. IsSeatOf r.0 r.1 × (r.1.first ≡ 0) × (r.1.count ≡ callers) × (r.1.seen ≡ []) × (r.1.own ≡ [])) }
+        ensures own { IfOk result (λ r. HasOwn r.1) }
     {
         let start = Start {
             machine: Snapshot::of(&machine),
@@ -99,7 +100,7 @@ impl<M: Machine> HeldCell<M> {
         requires all { seat.count ≡ self.callers }
         ensures base { M.base result ≡ self.base }
         ensures journal { M.journal result ≡ seat.seen }
-        ensures own { seat.own ≡ seat.seen }
+        ensures own { HasOwn seat × (seat.own ≡ seat.seen) }
         ensures legal { M.is_legal self.base seat.seen }
     {
         let HeldCell { table } = self;

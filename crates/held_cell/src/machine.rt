@@ -8,7 +8,7 @@ ghost use Rattle.held_cell.specs.Halts.{Explains};
 pub enum Halt<E> {
     /// The machine is at its limit: its journal has so many entries and weighs so much.
     Full { entries: u32, weight: u32, event: E },
-    /// There was no memory.
+    /// There was no memory, and the machine had room.
     Memory { event: E },
 }
 
@@ -67,7 +67,7 @@ pub enum Outcome<M: Machine> {
         weight: u32,
         event: M::Event,
     },
-    /// There was no memory. The event comes back.
+    /// There was no memory, and the machine had room. The event comes back.
     Memory {
         event: M::Event,
     },

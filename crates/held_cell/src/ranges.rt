@@ -1,6 +1,6 @@
 //! A seat's range of callers, cut in two and put together.
 ghost use Rattle.std.specs.Prelude.{◌≡◌, ◌+◌, ◌<◌};
-ghost use Rattle.held_cell.specs.Seats.{IsSeatOf, IsJoined, left_seat, right_seat};
+ghost use Rattle.held_cell.specs.Seats.{HasOwn, IsSeatOf, IsJoined, left_seat, right_seat};
 
 use crate::cell::HeldCell;
 use crate::machine::Machine;
@@ -52,6 +52,7 @@ impl<M: Machine> HeldCell<M> {
         requires some { (0 < left) × (left < seat.count) }
         ensures left { result.0 ≡ left_seat left seat }
         ensures right { result.1 ≡ right_seat left seat }
+        ensures own { HasOwn result.0 × HasOwn result.1 }
     {
         self.cut::<Brand>(seat, left)
     }
@@ -63,6 +64,7 @@ impl<M: Machine> HeldCell<M> {
         requires some { (0 < left) × (left < seat.count) }
         ensures left { result.0 ≡ left_seat left seat }
         ensures right { result.1 ≡ right_seat left seat }
+        ensures own { HasOwn result.0 × HasOwn result.1 }
     {
         let Seat {
             first,
@@ -95,6 +97,7 @@ impl<M: Machine> HeldCell<M> {
         requires beside { left.first + left.count ≡ right.first }
         ensures seat { IsSeatOf self.now result }
         ensures joined { IsJoined left right result }
+        ensures own { HasOwn result }
     {
         let Seat {
             first,

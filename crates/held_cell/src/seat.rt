@@ -1,4 +1,5 @@
 ghost use Rattle.std.specs.Prelude.{◌≡◌, length, Some};
+ghost use Rattle.held_cell.specs.Seats.{HasOwn};
 
 use crate::machine::Machine;
 use crate::view::Pass;
@@ -32,6 +33,7 @@ impl<M: Machine> Seat<M> {
     pub fn seen_len(&self) -> u32
         ensures length { result ≡ length self.now.seen }
         ensures legal { (base : M.Base) → self.now.base ≡ Some base → M.is_legal base self.now.seen }
+        ensures own { HasOwn self.now }
     {
         self.seen_len
     }
