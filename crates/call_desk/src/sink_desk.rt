@@ -45,12 +45,12 @@ impl<K> SinkDesk<K> {
 impl<K: Sink + Drop> Desk for SinkDesk<K> {
     ghost use Rattle.call_desk.specs.Desk.{counts_alone};
 
-    ghost seen = { λ d. counts_alone (K.faults d.sink) d.wants };
+    ghost seen = { λ d. counts_alone (K.seen d.sink).faults d.wants };
 
     fn tell(&mut self, notice: &Notice) -> Result<(), DeskFault>
-        ensures tells { Tells (counts_alone (K.faults self.old.sink) self.old.wants) (counts_alone (K.faults self.new.sink) self.new.wants) notice.now result }
-        ensures holds { OnOk result (Appends (K.holds self.old.sink) (K.holds self.new.sink) (notice_text notice.now)) }
-        ensures cut { result ≡ Err DeskFault.Failed → (put : ℕ) × BreaksOff (K.holds self.old.sink) (K.holds self.new.sink) (notice_text notice.now) put }
+        ensures tells { Tells (counts_alone (K.seen self.old.sink).faults self.old.wants) (counts_alone (K.seen self.new.sink).faults self.new.wants) notice.now result }
+        ensures holds { OnOk result (Appends (K.seen self.old.sink).holds (K.seen self.new.sink).holds (notice_text notice.now)) }
+        ensures cut { result ≡ Err DeskFault.Failed → (put : ℕ) × BreaksOff (K.seen self.old.sink) (K.seen self.new.sink) (notice_text notice.now) put }
         ensures stands { result ≡ Err DeskFault.Memory → self.new.sink ≡ self.old.sink }
     {
         self.line.clear();

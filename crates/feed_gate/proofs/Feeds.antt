@@ -4,6 +4,7 @@ use Rattle.std.specs.List.{count_by, filter_map}
 use Rattle.std.specs.Option.{is_none}
 use Rattle.std.specs.Io.KnownBytes.{append_known, prepend_known}
 use Rattle.std.proofs.lemmas.Bool.{false≢true}
+use Rattle.mh_io.specs.Source.{SourceSeen}
 use Rattle.mh_io.specs.Source as taking
 use Rattle.mh_io.specs.Lines as cut
 use Rattle.mh_io.specs.Lines.{lines, lines_behind}
@@ -67,8 +68,8 @@ prepend_nothing : (left : Option (List ℕ)) → left ≡ prepend_known [] left
 prepend_nothing None = refl
 prepend_nothing (Some left) = refl
 
-nothing_taken : (gave left : Option (List ℕ)) → taking.Takes gave gave left left []
-nothing_taken gave left = record { gave = append_nothing gave; left = prepend_nothing left }
+nothing_taken : (source : taking.SourceSeen) → taking.Takes source source []
+nothing_taken source = record { gave = append_nothing source.gave; left = prepend_nothing source.left }
 
 -- no lines are no items
 no_lines : (n : ℕ) → AreItems n [] []
@@ -89,22 +90,22 @@ breaks_at_once = record { before = []; behind = []; lines = refl; number = refl;
 some_behind : (xs : List (List ℕ)) (taken : List ℕ) → 0 < length xs → xs ≡ [] → taken ≡ []
 some_behind xs taken some none = absurd (omega (arith, some, ap length none))
 
-module _ {S : Type 0} (faults : S → ℕ) (name gave left : S → Option (List ℕ)) where
+module _ {S : Type 0} (seen : S → SourceSeen) where
   -- ---- one item
 
-  pub met : {first new : Lined S} (told : List Item) (item : Item) (s0 s1 : List Set) (r0 r1 : FeedReport) (why : Option FeedEnd) → TellsItems faults name gave left first new (told ++ item ∷ []) × ComesTo faults name gave left first new told (line_of item) → Meets item s0 s1 r0 r1 why → Takes faults name gave left first new told s0 s1 r0 r1 why
+  pub met : {first new : Lined S} (told : List Item) (item : Item) (s0 s1 : List Set) (r0 r1 : FeedReport) (why : Option FeedEnd) → TellsItems seen first new (told ++ item ∷ []) × ComesTo seen first new told (line_of item) → Meets item s0 s1 r0 r1 why → Takes seen first new told s0 s1 r0 r1 why
   met told item s0 s1 r0 r1 None at m = record { item = item; tells = at.0; sets = m.0; report = m.1 }
   met {first} {new} told item s0 s1 r0 r1 (Some why) at m = record {
-    ends = subst (λ w. EndsAt faults name gave left w first new told) (sym m.2) at.1;
+    ends = subst (λ w. EndsAt seen w first new told) (sym m.2) at.1;
     sets = m.0;
     report = m.1;
   }
 
   -- ---- many items
 
-  took_nothing : (held : Lined S) → Took faults name gave left held held []
+  took_nothing : (held : Lined S) → Took seen held held []
   took_nothing held = record {
-    takes = nothing_taken (gave held.source) (left held.source);
+    takes = nothing_taken (seen held.source);
     count = omega arith;
     named = refl;
     total = omega arith;
@@ -116,17 +117,17 @@ module _ {S : Type 0} (faults : S → ℕ) (name gave left : S → Option (List 
     came = λ later ended can. can;
   }
 
-  tells_none_yet : (held : Lined S) → TellsItems faults name gave left held held []
+  tells_none_yet : (held : Lined S) → TellsItems seen held held []
   tells_none_yet held = record {
     given = [];
     lines = record { taken = []; took = took_nothing held; lines = λ later ended _. refl; count = omega arith };
     items = no_lines (held.given + 1);
   }
 
-  pub ran_none : (held : Lined S) (sets : List Set) → RanTo faults name gave left held held sets sets no_report []
+  pub ran_none : (held : Lined S) (sets : List Set) → RanTo seen held held sets sets no_report []
   ran_none held sets = record { told = tells_none_yet held; sets = sym (nothing_after sets); done = refl; refused = refl }
 
-  pub ran_more : {a b c : Lined S} {s0 s1 s2 : List Set} {r1 r2 : FeedReport} {items : List Item} → RanTo faults name gave left a b s0 s1 r1 items → (t : TakesItem faults name gave left a c items s1 s2 r1 r2) → RanTo faults name gave left a c s0 s2 r2 (items ++ t.item ∷ [])
+  pub ran_more : {a b c : Lined S} {s0 s1 s2 : List Set} {r1 r2 : FeedReport} {items : List Item} → RanTo seen a b s0 s1 r1 items → (t : TakesItem seen a c items s1 s2 r1 r2) → RanTo seen a c s0 s2 r2 (items ++ t.item ∷ [])
   ran_more {a} {b} {c} {s0} {s1} {s2} {r1} {r2} {items} ran t =
       let answer : refusal s1 t.item ≡ refusal (map (after_feed items) s0) t.item = ap (λ s. refusal s t.item) ran.sets in
       record {
@@ -138,7 +139,7 @@ module _ {S : Type 0} (faults : S → ℕ) (name gave left : S → Option (List 
 
   -- ---- the whole
 
-  starved : {s : S} {new : Lined S} {items : List Item} (line : ℕ) → (at : ComesTo faults name gave left (fresh s) new items line) → BreaksAt line items at.lines.taken (is_ended new.supply)
+  starved : {s : S} {new : Lined S} {items : List Item} (line : ℕ) → (at : ComesTo seen (fresh s) new items line) → BreaksAt line items at.lines.taken (is_ended new.supply)
   starved {s} {new} {items} line at =
       let ended = is_ended new.supply in
       let can : CanCome new.supply [] ended = nothing_more new.supply in
@@ -161,12 +162,12 @@ module _ {S : Type 0} (faults : S → ℕ) (name gave left : S → Option (List 
   -- what the end says of the lines, and of the bytes that were taken
   pub record Ended (s : S) (new : Lined S) (items : List Item) (why : FeedEnd) : Type 0 where
     pub bytes : List ℕ
-    pub took : Took faults name gave left (fresh s) new bytes
+    pub took : Took seen (fresh s) new bytes
     pub stop : IsEnd why items bytes (is_ended new.supply)
     pub whole : why ≡ end_at.End → new.supply ≡ supply.Ended
     pub failed : why ≡ end_at.ReadFault → new.supply ≡ supply.Failed
 
-  ended : {s : S} {new : Lined S} {items : List Item} (why : FeedEnd) → EndsAt faults name gave left why (fresh s) new items → Ended s new items why
+  ended : {s : S} {new : Lined S} {items : List Item} (why : FeedEnd) → EndsAt seen why (fresh s) new items → Ended s new items why
   ended end_at.End ends = record { bytes = ends.0.taken; took = ends.0.took; stop = ends.0.feed; whole = λ _. ends.1; failed = λ e. absurd (end_fault e) }
   ended (end_at.Cut line) ends = record { bytes = ends.0.taken; took = ends.0.took; stop = ends.0.feed; whole = λ e. absurd (whole_other (end_at.Cut line) refl e); failed = λ e. absurd (fault_other (end_at.Cut line) refl e) }
   ended (end_at.LineLong line) ends = record { bytes = ends.taken; took = ends.took; stop = ends.feed; whole = λ e. absurd (whole_other (end_at.LineLong line) refl e); failed = λ e. absurd (fault_other (end_at.LineLong line) refl e) }
@@ -175,7 +176,7 @@ module _ {S : Type 0} (faults : S → ℕ) (name gave left : S → Option (List 
   ended (end_at.Memory line) ends = record { bytes = ends.lines.taken; took = ends.lines.took; stop = starved line ends; whole = λ e. absurd (whole_other (end_at.Memory line) refl e); failed = λ e. absurd (fault_other (end_at.Memory line) refl e) }
 
   -- the items and the end of a feed that was run from its first byte
-  pub over : (s : S) (new : Lined S) (s0 s1 : List Set) (r : FeedReport) → RanLines faults name gave left (fresh s) new s0 s1 r → AreLegal s1 → RanSource faults name gave left s new.source s0 s1 r
+  pub over : (s : S) (new : Lined S) (s0 s1 : List Set) (r : FeedReport) → RanLines seen (fresh s) new s0 s1 r → AreLegal s1 → RanSource seen s new.source s0 s1 r
   over s new s0 s1 r ran legal =
       let its : Ended s new ran.items r.end = ended r.end ran.ends in
       record {
@@ -193,11 +194,11 @@ module _ {S : Type 0} (faults : S → ℕ) (name gave left : S → Option (List 
       }
 
   -- a feed for which there was no memory from the start
-  pub never : (s : S) (sets : List Set) → AreLegal sets → RanSource faults name gave left s s sets sets (record no_report { end = end_at.Memory 1 })
+  pub never : (s : S) (sets : List Set) → AreLegal sets → RanSource seen s s sets sets (record no_report { end = end_at.Memory 1 })
   never s sets legal = record {
     taken = [];
     ended = false;
-    takes = nothing_taken (gave s) (left s);
+    takes = nothing_taken (seen s);
     few = omega arith;
     count = omega arith;
     named = refl;

@@ -1,13 +1,14 @@
 -- What running a feed does to its lines, to the sets and to its report.
 use Rattle.std.specs.Prelude.{◌≡◌, ℕ, ◌+◌, ◌≤◌, List, [], ◌∷◌, ◌++◌, length, Bool, Option, Some, None, true, map}
 use Rattle.std.specs.Io.KnownBytes.{IsAtEnd}
+use Rattle.mh_io.specs.Source.{SourceSeen}
 use Rattle.mh_io.specs.Faults.{Rises}
 use Rattle.mh_io.specs.Source as source
 use Rattle.mh_io.specs.Lines as cut
 use Rattle.mh_io.specs.Lines.{lines}
 use Rattle.mh_io.specs.Lined.{Lined}
 use Rattle.mh_io.specs.declared.lines_answer.Supply.TheVariants as supply
-use Rattle.mh_io.specs.declared.reading.TheConstants.{MOST_BYTES}
+use Rattle.mh_io.specs.Limits.{most_bytes}
 use Rattle.feed_reader.specs.Feed as message
 use Rattle.feed_reader.specs.Feed.{Item, items_of, line_of, feed}
 use Rattle.feed_reader.specs.Answers.{TellsItems, ComesTo, ReadsFeed, GoesOn}
@@ -41,20 +42,20 @@ Meets item old_sets new_sets old new (Some why) = (new_sets ≡ old_sets) × (ne
 
 -- ---- from one moment to a later one
 
-module _ {S : Type 0} (faults : S → ℕ) (name gave left : S → Option (List ℕ)) where
+module _ {S : Type 0} (seen : S → SourceSeen) where
   -- why no item came any more behind these
   abbrev pub EndsAt : FeedEnd → Lined S → Lined S → List Item → Type 0
-  EndsAt end_at.End first new items = ReadsFeed faults name gave left first new items message.Whole × (new.supply ≡ supply.Ended)
-  EndsAt (end_at.Cut line) first new items = ReadsFeed faults name gave left first new items (message.Cut line) × (new.supply ≡ supply.Ended)
-  EndsAt (end_at.LineLong line) first new items = ReadsFeed faults name gave left first new items (message.LineLong line)
-  EndsAt (end_at.TooLong taken) first new items = ReadsFeed faults name gave left first new items message.TooLong × (taken ≡ MOST_BYTES + 1)
-  EndsAt end_at.ReadFault first new items = ReadsFeed faults name gave left first new items message.Open × (new.supply ≡ supply.Failed)
-  EndsAt (end_at.Memory line) first new items = ComesTo faults name gave left first new items line
+  EndsAt end_at.End first new items = ReadsFeed seen first new items message.Whole × (new.supply ≡ supply.Ended)
+  EndsAt (end_at.Cut line) first new items = ReadsFeed seen first new items (message.Cut line) × (new.supply ≡ supply.Ended)
+  EndsAt (end_at.LineLong line) first new items = ReadsFeed seen first new items (message.LineLong line)
+  EndsAt (end_at.TooLong taken) first new items = ReadsFeed seen first new items message.TooLong × (taken ≡ most_bytes + 1)
+  EndsAt end_at.ReadFault first new items = ReadsFeed seen first new items message.Open × (new.supply ≡ supply.Failed)
+  EndsAt (end_at.Memory line) first new items = ComesTo seen first new items line
 
   -- one item more was told and met the sets
   pub record TakesItem (first new : Lined S) (told : List Item) (old_sets new_sets : List Set) (old_report new_report : FeedReport) : Type 0 where
     pub item : Item
-    pub tells : TellsItems faults name gave left first new (told ++ item ∷ [])
+    pub tells : TellsItems seen first new (told ++ item ∷ [])
     pub sets : new_sets ≡ map (after_feed (item ∷ [])) old_sets
     pub report : new_report ≡ with_answer old_report (refusal old_sets item)
 
@@ -70,7 +71,7 @@ module _ {S : Type 0} (faults : S → ℕ) (name gave left : S → Option (List 
 
   -- these items were told so far, and each met the sets
   pub record RanTo (old new : Lined S) (old_sets new_sets : List Set) (r : FeedReport) (items : List Item) : Type 0 where
-    pub told : TellsItems faults name gave left old new items
+    pub told : TellsItems seen old new items
     pub sets : new_sets ≡ map (after_feed items) old_sets
     pub done : r.done ≡ done_of old_sets items
     pub refused : r.refused ≡ refused_of old_sets items
@@ -102,7 +103,7 @@ abbrev pub IsEnd : FeedEnd → List Item → List ℕ → Bool → Type 0
 IsEnd end_at.End items taken ended = feed taken ended ≡ record { items = items; stop = message.Whole }
 IsEnd (end_at.Cut line) items taken ended = feed taken ended ≡ record { items = items; stop = message.Cut line }
 IsEnd (end_at.LineLong line) items taken ended = feed taken ended ≡ record { items = items; stop = message.LineLong line }
-IsEnd (end_at.TooLong most) items taken ended = (feed taken ended ≡ record { items = items; stop = message.TooLong }) × (most ≡ MOST_BYTES + 1)
+IsEnd (end_at.TooLong most) items taken ended = (feed taken ended ≡ record { items = items; stop = message.TooLong }) × (most ≡ most_bytes + 1)
 IsEnd end_at.ReadFault items taken ended = feed taken ended ≡ record { items = items; stop = message.Open }
 IsEnd (end_at.Memory line) items taken ended = BreaksAt line items taken ended
 
@@ -116,16 +117,16 @@ pub record RanOver (taken : List ℕ) (ended : Bool) (old_sets new_sets : List S
 
 -- a source that was run: the bytes that were taken from it are done, all of them where it ended, and they are no more than
 -- 33,554,433; it failed only where a fault was met; and each set is still one of its parameters and terms
-module _ {S : Type 0} (faults : S → ℕ) (name gave left : S → Option (List ℕ)) where
+module _ {S : Type 0} (seen : S → SourceSeen) where
   pub record RanSource (old new : S) (old_sets new_sets : List Set) (r : FeedReport) : Type 0 where
     pub taken : List ℕ
     pub ended : Bool
-    pub takes : source.Takes (gave old) (gave new) (left old) (left new) taken
-    pub few : length taken ≤ MOST_BYTES + 1
-    pub count : faults old ≤ faults new
-    pub named : name new ≡ name old
+    pub takes : source.Takes (seen old) (seen new) taken
+    pub few : length taken ≤ most_bytes + 1
+    pub count : (seen old).faults ≤ (seen new).faults
+    pub named : (seen new).name ≡ (seen old).name
     pub ran : RanOver taken ended old_sets new_sets r
     pub kept : AreKept old_sets new_sets
-    pub at_end : ended ≡ true → IsAtEnd (left new)
+    pub at_end : ended ≡ true → IsAtEnd (seen new).left
     pub whole : r.end ≡ end_at.End → ended ≡ true
-    pub failed : r.end ≡ end_at.ReadFault → Rises (faults old) (faults new)
+    pub failed : r.end ≡ end_at.ReadFault → Rises (seen old).faults (seen new).faults

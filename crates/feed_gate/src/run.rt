@@ -4,7 +4,7 @@ ghost use Rattle.mh_io.specs.Lined.{Lined};
 ghost use Rattle.feed_reader.specs.Feed.{Item, Sent};
 ghost use Rattle.feed_reader.specs.Answers.{TellsItems};
 ghost use Rattle.feed_gate.specs.declared.report.RefusedMessage.TheVariants as refused;
-ghost use Rattle.mh_io.specs.declared.reading.TheConstants.{MOST_BYTES};
+ghost use Rattle.mh_io.specs.Limits.{most_bytes};
 ghost use Rattle.feed_gate.specs.Sets.{AreApart, AreLegal};
 ghost use Rattle.feed_gate.specs.Run.{Takes, Meets, Reports, RanLines, RanSource};
 
@@ -22,7 +22,7 @@ use std::alloc::Global;
 /// none, which then makes no call.
 pub fn run_feed<S: Source>(alloc: Global, source: S, sets: &mut [SetState]) -> (S, FeedReport)
     requires { AreApart sets.old }
-    ensures { RanSource S.faults S.name S.gave S.left source result.0 sets.old sets.new result.1 }
+    ensures { RanSource S.seen source result.0 sets.old sets.new result.1 }
 {
     match lines_of(alloc, source) {
         Ok(mut lines) => {
@@ -50,7 +50,7 @@ fn facts_of(sets: &[SetState])
 
 fn run_lines<S: Source>(alloc: Global, lines: &mut Lines<S>, sets: &mut [SetState]) -> FeedReport
     requires { AreApart sets.old }
-    ensures { RanLines S.faults S.name S.gave S.left lines.old lines.new sets.old sets.new result }
+    ensures { RanLines S.seen lines.old lines.new sets.old sets.new result }
 {
     let mut report = FeedReport::new(alloc);
     loop {
@@ -71,7 +71,7 @@ fn take_item<S: Source>(
 ) -> Option<FeedEnd>
     requires apart { AreApart sets.old }
     requires few { report.old.done ≤ lines.old.given }
-    ensures takes { (first : Lined S) (told : List Item) → TellsItems S.faults S.name S.gave S.left first lines.old told → Takes S.faults S.name S.gave S.left first lines.new told sets.old sets.new report.old report.new result }
+    ensures takes { (first : Lined S) (told : List Item) → TellsItems S.seen first lines.old told → Takes S.seen first lines.new told sets.old sets.new report.old report.new result }
     ensures forward { result ≡ None → lines.old.given < lines.new.given }
 {
     // No feed has more lines than bytes, so the messages can be counted.

@@ -1,6 +1,7 @@
 -- What the lines that a call was given make of its answer.
 use Rattle.std.proofs.Common.{◌≡◌, ℕ, ◌+◌, ◌<◌, Bool, List, [], ◌∷◌, ◌++◌, Option, Some, None, Result, Ok, Err, length, refl, sym, ap, ◌∙◌, subst, arith, append_assoc, length-append}
 use Rattle.std.proofs.lemmas.List.{append-nil}
+use Rattle.mh_io.specs.Source.{SourceSeen}
 use Rattle.mh_io.specs.Lines as cut
 use Rattle.mh_io.specs.Lines.{LineRun, stopped, with_lines, lines_behind}
 use Rattle.mh_io.specs.Lined as reader
@@ -8,7 +9,7 @@ use Rattle.mh_io.specs.Lined.{Lined, CanCome, Took, Gave, IsStopped, ComesWhere,
 use Rattle.mh_io.specs.declared.lines_answer.LineStep.TheVariants.{End}
 use Rattle.mh_io.specs.declared.lines_answer.LineFault.{LineFault}
 use Rattle.mh_io.specs.declared.lines_answer.LineFault.TheVariants as line_fault
-use Rattle.mh_io.specs.declared.reading.TheConstants.{MOST_BYTES}
+use Rattle.mh_io.specs.Limits.{most_bytes}
 use Rattle.feed_reader.specs.declared.message.Fed.{Fed}
 use Rattle.feed_reader.specs.declared.fault.FeedFault.{FeedFault}
 use Rattle.feed_reader.specs.declared.fault.FeedFault.TheVariants as fault
@@ -30,18 +31,18 @@ pub fault_again : (given : ℕ) (f : LineFault) (stop : cut.Stop) → Err f ≡ 
 fault_again given f cut.Whole e = cc e
 fault_again given f cut.Open e = let same : f ≡ line_fault.ReadFault = cc e in ap (λ g. Err (feed_fault g (given + 1) (given + 1))) same
 fault_again given f cut.Long e = let same : f ≡ line_fault.LineLong = cc e in ap (λ g. Err (feed_fault g (given + 1) (given + 1))) same
-fault_again given f cut.Over e = let same : f ≡ line_fault.TooLong (MOST_BYTES + 1) = cc e in ap (λ g. Err (feed_fault g (given + 1) (given + 1))) same
+fault_again given f cut.Over e = let same : f ≡ line_fault.TooLong (most_bytes + 1) = cc e in ap (λ g. Err (feed_fault g (given + 1) (given + 1))) same
 
-module _ {S : Type 0} (faults : S → ℕ) (name gave left : S → Option (List ℕ)) where
+module _ {S : Type 0} (seen : S → SourceSeen) where
   -- the items of lines that were passed over, and of those behind them
-  after_passed : {a b : Lined S} (passed lines : List (List ℕ)) (given : Gave faults name gave left a b (passed ++ lines)) → ArePassed passed → (later : List ℕ) (ended : Bool) → CanCome b.supply later ended → feed_with a (given.taken ++ later) ended ≡ items_of (a.given + 1 + length passed) 0 (lines ++ (lines_with b later ended).lines) (lines_with b later ended).stop
+  after_passed : {a b : Lined S} (passed lines : List (List ℕ)) (given : Gave seen a b (passed ++ lines)) → ArePassed passed → (later : List ℕ) (ended : Bool) → CanCome b.supply later ended → feed_with a (given.taken ++ later) ended ≡ items_of (a.given + 1 + length passed) 0 (lines ++ (lines_with b later ended).lines) (lines_with b later ended).stop
   after_passed {a} {b} passed lines given over later ended can =
       ap (items_from (a.given + 1)) (given.lines later ended can)
       ∙ (ap (λ ls. items_of (a.given + 1) 0 ls (lines_with b later ended).stop) (append_assoc passed lines (lines_with b later ended).lines)
       ∙ passed_over (a.given + 1) passed (lines ++ (lines_with b later ended).lines) (lines_with b later ended).stop over)
 
   -- lines that are just these items, and the line behind them
-  abbrev comes_to : {a b : Lined S} (told : List Item) (before its : List (List ℕ)) (line : ℕ) → Gave faults name gave left a b (before ++ its) → AreItems (a.given + 1) before told → line ≡ a.given + length before + 1 → 0 < length (its ++ (lines_now b).lines) → ComesTo faults name gave left a b told line
+  abbrev comes_to : {a b : Lined S} (told : List Item) (before its : List (List ℕ)) (line : ℕ) → Gave seen a b (before ++ its) → AreItems (a.given + 1) before told → line ≡ a.given + length before + 1 → 0 < length (its ++ (lines_now b).lines) → ComesTo seen a b told line
   comes_to {a} {b} told before its line given items number there = record {
     before = before;
     its = its;
@@ -64,13 +65,13 @@ module _ {S : Type 0} (faults : S → ℕ) (name gave left : S → Option (List 
   some_lines b line further = omega (arith, length-append (line ∷ further) (lines_now b).lines)
 
   -- an item behind lines that are passed over
-  tells : {a b : Lined S} (passed : List (List ℕ)) (line : List ℕ) (further : List (List ℕ)) (item : Item) → Gave faults name gave left a b (passed ++ line ∷ further) → ArePassed passed → line_of item ≡ a.given + 1 + length passed → AreItems (a.given + 1 + length passed) (line ∷ further) (item ∷ []) → TellsItem faults name gave left a b item
+  tells : {a b : Lined S} (passed : List (List ℕ)) (line : List ℕ) (further : List (List ℕ)) (item : Item) → Gave seen a b (passed ++ line ∷ further) → ArePassed passed → line_of item ≡ a.given + 1 + length passed → AreItems (a.given + 1 + length passed) (line ∷ further) (item ∷ []) → TellsItem seen a b item
   tells {a} {b} passed line further item given over number is = record {
     comes = comes_to [] passed (line ∷ further) (line_of item) given (passed_items (a.given + 1) passed over) (omega arith) (some_lines b line further);
     whole = subst (λ n. AreItems n (line ∷ further) (item ∷ [])) (sym number) is;
   }
 
-  stops : {a b : Lined S} (passed lines : List (List ℕ)) (way : cut.Stop) (stop : FeedStop) → Gave faults name gave left a b (passed ++ lines) → ArePassed passed → items_of (a.given + 1 + length passed) 0 lines way ≡ no_items stop → IsStopped b way → TellsStop faults name gave left a b stop
+  stops : {a b : Lined S} (passed lines : List (List ℕ)) (way : cut.Stop) (stop : FeedStop) → Gave seen a b (passed ++ lines) → ArePassed passed → items_of (a.given + 1 + length passed) 0 lines way ≡ no_items stop → IsStopped b way → TellsStop seen a b stop
   stops {a} {b} passed lines way stop given over is is_stopped = record {
     taken = given.taken;
     took = given.took;
@@ -86,35 +87,35 @@ module _ {S : Type 0} (faults : S → ℕ) (name gave left : S → Option (List 
   -- ---- a call after others
 
   -- the items of the bytes that were taken
-  told_feed : {a b : Lined S} {told : List Item} (t : TellsItems faults name gave left a b told) (later : List ℕ) (ended : Bool) → CanCome b.supply later ended → feed_with a (t.lines.taken ++ later) ended ≡ with_items told (feed_with b later ended)
+  told_feed : {a b : Lined S} {told : List Item} (t : TellsItems seen a b told) (later : List ℕ) (ended : Bool) → CanCome b.supply later ended → feed_with a (t.lines.taken ++ later) ended ≡ with_items told (feed_with b later ended)
   told_feed {a} {b} {told} t later ended can =
       let run = lines_with b later ended in
       ap (items_from (a.given + 1)) (t.lines.lines later ended can)
       ∙ (t.items.told run.lines run.stop
       ∙ ap (with_items told) (items_at (a.given + 1 + length t.given) (b.given + 1) 0 run.lines run.stop (omega (arith, t.lines.count))))
 
-  then_tells : {a b c : Lined S} {told : List Item} {item : Item} → TellsItems faults name gave left a b told → TellsItem faults name gave left b c item → TellsItems faults name gave left a c (told ++ item ∷ [])
+  then_tells : {a b c : Lined S} {told : List Item} {item : Item} → TellsItems seen a b told → TellsItem seen b c item → TellsItems seen a c (told ++ item ∷ [])
   then_tells {a} {b} {c} {told} {item} so_far next =
       let n = b.given + 1 in
       let number : line_of item ≡ b.given + length next.comes.before + 1 = next.comes.number in
       record {
         given = so_far.given ++ (next.comes.before ++ next.comes.its);
-        lines = then_gave faults name gave left so_far.lines next.comes.lines;
+        lines = then_gave seen so_far.lines next.comes.lines;
         items = items_then (a.given + 1) n so_far.items (items_then n (line_of item) next.comes.items next.whole (omega arith)) (omega (arith, so_far.lines.count));
       }
 
-  then_comes : {a b c : Lined S} {told : List Item} {line : ℕ} → TellsItems faults name gave left a b told → ComesTo faults name gave left b c [] line → ComesTo faults name gave left a c told line
+  then_comes : {a b c : Lined S} {told : List Item} {line : ℕ} → TellsItems seen a b told → ComesTo seen b c [] line → ComesTo seen a c told line
   then_comes {a} {b} {c} {told} {line} so_far next =
-      let all : Gave faults name gave left a c ((so_far.given ++ next.before) ++ next.its) =
-      subst (Gave faults name gave left a c) (sym (append_assoc so_far.given next.before next.its)) (then_gave faults name gave left so_far.lines next.lines) in
+      let all : Gave seen a c ((so_far.given ++ next.before) ++ next.its) =
+      subst (Gave seen a c) (sym (append_assoc so_far.given next.before next.its)) (then_gave seen so_far.lines next.lines) in
       let items : AreItems (a.given + 1) (so_far.given ++ next.before) told =
       subst (AreItems (a.given + 1) (so_far.given ++ next.before)) (append-nil told) (items_then (a.given + 1) (b.given + 1) so_far.items next.items (omega (arith, so_far.lines.count))) in
       comes_to told (so_far.given ++ next.before) next.its line all items (omega (arith, next.number, so_far.lines.count, length-append so_far.given next.before)) next.there
 
-  then_stops : {a b c : Lined S} {told : List Item} {stop : FeedStop} → TellsItems faults name gave left a b told → TellsStop faults name gave left b c stop → ReadsFeed faults name gave left a c told stop
+  then_stops : {a b c : Lined S} {told : List Item} {stop : FeedStop} → TellsItems seen a b told → TellsStop seen b c stop → ReadsFeed seen a c told stop
   then_stops {a} {b} {c} {told} {stop} so_far last = record {
     taken = so_far.lines.taken ++ last.taken;
-    took = then_took faults name gave left so_far.lines.took last.took;
+    took = then_took seen so_far.lines.took last.took;
     feed =
         let ended = is_ended c.supply in
         let can : CanCome b.supply last.taken ended = subst (λ (t : List ℕ). CanCome b.supply t ended) (append-nil last.taken) (last.took.came [] ended (can_stop c.supply)) in
@@ -122,7 +123,7 @@ module _ {S : Type 0} (faults : S → ℕ) (name gave left : S → Option (List 
         ∙ (ap (with_items told) last.feed ∙ ap (λ (xs : List Item). let all : FeedRun = record { items = xs; stop = stop } in all) (append-nil told));
   }
 
-  pub follows : (a b c : Lined S) (told : List Item) (answer : Result (Option Fed) FeedFault) → TellsItems faults name gave left a b told → Answers faults name gave left b c answer → Follows faults name gave left a c told answer
+  pub follows : (a b c : Lined S) (told : List Item) (answer : Result (Option Fed) FeedFault) → TellsItems seen a b told → Answers seen b c answer → Follows seen a c told answer
   follows a b c told (Ok (Some fed)) so_far last = (then_tells so_far last, then_comes so_far last.comes)
   follows a b c told (Ok None) so_far last = then_stops so_far last
   follows a b c told (Err (fault.BadLine line)) so_far last = (then_tells so_far last, then_comes so_far last.comes)
@@ -136,12 +137,12 @@ module _ {S : Type 0} (faults : S → ℕ) (name gave left : S → Option (List 
 
   -- what an answer owes
   pub record Owed (a b : Lined S) (answer : Result (Option Fed) FeedFault) : Type 0 where
-    pub answers : Answers faults name gave left a b answer
+    pub answers : Answers seen a b answer
     pub stops : StopsLines answer b
     pub placed : IsPlaced answer a b
 
   -- the lines that were passed over, and then those that mean something
-  pub told : {a b : Lined S} (answer : Result (Option Fed) FeedFault) (passed : List (List ℕ)) (line : List ℕ) (further : List (List ℕ)) → Gave faults name gave left a b (passed ++ line ∷ further) → ArePassed passed → Means (a.given + 1 + length passed) (line ∷ further) b answer → Owed a b answer
+  pub told : {a b : Lined S} (answer : Result (Option Fed) FeedFault) (passed : List (List ℕ)) (line : List ℕ) (further : List (List ℕ)) → Gave seen a b (passed ++ line ∷ further) → ArePassed passed → Means (a.given + 1 + length passed) (line ∷ further) b answer → Owed a b answer
   told {a} {b} (Ok (Some fed)) passed line further given over means = record {
     answers = tells passed line further (Sent fed) given over means.1 means.0;
     stops = tt;
@@ -180,7 +181,7 @@ module _ {S : Type 0} (faults : S → ℕ) (name gave left : S → Option (List 
   }
 
   -- the input ended behind lines that were passed over
-  pub ended_outside : {a b : Lined S} (passed : List (List ℕ)) → Gave faults name gave left a b (passed ++ []) → ArePassed passed → IsStopped b cut.Whole → Owed a b (Ok None)
+  pub ended_outside : {a b : Lined S} (passed : List (List ℕ)) → Gave seen a b (passed ++ []) → ArePassed passed → IsStopped b cut.Whole → Owed a b (Ok None)
   ended_outside {a} {b} passed given over is_stopped = record {
     answers = stops passed [] cut.Whole Whole given over (nothing_further _ cut.Whole) is_stopped;
     stops = is_stopped;
@@ -188,7 +189,7 @@ module _ {S : Type 0} (faults : S → ℕ) (name gave left : S → Option (List 
   }
 
   -- a fault came behind them
-  pub fault_outside : {a b : Lined S} (f : LineFault) (passed : List (List ℕ)) → Gave faults name gave left a b (passed ++ []) → ArePassed passed → ComesWhere (Err f) b → Owed a b (Err (feed_fault f (b.given + 1) (b.given + 1)))
+  pub fault_outside : {a b : Lined S} (f : LineFault) (passed : List (List ℕ)) → Gave seen a b (passed ++ []) → ArePassed passed → ComesWhere (Err f) b → Owed a b (Err (feed_fault f (b.given + 1) (b.given + 1)))
   fault_outside {a} {b} line_fault.ReadFault passed given over is_stopped = record {
     answers = stops passed [] cut.Open Open given over (nothing_further _ cut.Open) is_stopped;
     stops = is_stopped;

@@ -1,10 +1,11 @@
 -- Lines that are given one after another.
-use Rattle.std.proofs.Common.{◌≡◌, ◌≢◌, ℕ, ◌-◌, Bool, true, false, List, [], ◌∷◌, ◌++◌, Option, Result, Ok, Err, length, take, drop, refl, sym, ap, ◌∙◌, subst, arith, append_assoc, length-drop}
+use Rattle.std.proofs.Common.{◌≡◌, ◌≢◌, ℕ, ◌-◌, Bool, true, false, List, [], ◌∷◌, ◌++◌, Result, Ok, Err, length, take, drop, refl, sym, ap, ◌∙◌, subst, arith, append_assoc, length-drop}
 use Rattle.std.proofs.lemmas.List.{append-nil, take_all}
 use Rattle.std.proofs.lemmas.List.Elements.{All-nil, All-append, All-cons}
 use Rattle.std.proofs.lemmas.Grind.{flat_map-append}
 use Rattle.std.proofs.Math.Seq.{take-append_seam}
 use denote.Enum.Bare.{sameb}
+use Rattle.mh_io.specs.Source.{SourceSeen}
 use Rattle.mh_io.specs.Lines.{Stop, Whole, Open, Long, Over}
 use Rattle.mh_io.specs.Lined.{Lined, Gave, lines_given, answer_at}
 use Rattle.mh_io.specs.declared.lines_answer.LineStep.{LineStep}
@@ -61,25 +62,25 @@ no_line_at Open e = cc e
 no_line_at Long e = cc e
 no_line_at Over e = cc e
 
-module _ {S : Type 0} (faults : S → ℕ) (name gave left : S → Option (List ℕ)) where
-  pub then_skips : {a b c : Lined S} (answer : Result LineStep LineFault) (line : List ℕ) → (passed : List (List ℕ)) × ArePassed passed × Gave faults name gave left a b passed → Gave faults name gave left b c (lines_given answer line) → Skips faults name gave left a c answer line
-  then_skips answer line so_far next = record { passed = so_far.0; over = so_far.1; lines = then_gave faults name gave left so_far.2 next }
+module _ {S : Type 0} (seen : S → SourceSeen) where
+  pub then_skips : {a b c : Lined S} (answer : Result LineStep LineFault) (line : List ℕ) → (passed : List (List ℕ)) × ArePassed passed × Gave seen a b passed → Gave seen b c (lines_given answer line) → Skips seen a c answer line
+  then_skips answer line so_far next = record { passed = so_far.0; over = so_far.1; lines = then_gave seen so_far.2 next }
 
   -- the line that ends a block was given behind those within it
-  pub block_ended : {a b c : Lined S} (last before after : List ℕ) → (inside : List (List ℕ)) × AreInside inside × Gave faults name gave left a b inside × (after ≡ before ++ block_of inside) → Gave faults name gave left b c (last ∷ []) → is_end last ≡ true → Encloses faults name gave left a c (Ok Line) before after
-  block_ended last before after so_far next is = record { inside = so_far.0; within = so_far.1; last = last; ends = λ _. is; lines = then_gave faults name gave left so_far.2 next; block = λ _. so_far.3 }
+  pub block_ended : {a b c : Lined S} (last before after : List ℕ) → (inside : List (List ℕ)) × AreInside inside × Gave seen a b inside × (after ≡ before ++ block_of inside) → Gave seen b c (last ∷ []) → is_end last ≡ true → Encloses seen a c (Ok Line) before after
+  block_ended last before after so_far next is = record { inside = so_far.0; within = so_far.1; last = last; ends = λ _. is; lines = then_gave seen so_far.2 next; block = λ _. so_far.3 }
 
   -- no further line was given
-  pub then_encloses : {a b c : Lined S} (answer : Result LineStep LineFault) (line before after : List ℕ) → answer ≢ Ok Line → (inside : List (List ℕ)) × AreInside inside × Gave faults name gave left a b inside → Gave faults name gave left b c (lines_given answer line) → Encloses faults name gave left a c answer before after
-  then_encloses answer line before after other so_far next = record { inside = so_far.0; within = so_far.1; last = line; ends = λ e. absurd (other e); lines = then_gave faults name gave left so_far.2 next; block = λ e. absurd (other e) }
+  pub then_encloses : {a b c : Lined S} (answer : Result LineStep LineFault) (line before after : List ℕ) → answer ≢ Ok Line → (inside : List (List ℕ)) × AreInside inside × Gave seen a b inside → Gave seen b c (lines_given answer line) → Encloses seen a c answer before after
+  then_encloses answer line before after other so_far next = record { inside = so_far.0; within = so_far.1; last = line; ends = λ e. absurd (other e); lines = then_gave seen so_far.2 next; block = λ e. absurd (other e) }
 
   -- memory was wanted for a line of a block
-  pub line_lost : {a b c : Lined S} (fault : LineFault) (line before after : List ℕ) → (inside : List (List ℕ)) × AreInside inside × Gave faults name gave left a b inside → Gave faults name gave left b c (line ∷ []) → is_end line ≡ false → Encloses faults name gave left a c (Err fault) before after
+  pub line_lost : {a b c : Lined S} (fault : LineFault) (line before after : List ℕ) → (inside : List (List ℕ)) × AreInside inside × Gave seen a b inside → Gave seen b c (line ∷ []) → is_end line ≡ false → Encloses seen a c (Err fault) before after
   line_lost fault line before after so_far next is = record {
     inside = so_far.0 ++ line ∷ [];
     within = one_more_inside so_far.0 line so_far.1 is;
     last = [];
     ends = λ e. absurd (cc e);
-    lines = subst (Gave faults name gave left _ _) (sym (append-nil (so_far.0 ++ line ∷ []))) (then_gave faults name gave left so_far.2 next);
+    lines = subst (Gave seen _ _) (sym (append-nil (so_far.0 ++ line ∷ []))) (then_gave seen so_far.2 next);
     block = λ e. absurd (cc e);
   }

@@ -5,7 +5,7 @@ use Rattle.mh_io.specs.Lines as cut
 use Rattle.mh_io.specs.Lined.{Lined, IsStopped}
 use Rattle.mh_io.specs.declared.lines_answer.LineFault.{LineFault}
 use Rattle.mh_io.specs.declared.lines_answer.LineFault.TheVariants as line_fault
-use Rattle.mh_io.specs.declared.reading.TheConstants.{MOST_BYTES}
+use Rattle.mh_io.specs.Limits.{most_bytes}
 use Rattle.feed_reader.specs.declared.message.Message.{Message}
 use Rattle.feed_reader.specs.declared.message.Message.TheVariants.{Crif}
 use Rattle.feed_reader.specs.declared.message.Meaning.{Meaning}
@@ -23,13 +23,13 @@ none_within (Tells message) = refl
 none_within Bad = refl
 
 module _ {S : Type 0} where
-  pub message_means : (held : Lined S) (n first : ℕ) (line : List ℕ) (message : Message) → is_passed_over line ≡ false → meaning_of line ≡ Tells message → first ≡ n → held.given ≤ MOST_BYTES → Means n (line ∷ []) held (Ok (Some (record { line = first; message = message })))
+  pub message_means : (held : Lined S) (n first : ℕ) (line : List ℕ) (message : Message) → is_passed_over line ≡ false → meaning_of line ≡ Tells message → first ≡ n → held.given ≤ most_bytes → Means n (line ∷ []) held (Ok (Some (record { line = first; message = message })))
   message_means held n first line message full is same few = rw same (message_line n line message full is, refl, few)
 
-  pub bad_means : (held : Lined S) (n first : ℕ) (line : List ℕ) → is_passed_over line ≡ false → meaning_of line ≡ Bad → first ≡ n → held.given ≤ MOST_BYTES → Means n (line ∷ []) held (Err (fault.BadLine first))
+  pub bad_means : (held : Lined S) (n first : ℕ) (line : List ℕ) → is_passed_over line ≡ false → meaning_of line ≡ Bad → first ≡ n → held.given ≤ most_bytes → Means n (line ∷ []) held (Err (fault.BadLine first))
   bad_means held n first line full is same few = rw same (bad_line n line full is, refl, refl, few)
 
-  pub block_means : (held : Lined S) (n first : ℕ) (line set : List ℕ) (inside : List (List ℕ)) (last block : List ℕ) → is_passed_over line ≡ false → meaning_of line ≡ Opens set → AreInside inside → is_end last ≡ true → first ≡ n → block ≡ block_of inside → held.given ≤ MOST_BYTES → Means n (line ∷ (inside ++ last ∷ [])) held (Ok (Some (record { line = first; message = Crif set block })))
+  pub block_means : (held : Lined S) (n first : ℕ) (line set : List ℕ) (inside : List (List ℕ)) (last block : List ℕ) → is_passed_over line ≡ false → meaning_of line ≡ Opens set → AreInside inside → is_end last ≡ true → first ≡ n → block ≡ block_of inside → held.given ≤ most_bytes → Means n (line ∷ (inside ++ last ∷ [])) held (Ok (Some (record { line = first; message = Crif set block })))
   block_means held n first line set inside last block full is within ends same whole few =
       rw (same, whole) (block_lines n line set inside last full is within ends, refl, few)
 

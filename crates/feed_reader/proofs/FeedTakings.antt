@@ -3,7 +3,7 @@ use Rattle.std.proofs.Common.{◌≡◌, ◌≢◌, ◌⊎◌, inl, inr, ℕ, �
 use Rattle.std.proofs.lemmas.List.{append-nil}
 use Rattle.std.specs.Io.KnownBytes.{append_known, prepend_known}
 use Rattle.mh_io.specs.Faults.{Rises}
-use Rattle.mh_io.specs.Source.{Takes}
+use Rattle.mh_io.specs.Source.{SourceSeen, Takes}
 use Rattle.mh_io.specs.Lines.{LineRun, with_lines}
 use Rattle.mh_io.specs.Lined.{Lined, CanCome, Took, Gave, is_ended, lines_with}
 use Rattle.mh_io.specs.declared.lines_answer.Supply.{Supply}
@@ -37,10 +37,10 @@ prepend_twice : (left : Option (List ℕ)) (xs ys : List ℕ) → prepend_known 
 prepend_twice None xs ys = refl
 prepend_twice (Some left) xs ys = ap (λ (zs : List ℕ). Some zs) (sym (append_assoc xs ys left))
 
-then_takes : {g0 g1 g2 l0 l1 l2 : Option (List ℕ)} {xs ys : List ℕ} → Takes g0 g1 l0 l1 xs → Takes g1 g2 l1 l2 ys → Takes g0 g2 l0 l2 (xs ++ ys)
-then_takes {g0} {g1} {g2} {l0} {l1} {l2} {xs} {ys} a b = record {
-  gave = b.gave ∙ (ap (λ g. append_known g ys) a.gave ∙ append_twice g0 xs ys);
-  left = a.left ∙ (ap (λ l. prepend_known xs l) b.left ∙ prepend_twice l2 xs ys);
+then_takes : {old mid new : SourceSeen} {xs ys : List ℕ} → Takes old mid xs → Takes mid new ys → Takes old new (xs ++ ys)
+then_takes {old} {mid} {new} {xs} {ys} a b = record {
+  gave = b.gave ∙ (ap (λ g. append_known g ys) a.gave ∙ append_twice old.gave xs ys);
+  left = a.left ∙ (ap (λ l. prepend_known xs l) b.left ∙ prepend_twice new.left xs ys);
 }
 
 rose_by : (a b c most : ℕ) → a ≤ b → b ≤ c → (b < most → b < c) → a < most → a < c
@@ -56,10 +56,10 @@ rises_behind {a} {b} {c} kept later = record {
 lines_twice : (xs ys : List (List ℕ)) (run : LineRun) → with_lines xs (with_lines ys run) ≡ with_lines (xs ++ ys) run
 lines_twice xs ys run = ap (λ (zs : List (List ℕ)). let all : LineRun = record { lines = zs; stop = run.stop } in all) (sym (append_assoc xs ys run.lines))
 
-module _ {S : Type 0} (faults : S → ℕ) (name gave left : S → Option (List ℕ)) where
-  took_nothing : (held : Lined S) → Took faults name gave left held held []
+module _ {S : Type 0} (seen : S → SourceSeen) where
+  took_nothing : (held : Lined S) → Took seen held held []
   took_nothing held = record {
-    takes = record { gave = append_nothing (gave held.source); left = prepend_nothing (left held.source) };
+    takes = record { gave = append_nothing (seen held.source).gave; left = prepend_nothing (seen held.source).left };
     count = omega arith;
     named = refl;
     total = omega arith;
@@ -72,7 +72,7 @@ module _ {S : Type 0} (faults : S → ℕ) (name gave left : S → Option (List 
   }
 
   -- one taking after another
-  pub then_took : {a b c : Lined S} {xs ys : List ℕ} → Took faults name gave left a b xs → Took faults name gave left b c ys → Took faults name gave left a c (xs ++ ys)
+  pub then_took : {a b c : Lined S} {xs ys : List ℕ} → Took seen a b xs → Took seen b c ys → Took seen a c (xs ++ ys)
   then_took {a} {b} {c} {xs} {ys} first second = record {
     takes = then_takes first.takes second.takes;
     count = let k = first.count in let l = second.count in omega arith;
@@ -93,11 +93,11 @@ module _ {S : Type 0} (faults : S → ℕ) (name gave left : S → Option (List 
   }
 
   -- before the first line
-  pub gave_none : (held : Lined S) → Gave faults name gave left held held []
+  pub gave_none : (held : Lined S) → Gave seen held held []
   gave_none held = record { taken = []; took = took_nothing held; lines = λ later ended _. refl; count = omega arith }
 
   -- lines, and then further ones
-  pub then_gave : {a b c : Lined S} {xs ys : List (List ℕ)} → Gave faults name gave left a b xs → Gave faults name gave left b c ys → Gave faults name gave left a c (xs ++ ys)
+  pub then_gave : {a b c : Lined S} {xs ys : List (List ℕ)} → Gave seen a b xs → Gave seen b c ys → Gave seen a c (xs ++ ys)
   then_gave {a} {b} {c} {xs} {ys} first second = record {
     taken = first.taken ++ second.taken;
     took = then_took first.took second.took;

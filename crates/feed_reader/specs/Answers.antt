@@ -1,10 +1,11 @@
 -- What a call for the next message answers.
 use Rattle.std.specs.Prelude.{◌≡◌, ℕ, ◌+◌, ◌<◌, ◌≤◌, List, [], ◌∷◌, ◌++◌, length, Bool, Option, Some, None, Result, Ok, Err}
 use Rattle.std.specs.List.{AllByRecursion}
+use Rattle.mh_io.specs.Source.{SourceSeen}
 use Rattle.mh_io.specs.Lines as cut
 use Rattle.mh_io.specs.Lined.{Lined, CanCome, Took, Gave, IsStopped, is_ended, lines_with, lines_now}
 use Rattle.mh_io.specs.declared.lines_answer.Supply.TheVariants as supply
-use Rattle.mh_io.specs.declared.reading.TheConstants.{MOST_BYTES}
+use Rattle.mh_io.specs.Limits.{most_bytes}
 use Rattle.feed_reader.specs.declared.message.Fed.{Fed}
 use Rattle.feed_reader.specs.declared.fault.FeedFault.{FeedFault}
 use Rattle.feed_reader.specs.declared.fault.FeedFault.TheVariants as fault
@@ -23,11 +24,11 @@ fresh source = record { source = source; pending = []; passed = 0; given = 0; su
 abbrev pub GoesOn : List Item → ℕ → List Item → Type 0
 GoesOn told line items = (rest : List Item) × (items ≡ told ++ rest) × AllByRecursion (λ item. line ≤ line_of item) rest
 
-module _ {S : Type 0} (faults : S → ℕ) (name gave left : S → Option (List ℕ)) where
+module _ {S : Type 0} (seen : S → SourceSeen) where
   -- these items were told: the lines that were given are these items, whatever is taken later
   pub record TellsItems (old new : Lined S) (told : List Item) : Type 0 where
     pub given : List (List ℕ)
-    pub lines : Gave faults name gave left old new given
+    pub lines : Gave seen old new given
     pub items : AreItems (old.given + 1) given told
 
   -- Behind these items this line was come to. The lines that were given before it are just the items, each whole, and
@@ -36,7 +37,7 @@ module _ {S : Type 0} (faults : S → ℕ) (name gave left : S → Option (List 
   pub record ComesTo (old new : Lined S) (told : List Item) (line : ℕ) : Type 0 where
     pub before : List (List ℕ)
     pub its : List (List ℕ)
-    pub lines : Gave faults name gave left old new (before ++ its)
+    pub lines : Gave seen old new (before ++ its)
     pub items : AreItems (old.given + 1) before told
     pub number : line ≡ old.given + length before + 1
     pub there : 0 < length (its ++ (lines_now new).lines)
@@ -56,13 +57,13 @@ module _ {S : Type 0} (faults : S → ℕ) (name gave left : S → Option (List 
   -- no item came any more, and what was taken stops in this way
   pub record TellsStop (old new : Lined S) (stop : FeedStop) : Type 0 where
     pub taken : List ℕ
-    pub took : Took faults name gave left old new taken
+    pub took : Took seen old new taken
     pub feed : feed_with old taken (is_ended new.supply) ≡ no_items stop
 
   -- all calls up to the one at which the feed stops told these items
   pub record ReadsFeed (old new : Lined S) (items : List Item) (stop : FeedStop) : Type 0 where
     pub taken : List ℕ
-    pub took : Took faults name gave left old new taken
+    pub took : Took seen old new taken
     pub feed : feed_with old taken (is_ended new.supply) ≡ record { items = items; stop = stop }
 
   -- what this call told together with all calls before it, from the first on
@@ -83,7 +84,7 @@ module _ {S : Type 0} (faults : S → ℕ) (name gave left : S → Option (List 
   Answers old new (Err (fault.BadLine line)) = TellsItem old new (BadAt line)
   Answers old new (Err (fault.Cut line)) = TellsStop old new (Cut line)
   Answers old new (Err (fault.LineLong line)) = TellsStop old new (LineLong line)
-  Answers old new (Err (fault.TooLong taken)) = TellsStop old new TooLong × (taken ≡ MOST_BYTES + 1)
+  Answers old new (Err (fault.TooLong taken)) = TellsStop old new TooLong × (taken ≡ most_bytes + 1)
   Answers old new (Err fault.ReadFault) = TellsStop old new Open
   Answers old new (Err (fault.Memory line)) = BreaksOff old new line
 
@@ -103,13 +104,13 @@ abbrev pub answer_at : ℕ → cut.Stop → Result (Option Fed) FeedFault
 answer_at given cut.Whole = Ok None
 answer_at given cut.Open = Err fault.ReadFault
 answer_at given cut.Long = Err (fault.LineLong (given + 1))
-answer_at given cut.Over = Err (fault.TooLong (MOST_BYTES + 1))
+answer_at given cut.Over = Err (fault.TooLong (most_bytes + 1))
 
 -- An item begins in one of the lines that this call was given, and no more than 33,554,432 were given; want of memory may name the next line too
 abbrev pub IsPlaced : {S : Type 0} → Result (Option Fed) FeedFault → Lined S → Lined S → Type 0
-IsPlaced (Ok (Some fed)) old new = (old.given < fed.line) × (fed.line ≤ new.given) × (new.given ≤ MOST_BYTES)
+IsPlaced (Ok (Some fed)) old new = (old.given < fed.line) × (fed.line ≤ new.given) × (new.given ≤ most_bytes)
 IsPlaced (Ok None) old new = Unit {0}
-IsPlaced (Err (fault.BadLine line)) old new = (old.given < line) × (line ≡ new.given) × (new.given ≤ MOST_BYTES)
+IsPlaced (Err (fault.BadLine line)) old new = (old.given < line) × (line ≡ new.given) × (new.given ≤ most_bytes)
 IsPlaced (Err (fault.Cut line)) old new = (old.given < line) × (line ≤ new.given)
 IsPlaced (Err (fault.LineLong line)) old new = old.given < line
 IsPlaced (Err (fault.TooLong taken)) old new = Unit {0}

@@ -1,4 +1,4 @@
-ghost use Rattle.mh_io.specs.declared.reading.TheConstants.{MOST_BYTES};
+ghost use Rattle.mh_io.specs.Limits.{most_bytes};
 ghost use Rattle.std.specs.Prelude.{◌≡◌, ◌≤◌, ◌+◌, length, Ok, false};
 ghost use Rattle.feed_reader.specs.Line.{is_passed_over};
 ghost use Rattle.feed_reader.specs.Steps.{Skips, Encloses, StopsAt};
@@ -15,9 +15,9 @@ pub(crate) fn skip_to_line<S: Source>(
     lines: &mut Lines<S>,
     line: &mut Bytes,
 ) -> Result<LineStep, LineFault>
-    ensures skips { Skips S.faults S.name S.gave S.left lines.old lines.new result line.new }
+    ensures skips { Skips S.seen lines.old lines.new result line.new }
     ensures comes { ComesWhere result lines.new }
-    ensures bounded { lines.new.passed + length lines.new.pending ≤ MOST_BYTES + 1 }
+    ensures bounded { lines.new.passed + length lines.new.pending ≤ most_bytes + 1 }
     ensures full { result ≡ Ok LineStep.Line → is_passed_over line.new ≡ false }
     ensures again { (stop : Stop) → IsStopped lines.old stop → (lines.new ≡ lines.old) × (result ≡ reader.answer_at stop) }
 {
@@ -35,10 +35,10 @@ pub(crate) fn read_block<S: Source>(
     lines: &mut Lines<S>,
     block: &mut Bytes,
 ) -> Result<LineStep, LineFault>
-    ensures encloses { Encloses S.faults S.name S.gave S.left lines.old lines.new result block.old block.new }
+    ensures encloses { Encloses S.seen lines.old lines.new result block.old block.new }
     ensures stops { StopsAt result lines.new }
-    ensures bounded { lines.new.passed + length lines.new.pending ≤ MOST_BYTES + 1 }
-    ensures few { result ≡ Ok LineStep.Line → lines.new.given ≤ MOST_BYTES }
+    ensures bounded { lines.new.passed + length lines.new.pending ≤ most_bytes + 1 }
+    ensures few { result ≡ Ok LineStep.Line → lines.new.given ≤ most_bytes }
 {
     loop {
         let before = block.as_slice().len();

@@ -1,6 +1,6 @@
 ghost use Rattle.std.specs.Prelude.{◌≡◌, ℕ, ◌+◌, ◌≤◌, length, List, [], ◌∷◌, ◌++◌, false};
 ghost use Rattle.mh_io.specs.Lines.{Stop};
-ghost use Rattle.mh_io.specs.declared.reading.TheConstants.{MOST_BYTES};
+ghost use Rattle.mh_io.specs.Limits.{most_bytes};
 ghost use Rattle.mh_io.specs.Lined.{Lined, Gave, IsStopped};
 ghost use Rattle.feed_reader.specs.Feed.{Item};
 ghost use Rattle.feed_reader.specs.Line.{is_passed_over, meaning_of};
@@ -35,8 +35,8 @@ fn read_crif<S: Source>(
     lines: &mut Lines<S>,
     set: Name,
 ) -> Result<Option<Fed>, FeedFault>
-    ensures tells { (line : List ℕ) → is_passed_over line ≡ false → meaning_of line ≡ Meaning.Opens set → Tells S.faults S.name S.gave S.left lines.old lines.new line result }
-    ensures bounded { lines.new.passed + length lines.new.pending ≤ MOST_BYTES + 1 }
+    ensures tells { (line : List ℕ) → is_passed_over line ≡ false → meaning_of line ≡ Meaning.Opens set → Tells S.seen lines.old lines.new line result }
+    ensures bounded { lines.new.passed + length lines.new.pending ≤ most_bytes + 1 }
 {
     let first = lines.given();
     let mut block = Bytes::new(alloc);
@@ -57,9 +57,9 @@ fn read_message<S: Source>(
     line: &[u8],
 ) -> Result<Option<Fed>, FeedFault>
     requires full { is_passed_over line.now ≡ false }
-    requires bounded { lines.old.passed + length lines.old.pending ≤ MOST_BYTES + 1 }
-    ensures tells { Tells S.faults S.name S.gave S.left lines.old lines.new line.now result }
-    ensures bounded { lines.new.passed + length lines.new.pending ≤ MOST_BYTES + 1 }
+    requires bounded { lines.old.passed + length lines.old.pending ≤ most_bytes + 1 }
+    ensures tells { Tells S.seen lines.old lines.new line.now result }
+    ensures bounded { lines.new.passed + length lines.new.pending ≤ most_bytes + 1 }
 {
     let first = lines.given();
     match read_line(alloc, line) {
@@ -89,13 +89,13 @@ pub fn next_message<S: Source>(
     alloc: Global,
     lines: &mut Lines<S>,
 ) -> Result<Option<Fed>, FeedFault>
-    ensures answers { Answers S.faults S.name S.gave S.left lines.old lines.new result }
+    ensures answers { Answers S.seen lines.old lines.new result }
     // What this call and those before it told, from any of them on.
-    ensures follows { (first : Lined S) (told : List Item) → TellsItems S.faults S.name S.gave S.left first lines.old told → Follows S.faults S.name S.gave S.left first lines.new told result }
+    ensures follows { (first : Lined S) (told : List Item) → TellsItems S.seen first lines.old told → Follows S.seen first lines.new told result }
     ensures stops { StopsLines result lines.new }
     ensures placed { IsPlaced result lines.old lines.new }
     // No more bytes were taken in all.
-    ensures bounded { lines.new.passed + length lines.new.pending ≤ MOST_BYTES + 1 }
+    ensures bounded { lines.new.passed + length lines.new.pending ≤ most_bytes + 1 }
     // Where the lines stopped before, the answer is the one of the way in which they stopped, and nothing changes.
     ensures again { (stop : Stop) → IsStopped lines.old stop → (lines.new ≡ lines.old) × (result ≡ answer_at lines.old.given stop) }
 {

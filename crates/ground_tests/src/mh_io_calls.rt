@@ -60,13 +60,7 @@ struct Zeros {
 }
 
 impl Source for Zeros {
-    ghost faults = { λ _. 0 };
-
-    ghost name = { λ _. None };
-
-    ghost gave = { λ _. None };
-
-    ghost left = { λ _. None };
+    ghost seen = { λ _. record { faults = 0; name = None; gave = None; left = None } };
 
     fn take(&mut self, buf: &mut [u8]) -> Result<usize, Failed> {
         let taken = self.left.min(buf.len());

@@ -1,7 +1,8 @@
 -- The stages of a calculation, one after the other.
 use Rattle.std.proofs.Common.{◌≡◌, ℕ, ◌≤◌, List, [], ◌++◌, Option, Some, None, IfSome, option_map, ap, sym, refl, subst, ◌∙◌, inl, inr, ⊎_elim, arith, append-nil}
 use Rattle.std.specs.Io.KnownBytes.{append_known}
-use Rattle.mh_io.specs.Folder.{Telling, File, file_of}
+use Rattle.mh_io.specs.Sink.{SinkSeen}
+use Rattle.mh_io.specs.Folder.{Telling, File, file_of, FolderSeen}
 use Rattle.simm_kinds.specs.declared.row.TradeRows.{TradeRows}
 use Rattle.simm_rules.specs.declared.values.Breakdown.{Breakdown}
 use Rattle.simm_rules.specs.Params.{Params}
@@ -15,8 +16,8 @@ use Rattle.margin_top.specs.declared.fault.ValueFault.{ValueFault}
 use Rattle.margin_top.specs.declared.fault.ValueFault.TheVariants as value
 use Rattle.margin_top.specs.declared.fault.CalcFault.{CalcFault}
 use Rattle.margin_top.specs.declared.fault.CalcFault.TheVariants as fault
-use Rattle.margin_top.specs.Files.{FolderSeen, Deeds, no_deeds, with_reading, told_after, Did, IsWhole, IsTooLong, IsRead, Failed, NoValue}
-use Rattle.margin_top.specs.Calc.{SinkSeen, GotLine, HasBoth, HasMargin, CrifFails, Cause, MarginPrints, status_of, fault_text, CalcEnds}
+use Rattle.margin_top.specs.Files.{Deeds, no_deeds, with_reading, told_after, Did, IsWhole, IsTooLong, IsRead, Failed, NoValue}
+use Rattle.margin_top.specs.Calc.{GotLine, HasBoth, HasMargin, CrifFails, Cause, MarginPrints, status_of, fault_text, CalcEnds}
 use Rattle.margin_top.proofs.FileLemmas.{did_more, rises_earlier}
 
 -- what is told of files later is told of them before
@@ -33,11 +34,11 @@ long_before old mid deeds name taken did h =
     record { front = files_before old.told mid.told deeds (λ files. (rest : List ℕ) × (file_of files name ≡ Some (taken ++ rest))) did h.front; many = h.many }
 
 -- a file's fault after another file was read
-pub failed_after : (old mid new : FolderSeen) (first bytes name : List ℕ) (faults : ℕ) (f : FileFault) → Did old mid (with_reading no_deeds first bytes faults) → old.finds ≤ mid.finds → old.reads ≤ mid.reads → Failed mid new no_deeds name f → Failed old new (with_reading no_deeds first bytes faults) name f
+pub failed_after : (old mid new : FolderSeen) (first bytes name : List ℕ) (faults : ℕ) (f : FileFault) → Did old mid (with_reading no_deeds first bytes faults) → old.find_faults ≤ mid.find_faults → old.read_faults ≤ mid.read_faults → Failed mid new no_deeds name f → Failed old new (with_reading no_deeds first bytes faults) name f
 failed_after old mid new first bytes name faults file.Missing did finds reads h =
-    record { did = did_more old mid new first bytes faults _ did h.did; rose = rises_earlier old.finds mid.finds new.finds finds h.rose }
+    record { did = did_more old mid new first bytes faults _ did h.did; rose = rises_earlier old.find_faults mid.find_faults new.find_faults finds h.rose }
 failed_after old mid new first bytes name faults file.Unread did finds reads h =
-    record { taken = h.taken; faults = h.faults; did = did_more old mid new first bytes faults (with_reading no_deeds name h.taken h.faults) did h.did; failed = h.failed; rose = rises_earlier old.reads mid.reads new.reads reads h.rose }
+    record { taken = h.taken; faults = h.faults; did = did_more old mid new first bytes faults (with_reading no_deeds name h.taken h.faults) did h.did; failed = h.failed; rose = rises_earlier old.read_faults mid.read_faults new.read_faults reads h.rose }
 failed_after old mid new first bytes name faults file.Long did finds reads h =
     record { taken = h.taken; faults = h.faults; did = did_more old mid new first bytes faults (with_reading no_deeds name h.taken h.faults) did h.did; long = long_before old mid (with_reading no_deeds first bytes faults) name h.taken did h.long }
 failed_after old mid new first bytes name faults file.Memory did finds reads h =
@@ -47,13 +48,13 @@ failed_after old mid new first bytes name faults file.Memory did finds reads h =
     h
 
 -- a file without a value after another file was read
-pub no_value_after : (old mid new : FolderSeen) (first bytes name : List ℕ) (faults : ℕ) (IsRefused : List ℕ → Type 0) (f : ValueFault) → Did old mid (with_reading no_deeds first bytes faults) → old.finds ≤ mid.finds → old.reads ≤ mid.reads → NoValue mid new no_deeds name IsRefused f → NoValue old new (with_reading no_deeds first bytes faults) name IsRefused f
+pub no_value_after : (old mid new : FolderSeen) (first bytes name : List ℕ) (faults : ℕ) (IsRefused : List ℕ → Type 0) (f : ValueFault) → Did old mid (with_reading no_deeds first bytes faults) → old.find_faults ≤ mid.find_faults → old.read_faults ≤ mid.read_faults → NoValue mid new no_deeds name IsRefused f → NoValue old new (with_reading no_deeds first bytes faults) name IsRefused f
 no_value_after old mid new first bytes name faults IsRefused (value.OfFile f) did finds reads h = failed_after old mid new first bytes name faults f did finds reads h
 no_value_after old mid new first bytes name faults IsRefused value.Refused did finds reads h =
     record { bytes = h.bytes; faults = h.faults; did = did_more old mid new first bytes faults (with_reading no_deeds name h.bytes h.faults) did h.did; whole = whole_before old mid (with_reading no_deeds first bytes faults) name h.bytes did h.whole; so = h.so }
 
 -- the parameters were read, and then the CRIF file gave no batch
-pub crif_failed : (old mid new : FolderSeen) (params_name crif_name : List ℕ) (p : Params) (f : ValueFault) → IsRead old mid no_deeds params_name (λ bytes. params_of bytes ≡ Some p) → old.finds ≤ mid.finds → old.reads ≤ mid.reads → NoValue mid new no_deeds crif_name (λ bytes. crif_of bytes ≡ None) f → CrifFails params_name crif_name old new f
+pub crif_failed : (old mid new : FolderSeen) (params_name crif_name : List ℕ) (p : Params) (f : ValueFault) → IsRead old mid no_deeds params_name (λ bytes. params_of bytes ≡ Some p) → old.find_faults ≤ mid.find_faults → old.read_faults ≤ mid.read_faults → NoValue mid new no_deeds crif_name (λ bytes. crif_of bytes ≡ None) f → CrifFails params_name crif_name old new f
 crif_failed old mid new params_name crif_name p f first finds reads h = record {
   param_bytes = first.bytes;
   param_faults = first.faults;

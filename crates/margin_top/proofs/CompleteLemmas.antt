@@ -1,5 +1,7 @@
 -- A calculation for which all is well succeeds, or finds no memory.
 use Rattle.std.proofs.Common.{◌≡◌, ℕ, List, Some, None, ap, sym, refl, subst, ◌∙◌}
+use Rattle.mh_io.specs.Sink.{SinkSeen}
+use Rattle.mh_io.specs.Folder.{FolderSeen}
 use Rattle.simm_kinds.specs.declared.row.TradeRows.{TradeRows}
 use Rattle.simm_kinds.specs.Batch.{rows_of}
 use Rattle.simm_rules.specs.Params.{Params}
@@ -10,8 +12,8 @@ use Rattle.margin_top.specs.declared.status.Status.{Status}
 use Rattle.margin_top.specs.declared.status.Status.TheVariants as status
 use Rattle.margin_top.specs.declared.fault.CalcFault.{CalcFault}
 use Rattle.margin_top.specs.declared.fault.CalcFault.TheVariants as fault
-use Rattle.margin_top.specs.Files.{FolderSeen, IsWhole, no_deeds, with_reading}
-use Rattle.margin_top.specs.Calc.{SinkSeen, Cause, status_of, status_of_value, CalcEnds}
+use Rattle.margin_top.specs.Files.{IsWhole, no_deeds, with_reading}
+use Rattle.margin_top.specs.Calc.{Cause, status_of, status_of_value, CalcEnds}
 use Rattle.margin_top.specs.Complete.{IsWell, EndsWell}
 use Rattle.margin_top.proofs.KnownFiles.{same_bytes, only_memory_for}
 

@@ -3,7 +3,7 @@ use Rattle.std.proofs.Common.{◌≡◌, ℕ, zero, suc, ◌+◌, ◌≤◌, Boo
 use Rattle.std.specs.List.{list_any, before_first, position_or_len}
 use Rattle.mh_io.specs.Lines as cut
 use Rattle.mh_io.specs.Lines.{lines}
-use Rattle.mh_io.specs.declared.reading.TheConstants.{MOST_BYTES}
+use Rattle.mh_io.specs.Limits.{most_bytes}
 use Rattle.feed_reader.specs.declared.message.Message.TheVariants.{Crif}
 use Rattle.feed_reader.specs.Line.{is_passed_over, meaning_of, is_end}
 use Rattle.feed_reader.specs.Feed.{Sent, FeedStop, FeedRun, Whole, Cut, LineLong, TooLong, Open, no_items, with_items, stop_outside, stop_inside, block_of, block_at, by_meaning, items_of, feed}
@@ -79,7 +79,7 @@ not_cut taken bytes ended line all whole e =
     cc two
 
 -- a line that is too long is so in the whole feed
-pub not_long : (taken rest : List ℕ) (ended : Bool) (line : ℕ) → length (taken ++ rest) ≤ MOST_BYTES
+pub not_long : (taken rest : List ℕ) (ended : Bool) (line : ℕ) → length (taken ++ rest) ≤ most_bytes
     → (feed (taken ++ rest) true).stop ≡ Whole → (feed taken ended).stop ≡ LineLong line → ⊥
 unfolding line_stop
 not_long taken rest ended line few whole e =
@@ -88,7 +88,7 @@ not_long taken rest ended line few whole e =
     cc two
 
 -- bytes that fit aren't too long
-pub not_over : (taken : List ℕ) (ended : Bool) → length taken ≤ MOST_BYTES → (feed taken ended).stop ≡ TooLong → ⊥
+pub not_over : (taken : List ℕ) (ended : Bool) → length taken ≤ most_bytes → (feed taken ended).stop ≡ TooLong → ⊥
 unfolding line_stop
 not_over taken ended few e =
     let many = over_long taken ended (feed_stop taken ended TooLong e) in

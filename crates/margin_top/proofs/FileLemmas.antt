@@ -2,26 +2,26 @@
 use Rattle.std.proofs.Common.{◌≡◌, ℕ, ◌<◌, ◌≤◌, List, [], ◌∷◌, ◌++◌, length, Option, Some, None, IfSome, IsSome, option_map, ap, sym, refl, subst, ◌∙◌, append-nil, append_assoc, arith, inl, inr, Result, Ok, Err, IsErrAnd}
 use Rattle.std.specs.Io.KnownBytes.{append_known, prepend_known, IsAtEnd}
 use Rattle.mh_io.specs.Faults.{Rises, added_faults}
-use Rattle.mh_io.specs.Folder.{Telling, file_of, with_asked, told_after_find, told_after_done, IsFound}
-use Rattle.mh_io.specs.Source.{Takes, StopsAt}
+use Rattle.mh_io.specs.Folder.{Telling, file_of, with_asked, told_after_find, told_after_done, IsFound, FolderSeen}
+use Rattle.mh_io.specs.Source.{SourceSeen, Takes, StopsAt}
 use Rattle.mh_io.specs.declared.folder.FindRefused.{FindRefused}
 use Rattle.mh_io.specs.declared.folder.FindRefused.TheVariants as find
 use Rattle.mh_io.specs.declared.reading.ReadAllFault.{ReadAllFault}
 use Rattle.mh_io.specs.declared.reading.ReadAllFault.TheVariants as read
 use Rattle.margin_top.specs.declared.fault.FileFault.{FileFault}
-use Rattle.margin_top.specs.Files.{FolderSeen, Deeds, no_deeds, with_reading, with_name, told_after, Did, Failed, FileEnds}
+use Rattle.margin_top.specs.Files.{Deeds, no_deeds, with_reading, with_name, told_after, Did, Failed, FileEnds}
 use Rattle.margin_top.specs.Faults.{fault_of_find, fault_of_read}
 
 -- a name was asked for, a source of it gave these bytes, and it came back
-pub told_read : (old mid new : Option Telling) (name bytes : List ℕ) (faults : ℕ) (n0 n1 g0 g1 l0 l1 : Option (List ℕ)) → mid ≡ option_map (with_asked name) old → IfSome old (λ f. IsFound f.files name n0 g0 l0) → n1 ≡ n0 → Takes g0 g1 l0 l1 bytes → new ≡ told_after_done mid n1 g1 faults → new ≡ option_map (told_after (with_reading no_deeds name bytes faults)) old
-told_read None mid new name bytes faults n0 n1 g0 g1 l0 l1 asked found named takes done = done ∙ ap (λ m. told_after_done m n1 g1 faults) asked
-told_read (Some t) mid new name bytes faults n0 n1 g0 g1 l0 l1 asked found named takes done =
-    let gave : g1 ≡ Some bytes = takes.gave ∙ ap (λ g. append_known g bytes) found.fresh in
-    let name_is : n1 ≡ Some name = named ∙ found.named in
+pub told_read : (old mid new : Option Telling) (name bytes : List ℕ) (found back : SourceSeen) → mid ≡ option_map (with_asked name) old → IfSome old (λ f. IsFound f.files name found) → back.name ≡ found.name → Takes found back bytes → new ≡ told_after_done mid back.name back.gave back.faults → new ≡ option_map (told_after (with_reading no_deeds name bytes back.faults)) old
+told_read None mid new name bytes found back asked is named takes done = done ∙ ap (λ m. told_after_done m back.name back.gave back.faults) asked
+told_read (Some t) mid new name bytes found back asked is named takes done =
+    let gave : back.gave ≡ Some bytes = takes.gave ∙ ap (λ g. append_known g bytes) is.fresh in
+    let name_is : back.name ≡ Some name = named ∙ is.named in
     done
-    ∙ (ap (λ m. told_after_done m n1 g1 faults) asked
-    ∙ (ap (λ n. told_after_done (Some (with_asked name t)) n g1 faults) name_is
-    ∙ ap (λ g. told_after_done (Some (with_asked name t)) (Some name) g faults) gave))
+    ∙ (ap (λ m. told_after_done m back.name back.gave back.faults) asked
+    ∙ (ap (λ n. told_after_done (Some (with_asked name t)) n back.gave back.faults) name_is
+    ∙ ap (λ g. told_after_done (Some (with_asked name t)) (Some name) g back.faults) gave))
 
 -- what was left and is left no more is what was taken
 at_end : (l0 l1 : Option (List ℕ)) (bytes : List ℕ) → IsSome l0 → l0 ≡ prepend_known bytes l1 → IsAtEnd l1 → l0 ≡ Some bytes
@@ -29,19 +29,19 @@ at_end l0 None bytes there e end = cc
 at_end l0 (Some rest) bytes there e end = e ∙ ap Some (ap (λ xs. bytes ++ xs) end ∙ append-nil bytes)
 
 -- a source that gave all that it had left gave the whole file
-pub whole_file : (old : Option Telling) (name bytes : List ℕ) (n0 g0 g1 l0 l1 : Option (List ℕ)) → IfSome old (λ f. IsFound f.files name n0 g0 l0) → Takes g0 g1 l0 l1 bytes → IsAtEnd l1 → IfSome old (λ t. file_of t.files name ≡ Some bytes)
-whole_file None name bytes n0 g0 g1 l0 l1 found takes end = tt
-whole_file (Some t) name bytes n0 g0 g1 l0 l1 found takes end = sym found.whole ∙ at_end l0 l1 bytes found.there takes.left end
+pub whole_file : (old : Option Telling) (name bytes : List ℕ) (found back : SourceSeen) → IfSome old (λ f. IsFound f.files name found) → Takes found back bytes → IsAtEnd back.left → IfSome old (λ t. file_of t.files name ≡ Some bytes)
+whole_file None name bytes found back is takes end = tt
+whole_file (Some t) name bytes found back is takes end = sym is.whole ∙ at_end found.left back.left bytes is.there takes.left end
 
 front_of : (l0 l1 : Option (List ℕ)) (taken : List ℕ) → IsSome l0 → l0 ≡ prepend_known taken l1 → (rest : List ℕ) × (l0 ≡ Some (taken ++ rest))
 front_of l0 None taken there e = cc
 front_of l0 (Some rest) taken there e = (rest, e)
 
 -- what a source gave is a front of its file
-pub file_front : (old : Option Telling) (name taken : List ℕ) (n0 g0 g1 l0 l1 : Option (List ℕ)) → IfSome old (λ f. IsFound f.files name n0 g0 l0) → Takes g0 g1 l0 l1 taken → IfSome old (λ t. (rest : List ℕ) × (file_of t.files name ≡ Some (taken ++ rest)))
-file_front None name taken n0 g0 g1 l0 l1 found takes = tt
-file_front (Some t) name taken n0 g0 g1 l0 l1 found takes =
-    let f = front_of l0 l1 taken found.there takes.left in (f.0, sym found.whole ∙ f.1)
+pub file_front : (old : Option Telling) (name taken : List ℕ) (found back : SourceSeen) → IfSome old (λ f. IsFound f.files name found) → Takes found back taken → IfSome old (λ t. (rest : List ℕ) × (file_of t.files name ≡ Some (taken ++ rest)))
+file_front None name taken found back is takes = tt
+file_front (Some t) name taken found back is takes =
+    let f = front_of found.left back.left taken is.there takes.left in (f.0, sym is.whole ∙ f.1)
 
 -- a count that was 0 and rose is above 0
 pub rose_from_none : (n : ℕ) (old : ℕ) → old ≡ 0 → Rises old n → 0 < n
@@ -70,7 +70,7 @@ did_ask None name = refl
 did_ask (Some t) name = ap (λ reads. Some (record t { asked = t.asked ++ name ∷ []; reads = reads })) (sym (append-nil t.reads))
 
 -- how the reading of a file ends where it wasn't found
-pub find_ends : (S : Type 0) (old new : FolderSeen) (name : List ℕ) (r : FindRefused) (result : Result (List ℕ) FileFault) → IsErrAnd result (λ e. e ≡ fault_of_find r) → new.told ≡ told_after_find {S = S} (Err r) name old.told → (r ≡ find.Failed → Rises old.finds new.finds) → FileEnds old new name result
+pub find_ends : (S : Type 0) (old new : FolderSeen) (name : List ℕ) (r : FindRefused) (result : Result (List ℕ) FileFault) → IsErrAnd result (λ e. e ≡ fault_of_find r) → new.told ≡ told_after_find {S = S} (Err r) name old.told → (r ≡ find.Failed → Rises old.find_faults new.find_faults) → FileEnds old new name result
 find_ends S old new name r (Ok bytes) h told rose = absurd h
 find_ends S old new name find.Failed (Err e) h told rose =
     subst (Failed old new no_deeds name) (sym h) (record { did = told ∙ did_ask old.told name; rose = rose refl })
@@ -78,12 +78,12 @@ find_ends S old new name find.Memory (Err e) h told rose =
     subst (Failed old new no_deeds name) (sym h) (inl (told ∙ did_nothing old.told))
 
 -- how the reading of a file ends where it wasn't read to its end
-pub read_ends : (old new : FolderSeen) (name : List ℕ) (r : ReadAllFault) (result : Result (List ℕ) FileFault) (taken : List ℕ) (first faults : ℕ) → IsErrAnd result (λ e. e ≡ fault_of_read r) → Did old new (with_reading no_deeds name taken faults) → IfSome old.told (λ t. (rest : List ℕ) × (file_of t.files name ≡ Some (taken ++ rest))) → StopsAt r (length taken) → first ≡ 0 → (r ≡ read.ReadFault → Rises first faults) → old.reads ≤ new.reads → new.reads ≡ added_faults old.reads faults → FileEnds old new name result
+pub read_ends : (old new : FolderSeen) (name : List ℕ) (r : ReadAllFault) (result : Result (List ℕ) FileFault) (taken : List ℕ) (first faults : ℕ) → IsErrAnd result (λ e. e ≡ fault_of_read r) → Did old new (with_reading no_deeds name taken faults) → IfSome old.told (λ t. (rest : List ℕ) × (file_of t.files name ≡ Some (taken ++ rest))) → StopsAt r (length taken) → first ≡ 0 → (r ≡ read.ReadFault → Rises first faults) → old.read_faults ≤ new.read_faults → new.read_faults ≡ added_faults old.read_faults faults → FileEnds old new name result
 read_ends old new name r (Ok bytes) taken first faults h did front stops none rose kept rises = absurd h
 read_ends old new name read.ReadFault (Err e) taken first faults h did front stops none rose kept rises =
     let failed = rose_from_none faults first none (rose refl) in
     subst (Failed old new no_deeds name) (sym h)
-    (record { taken = taken; faults = faults; did = did; failed = failed; rose = rises_by old.reads new.reads faults kept rises failed })
+    (record { taken = taken; faults = faults; did = did; failed = failed; rose = rises_by old.read_faults new.read_faults faults kept rises failed })
 read_ends old new name (read.TooLong n) (Err e) taken first faults h did front stops none rose kept rises =
     subst (Failed old new no_deeds name) (sym h)
     (record { taken = taken; faults = faults; did = did; long = record { front = front; many = stops.0 } })

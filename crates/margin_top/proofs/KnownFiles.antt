@@ -1,13 +1,13 @@
 -- What a folder that tells a file excludes: what was read is the file, and where it fits no fault of it comes.
 use Rattle.std.proofs.Common.{◌≡◌, ℕ, ◌≤◌, List, ◌++◌, length, Option, Some, IfSome, ap, refl, subst, length-append, arith}
 use Rattle.mh_io.specs.Faults.{Rises}
-use Rattle.mh_io.specs.Folder.{Telling, file_of}
-use Rattle.mh_io.specs.declared.reading.TheConstants.{MOST_BYTES}
+use Rattle.mh_io.specs.Folder.{Telling, file_of, FolderSeen}
+use Rattle.mh_io.specs.Limits.{most_bytes}
 use Rattle.margin_top.specs.declared.fault.FileFault.{FileFault}
 use Rattle.margin_top.specs.declared.fault.FileFault.TheVariants as file
 use Rattle.margin_top.specs.declared.fault.ValueFault.{ValueFault}
 use Rattle.margin_top.specs.declared.fault.ValueFault.TheVariants as value
-use Rattle.margin_top.specs.Files.{FolderSeen, Deeds, Failed, NoValue}
+use Rattle.margin_top.specs.Files.{Deeds, Failed, NoValue}
 
 -- what was read whole of a file is the file
 pub same_bytes : (told : Option Telling) (t : Telling) (name a b : List ℕ) → told ≡ Some t
@@ -30,8 +30,8 @@ front_bytes told t name taken bytes e h known =
 -- of a file that fits no fault comes but want of memory, where no count rose
 pub only_memory_of : (old new : FolderSeen) (before : Deeds) (name bytes : List ℕ)
     (t : Telling) (f : FileFault) → old.told ≡ Some t → file_of t.files name ≡ Some bytes
-    → length bytes ≤ MOST_BYTES
-    → (Rises old.finds new.finds → ⊥) → (Rises old.reads new.reads → ⊥)
+    → length bytes ≤ most_bytes
+    → (Rises old.find_faults new.find_faults → ⊥) → (Rises old.read_faults new.read_faults → ⊥)
     → Failed old new before name f → f ≡ file.Memory
 only_memory_of old new before name bytes t file.Missing told has few finds reads h = absurd (finds h.rose)
 only_memory_of old new before name bytes t file.Unread told has few finds reads h = absurd (reads h.rose)
@@ -43,8 +43,8 @@ only_memory_of old new before name bytes t file.Memory told has few finds reads 
 -- the same of a file that isn't refused
 pub only_memory_for : (old new : FolderSeen) (before : Deeds) (name bytes : List ℕ) (IsRefused : List ℕ → Type 0)
     (t : Telling) (f : ValueFault) → old.told ≡ Some t → file_of t.files name ≡ Some bytes
-    → length bytes ≤ MOST_BYTES → (IsRefused bytes → ⊥)
-    → (Rises old.finds new.finds → ⊥) → (Rises old.reads new.reads → ⊥)
+    → length bytes ≤ most_bytes → (IsRefused bytes → ⊥)
+    → (Rises old.find_faults new.find_faults → ⊥) → (Rises old.read_faults new.read_faults → ⊥)
     → NoValue old new before name IsRefused f → f ≡ value.OfFile file.Memory
 only_memory_for old new before name bytes IsRefused t (value.OfFile f) told has few so finds reads h =
     ap value.OfFile (only_memory_of old new before name bytes t f told has few finds reads h)

@@ -6,8 +6,7 @@ use Rattle.std.proofs.lemmas.List.Splits.{length-slice_split}
 use Rattle.std.proofs.lemmas.Bool.Decides.{nat_tests}
 use Rattle.std.proofs.lemmas.Bool.{leb-true}
 use Rattle.mh_io.specs.Lines.{LineRun, Stop, Whole, Open, Long, Over, stopped, with_lines, is_lf, without_cr, last_line, cut, lines_behind, lines}
-use Rattle.mh_io.specs.declared.reading.TheConstants.{MOST_BYTES}
-use Rattle.mh_io.specs.declared.lines_window.TheConstants.{LINE_BYTES}
+use Rattle.mh_io.specs.Limits.{most_bytes, line_bytes}
 
 -- ---- parts that grow
 
@@ -52,16 +51,16 @@ is_over a b h = grind (arith, nat_tests)
 
 -- a first line that is too long
 long_first : (part : List ℕ) (parts : List (List ℕ)) (over ended : Bool)
-    → LINE_BYTES ≤ length part → (cut (part ∷ parts) over ended).stop ≡ Long
-long_first part [] over ended long = rw (is_full LINE_BYTES (length part) long) refl
-long_first part (next ∷ more) over ended long = rw (is_full LINE_BYTES (length part) long) refl
+    → line_bytes ≤ length part → (cut (part ∷ parts) over ended).stop ≡ Long
+long_first part [] over ended long = rw (is_full line_bytes (length part) long) refl
+long_first part (next ∷ more) over ended long = rw (is_full line_bytes (length part) long) refl
 
 -- and one behind the first
 long_behind : (p q : List ℕ) (parts : List (List ℕ)) (over ended : Bool)
     → (cut (q ∷ parts) over ended).stop ≡ Long → (cut (p ∷ q ∷ parts) over ended).stop ≡ Long
 long_behind p q parts over ended e =
     let behind = with_lines (without_cr p ∷ []) (cut (q ∷ parts) over ended) in
-    elim (nat_le LINE_BYTES (length p)) as (λ b. (cond b (stopped Long) behind).stop ≡ Long) [ true ↦ refl | false ↦ e ]
+    elim (nat_le line_bytes (length p)) as (λ b. (cond b (stopped Long) behind).stop ≡ Long) [ true ↦ refl | false ↦ e ]
 
 -- the way in which the last part stops, where `full` says that it is too long
 rest_run : (full over ended : Bool) (rest : List ℕ) → LineRun
@@ -78,12 +77,12 @@ rest_long false false false rest e = cc e
 
 -- the first line is too long, or one behind it
 long_step : (full : Bool) (text p q : List ℕ) (parts : List (List ℕ)) (run : LineRun) (over ended : Bool)
-    → nat_le LINE_BYTES (length text) ≡ full → length text ≤ length p
+    → nat_le line_bytes (length text) ≡ full → length text ≤ length p
     → (run.stop ≡ Long → (cut (q ∷ parts) over ended).stop ≡ Long)
     → (cond full (stopped Long) (with_lines (without_cr text ∷ []) run)).stop ≡ Long
     → (cut (p ∷ q ∷ parts) over ended).stop ≡ Long
 long_step true text p q parts run over ended is le behind e =
-    let full : LINE_BYTES ≤ length text = leb-true LINE_BYTES (length text) is in
+    let full : line_bytes ≤ length text = leb-true line_bytes (length text) is in
     long_first p (q ∷ parts) over ended (omega arith)
 long_step false text p q parts run over ended is le behind e = long_behind p q parts over ended (behind e)
 
@@ -94,14 +93,14 @@ unfolding AreAsLong rest_run
 long_stays [] longer over ended over' ended' h e = cc e
 long_stays (part ∷ parts) [] over ended over' ended' h e = absurd h
 long_stays (rest ∷ []) (p ∷ longer) over ended over' ended' h e =
-    let is = rest_long (nat_le LINE_BYTES (length rest)) over ended rest e in
-    let full : LINE_BYTES ≤ length rest = leb-true LINE_BYTES (length rest) is in
+    let is = rest_long (nat_le line_bytes (length rest)) over ended rest e in
+    let full : line_bytes ≤ length rest = leb-true line_bytes (length rest) is in
     long_first p longer over' ended' (let le = h.0 in omega arith)
 long_stays (text ∷ next ∷ more) (p ∷ []) over ended over' ended' h e = absurd h.1
 long_stays (text ∷ next ∷ more) (p ∷ q ∷ longer) over ended over' ended' h e =
     let behind = long_stays (next ∷ more) (q ∷ longer) over ended over' ended' h.1 in
     let run = cut (next ∷ more) over ended in
-    long_step (nat_le LINE_BYTES (length text)) text p q longer run over' ended' refl h.0 behind e
+    long_step (nat_le line_bytes (length text)) text p q longer run over' ended' refl h.0 behind e
 
 -- ---- other ways to stop
 
@@ -123,43 +122,43 @@ rest_way false false false rest = tt
 cut_way : (parts : List (List ℕ)) (over ended : Bool) → IsWay (cut parts over ended).stop over ended
 unfolding IsWay rest_run
 cut_way [] over ended = tt
-cut_way (rest ∷ []) over ended = rest_way (nat_le LINE_BYTES (length rest)) over ended rest
+cut_way (rest ∷ []) over ended = rest_way (nat_le line_bytes (length rest)) over ended rest
 cut_way (text ∷ next ∷ more) over ended =
     let behind = with_lines (without_cr text ∷ []) (cut (next ∷ more) over ended) in
     let way = cut_way (next ∷ more) over ended in
-    elim (nat_le LINE_BYTES (length text)) as (λ b. IsWay (cond b (stopped Long) behind).stop over ended)
+    elim (nat_le line_bytes (length text)) as (λ b. IsWay (cond b (stopped Long) behind).stop over ended)
     [ true ↦ tt | false ↦ way ]
 
 -- ---- of all bytes that were taken
 
 taken_way : (taken : List ℕ) (ended : Bool)
-    → IsWay (lines taken ended).stop (nat_lt MOST_BYTES (0 + length taken)) ended
+    → IsWay (lines taken ended).stop (nat_lt most_bytes (0 + length taken)) ended
 unfolding lines_behind
 taken_way taken ended =
-    cut_way (slice_split is_lf (take (MOST_BYTES - 0) taken)) (nat_lt MOST_BYTES (0 + length taken)) ended
+    cut_way (slice_split is_lf (take (most_bytes - 0) taken)) (nat_lt most_bytes (0 + length taken)) ended
 
 pub whole_ended : (taken : List ℕ) (ended : Bool) → (lines taken ended).stop ≡ Whole → ended ≡ true
 unfolding IsWay
 whole_ended taken ended e =
-    subst (λ s. IsWay s (nat_lt MOST_BYTES (0 + length taken)) ended) e (taken_way taken ended)
+    subst (λ s. IsWay s (nat_lt most_bytes (0 + length taken)) ended) e (taken_way taken ended)
 
-pub over_long : (taken : List ℕ) (ended : Bool) → (lines taken ended).stop ≡ Over → MOST_BYTES < length taken
+pub over_long : (taken : List ℕ) (ended : Bool) → (lines taken ended).stop ≡ Over → most_bytes < length taken
 unfolding IsWay
 over_long taken ended e =
-    let many = nat_lt MOST_BYTES (0 + length taken) in
+    let many = nat_lt most_bytes (0 + length taken) in
     let over : many ≡ true = subst (λ s. IsWay s many ended) e (taken_way taken ended) in
-    omega (arith, is_over MOST_BYTES (0 + length taken) over)
+    omega (arith, is_over most_bytes (0 + length taken) over)
 
 -- the lines of bytes that are all looked at
-all_lines : (bytes : List ℕ) (ended : Bool) → length bytes ≤ MOST_BYTES
-    → lines bytes ended ≡ cut (slice_split is_lf bytes) (nat_lt MOST_BYTES (0 + length bytes)) ended
+all_lines : (bytes : List ℕ) (ended : Bool) → length bytes ≤ most_bytes
+    → lines bytes ended ≡ cut (slice_split is_lf bytes) (nat_lt most_bytes (0 + length bytes)) ended
 unfolding lines_behind
 all_lines bytes ended few =
-    ap (λ xs. cut (slice_split is_lf xs) (nat_lt MOST_BYTES (0 + length bytes)) ended)
-    (take_all (MOST_BYTES - 0) bytes (omega arith))
+    ap (λ xs. cut (slice_split is_lf xs) (nat_lt most_bytes (0 + length bytes)) ended)
+    (take_all (most_bytes - 0) bytes (omega arith))
 
 -- a line that is too long is so in the whole file, where that one isn't too long
-pub line_stays_long : (taken rest : List ℕ) (ended : Bool) → length (taken ++ rest) ≤ MOST_BYTES
+pub line_stays_long : (taken rest : List ℕ) (ended : Bool) → length (taken ++ rest) ≤ most_bytes
     → (lines taken ended).stop ≡ Long → (lines (taken ++ rest) true).stop ≡ Long
 line_stays_long taken rest ended few e =
     let front = all_lines taken ended (omega (arith, length-append taken rest)) in

@@ -3,10 +3,10 @@ use Rattle.std.proofs.Common.{◌≡◌, ℕ, ◌+◌, ◌≤◌, List, [], ◌�
 use Rattle.std.proofs.lemmas.List.{take-append-le}
 use Rattle.std.specs.Io.KnownBytes.{append_known}
 use Rattle.mh_io.specs.Faults.{Rises}
-use Rattle.mh_io.specs.Sink.{BreaksOff}
+use Rattle.mh_io.specs.Sink.{BreaksOff, SinkSeen}
 use Rattle.mh_io.specs.declared.writing.PutFault.{PutFault}
 use Rattle.margin_top.proofs.FileLemmas.{rises_earlier}
-use Rattle.margin_top.specs.Calc.{SinkSeen, Got, GotLine}
+use Rattle.margin_top.specs.Calc.{Got, GotLine}
 
 append_twice : (known : Option (List ℕ)) (a b : List ℕ) → append_known (append_known known a) b ≡ append_known known (a ++ b)
 append_twice None a b = refl
@@ -19,7 +19,7 @@ take_past (x ∷ a) b n =
     rw (more, add-one) (ap (λ xs. x ∷ xs) (take_past a b n))
 
 -- the sink failed in the first of two pieces
-pub got_front_of : (old new : SinkSeen) (a b : List ℕ) (n : ℕ) → BreaksOff old.holds new.holds a n → Rises old.faults new.faults → GotLine old new (a ++ b)
+pub got_front_of : (old new : SinkSeen) (a b : List ℕ) (n : ℕ) → BreaksOff old new a n → Rises old.faults new.faults → GotLine old new (a ++ b)
 got_front_of old new a b n h r = record {
   put = n;
   front = h.front ∙ ap (append_known old.holds) (sym (take-append-le n a b (omega (arith, h.short))));
@@ -36,7 +36,7 @@ got_line_after old mid new a b got count line = record {
   cut = λ short. rises_earlier old.faults mid.faults new.faults count (line.cut (omega (arith, length-append a b)));
 }
 
-pub put_failed : (old new : SinkSeen) (a b : List ℕ) (r : Result (Unit {0}) PutFault) → is_err r ≡ true → IfErr r (λ f. BreaksOff old.holds new.holds a f.put) → OnErr r (Rises old.faults new.faults) → GotLine old new (a ++ b)
+pub put_failed : (old new : SinkSeen) (a b : List ℕ) (r : Result (Unit {0}) PutFault) → is_err r ≡ true → IfErr r (λ f. BreaksOff old new a f.put) → OnErr r (Rises old.faults new.faults) → GotLine old new (a ++ b)
 put_failed old new a b (Ok x) h cut rose = cc
 put_failed old new a b (Err f) h cut rose = got_front_of old new a b f.put cut rose
 

@@ -1,8 +1,9 @@
 -- A run for which all is well succeeds, or finds no memory.
 use Rattle.std.proofs.Common.{◌≡◌, ℕ, ◌≤◌, Bool, true, List, ◌++◌, length, Some, None, Ok, Err, ap, sym, refl, subst, inl, inr, ◌∙◌, length-append, arith}
-use Rattle.mh_io.specs.Folder.{File, file_of}
+use Rattle.mh_io.specs.Sink.{SinkSeen}
+use Rattle.mh_io.specs.Folder.{File, file_of, FolderSeen}
 use Rattle.mh_io.specs.declared.folder.FindRefused.TheVariants as find
-use Rattle.mh_io.specs.declared.reading.TheConstants.{MOST_BYTES}
+use Rattle.mh_io.specs.Limits.{most_bytes}
 use Rattle.simm_params.specs.Grammar.{params_of}
 use Rattle.csa_terms.specs.Grammar.{terms_of}
 use Rattle.feed_reader.specs.Feed as message
@@ -17,8 +18,8 @@ use Rattle.margin_top.specs.declared.status.Status.TheVariants as status
 use Rattle.margin_top.specs.declared.run_fault.TermsFileFault.TheVariants as terms
 use Rattle.margin_top.specs.declared.run_fault.RunFault.{RunFault}
 use Rattle.margin_top.specs.declared.run_fault.RunFault.TheVariants as fault
-use Rattle.margin_top.specs.Files.{FolderSeen, no_deeds, with_reading}
-use Rattle.margin_top.specs.Calc.{SinkSeen, status_of_file, status_of_value}
+use Rattle.margin_top.specs.Files.{no_deeds, with_reading}
+use Rattle.margin_top.specs.Calc.{status_of_file, status_of_value}
 use Rattle.margin_top.specs.Run.{HasRun, RunCause, RunPrints, RunEnds, status_of_end, status_of_run}
 use Rattle.margin_top.specs.Complete.{IsWellRun, EndsWell}
 use Rattle.margin_top.proofs.FileLemmas.{rises_earlier}
@@ -29,7 +30,7 @@ use Rattle.margin_top.proofs.FeedStops.{not_cut, not_long, not_over}
 -- the end of a feed that is whole and fits, of which a front was taken
 whole_end : (end : FeedEnd) (items : List Item) (taken rest bytes : List ℕ) (ended : Bool)
     → IsEnd end items taken ended → taken ++ rest ≡ bytes → (ended ≡ true → taken ≡ bytes)
-    → length bytes ≤ MOST_BYTES → (feed bytes true).stop ≡ message.Whole → status_of_end end ≡ status.Feed → ⊥
+    → length bytes ≤ most_bytes → (feed bytes true).stop ≡ message.Whole → status_of_end end ≡ status.Feed → ⊥
 whole_end end_at.End items taken rest bytes ended is front all few whole e = cc e
 whole_end (end_at.Cut line) items taken rest bytes ended is front all few whole e =
     not_cut taken bytes ended line all whole (ap (λ (r : FeedRun). r.stop) is)
@@ -37,7 +38,7 @@ whole_end (end_at.LineLong line) items taken rest bytes ended is front all few w
     let joined : (feed (taken ++ rest) true).stop ≡ message.Whole = ap (λ xs. (feed xs true).stop) front ∙ whole in
     not_long taken rest ended line (omega (arith, ap length front)) joined (ap (λ (r : FeedRun). r.stop) is)
 whole_end (end_at.TooLong n) items taken rest bytes ended is front all few whole e =
-    let fits : length taken ≤ MOST_BYTES = omega (arith, ap length front, length-append taken rest) in
+    let fits : length taken ≤ most_bytes = omega (arith, ap length front, length-append taken rest) in
     not_over taken ended fits (ap (λ (r : FeedRun). r.stop) is.0)
 whole_end end_at.ReadFault items taken rest bytes ended is front all few whole e = cc e
 whole_end (end_at.Memory line) items taken rest bytes ended is front all few whole e = cc e
@@ -65,7 +66,7 @@ module _ {pn tn fn : List ℕ} {old new : FolderSeen} {out_old out_new : SinkSee
       let known : terms_of w.terms_bytes ≡ Ok w.agreements = w.terms_read in
       cc
   only_memory (fault.OfFeed find.Failed) h =
-      absurd (w.finds_stood (rises_earlier old.finds (h.mid).finds new.finds (h.inputs).finds (h.missing).rose))
+      absurd (w.finds_stood (rises_earlier old.find_faults (h.mid).find_faults new.find_faults (h.inputs).finds (h.missing).rose))
   only_memory (fault.OfFeed find.Memory) h = refl
   only_memory fault.Memory h = refl
 
@@ -94,7 +95,7 @@ module _ {pn tn fn : List ℕ} {old new : FolderSeen} {out_old out_new : SinkSee
   prints_well sets r status.Feed run h = absurd (to_the_end sets r run h.0)
   prints_well sets r status.Read run h =
       let failed = (run.fed).failed h.0 in
-      absurd (w.reads_stood (rises_earlier old.reads (run.mid).reads new.reads (run.inputs).reads failed.1))
+      absurd (w.reads_stood (rises_earlier old.read_faults (run.mid).read_faults new.read_faults (run.inputs).reads failed.1))
   prints_well sets r status.Words run h = absurd h
   prints_well sets r status.Params run h = absurd h
   prints_well sets r status.Terms run h = absurd h

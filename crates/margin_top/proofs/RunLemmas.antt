@@ -4,7 +4,8 @@ use Rattle.std.specs.List.{AllByRecursion, IsDistinct}
 use Rattle.std.proofs.lemmas.Bool.{cases_lt}
 use Rattle.std.proofs.lemmas.List.{length-map, length-take-le, drop_all, take_all}
 use Rattle.mh_io.specs.Faults.{Rises}
-use Rattle.mh_io.specs.Folder.{told_after_find}
+use Rattle.mh_io.specs.Sink.{SinkSeen}
+use Rattle.mh_io.specs.Folder.{told_after_find, FolderSeen}
 use Rattle.mh_io.specs.declared.folder.FindRefused.{FindRefused}
 use Rattle.mh_io.specs.declared.folder.FindRefused.TheVariants as find
 use Rattle.simm_kinds.specs.Order.{same_name}
@@ -19,20 +20,20 @@ use Rattle.margin_top.specs.declared.status.Status.{Status}
 use Rattle.margin_top.specs.declared.run_fault.RunFault.{RunFault}
 use Rattle.margin_top.specs.declared.run_fault.TermsFileFault.{TermsFileFault}
 use Rattle.margin_top.specs.declared.run_fault.TermsFileFault.TheVariants as terms
-use Rattle.margin_top.specs.Files.{FolderSeen, no_deeds, with_reading, IsRead}
-use Rattle.margin_top.specs.Calc.{SinkSeen, GotLine}
+use Rattle.margin_top.specs.Files.{no_deeds, with_reading, IsRead}
+use Rattle.margin_top.specs.Calc.{GotLine}
 use Rattle.margin_top.specs.Run.{start, HasInputs, IsFed, HasRun, NoTerms, FindEnds, FeedFails, RunCause, RunEnds, status_of_run, run_fault_text}
 use Rattle.margin_top.specs.RunStages.{TermsEnds}
 use Rattle.margin_top.proofs.FileLemmas.{did_ask, did_nothing, did_more}
 use Rattle.margin_top.proofs.CalcLemmas.{whole_before, failed_after}
 
 -- a feed that wasn't found
-pub find_fails : (S : Type 0) (old new : FolderSeen) (name : List ℕ) (why : FindRefused) → new.told ≡ told_after_find {S = S} (Err why) name old.told → (why ≡ find.Failed → Rises old.finds new.finds) → FindEnds old new name why
+pub find_fails : (S : Type 0) (old new : FolderSeen) (name : List ℕ) (why : FindRefused) → new.told ≡ told_after_find {S = S} (Err why) name old.told → (why ≡ find.Failed → Rises old.find_faults new.find_faults) → FindEnds old new name why
 find_fails S old new name find.Failed told rose = record { did = told ∙ did_ask old.told name; rose = rose refl }
 find_fails S old new name find.Memory told rose = told ∙ did_nothing old.told
 
 -- both files were read
-pub inputs_read : (old mid new : FolderSeen) (pn tn : List ℕ) (p : Params) (agreements : List Agreement) → IsRead old mid no_deeds pn (λ bytes. params_of bytes ≡ Some p) → IsRead mid new no_deeds tn (λ bytes. terms_of bytes ≡ Ok agreements) → old.finds ≤ new.finds → old.reads ≤ new.reads → HasInputs pn tn old new p agreements
+pub inputs_read : (old mid new : FolderSeen) (pn tn : List ℕ) (p : Params) (agreements : List Agreement) → IsRead old mid no_deeds pn (λ bytes. params_of bytes ≡ Some p) → IsRead mid new no_deeds tn (λ bytes. terms_of bytes ≡ Ok agreements) → old.find_faults ≤ new.find_faults → old.read_faults ≤ new.read_faults → HasInputs pn tn old new p agreements
 inputs_read old mid new pn tn p agreements first second finds reads = record {
   param_bytes = first.bytes;
   param_faults = first.faults;
@@ -47,7 +48,7 @@ inputs_read old mid new pn tn p agreements first second finds reads = record {
 }
 
 -- the parameters were read, and then the terms file gave nothing
-pub no_terms : (old mid new : FolderSeen) (pn tn : List ℕ) (p : Params) (f : TermsFileFault) → IsRead old mid no_deeds pn (λ bytes. params_of bytes ≡ Some p) → old.finds ≤ mid.finds → old.reads ≤ mid.reads → TermsEnds mid new tn (Err f) → NoTerms pn tn old new f
+pub no_terms : (old mid new : FolderSeen) (pn tn : List ℕ) (p : Params) (f : TermsFileFault) → IsRead old mid no_deeds pn (λ bytes. params_of bytes ≡ Some p) → old.find_faults ≤ mid.find_faults → old.read_faults ≤ mid.read_faults → TermsEnds mid new tn (Err f) → NoTerms pn tn old new f
 no_terms old mid new pn tn p (terms.OfFile f) first finds reads h = record {
   param_bytes = first.bytes;
   param_faults = first.faults;

@@ -1,8 +1,9 @@
 -- What a margin calculation does: for each status what happened, and what was printed.
-use Rattle.std.specs.Prelude.{ℕ, ◌≡◌, ◌<◌, ◌≤◌, List, [], length, take, Option, Some, None, Result, Ok, Err}
+use Rattle.std.specs.Prelude.{ℕ, ◌≡◌, ◌<◌, ◌≤◌, List, [], length, take, Some, None, Result, Ok, Err}
 use Rattle.std.specs.Io.KnownBytes.{append_known}
 use Rattle.mh_io.specs.Faults.{Rises}
-use Rattle.mh_io.specs.Sink.{BreaksOff}
+use Rattle.mh_io.specs.Folder.{FolderSeen}
+use Rattle.mh_io.specs.Sink.{SinkSeen, BreaksOff}
 use Rattle.simm_kinds.specs.declared.row.TradeRows.{TradeRows}
 use Rattle.simm_kinds.specs.Batch.{rows_of}
 use Rattle.simm_rules.specs.declared.values.Breakdown.{Breakdown}
@@ -22,16 +23,7 @@ use Rattle.margin_top.specs.declared.fault.CalcFault.{CalcFault}
 use Rattle.margin_top.specs.declared.fault.CalcFault.TheVariants as fault
 use Rattle.margin_text.specs.Margins.{margin_text}
 use Rattle.margin_top.specs.Lines.{params_fault, crif_fault, refused_fault, find_fault, read_fault, long_fault}
-use Rattle.margin_top.specs.Files.{FolderSeen, no_deeds, with_reading, Did, IsWhole, NoValue}
-
--- what is seen of a sink: what it holds, where it tells, and its count of faults
-pub record SinkSeen : Type 0 where
-  pub holds : Option (List ℕ)
-  pub faults : ℕ
-
--- what is seen of this sink, by what its kind tells and counts
-abbrev pub sink_seen : {K : Type 0} → (K → Option (List ℕ)) → (K → ℕ) → K → SinkSeen
-sink_seen holds faults sink = record { holds = holds sink; faults = faults sink }
+use Rattle.margin_top.specs.Files.{no_deeds, with_reading, Did, IsWhole, NoValue}
 
 -- the sink got the whole text
 abbrev pub Got : SinkSeen → SinkSeen → List ℕ → Type 0
@@ -40,7 +32,7 @@ Got old new text = new.holds ≡ append_known old.holds text
 -- the sink failed before it had the whole text
 pub record GotFront (old new : SinkSeen) (text : List ℕ) : Type 0 where
   pub put : ℕ
-  pub breaks : BreaksOff old.holds new.holds text put
+  pub breaks : BreaksOff old new text put
   pub rose : Rises old.faults new.faults
 
 -- the sink got the text, or a front of it where its count of faults rose

@@ -1,8 +1,9 @@
 -- When a command has to succeed.
 use Rattle.std.specs.Prelude.{ℕ, ◌≡◌, ◌≤◌, List, length, Option, Some, None, Ok, true}
 use Rattle.mh_io.specs.Faults.{Rises}
-use Rattle.mh_io.specs.Folder.{Telling, file_of}
-use Rattle.mh_io.specs.declared.reading.TheConstants.{MOST_BYTES}
+use Rattle.mh_io.specs.Sink.{SinkSeen}
+use Rattle.mh_io.specs.Folder.{Telling, file_of, FolderSeen}
+use Rattle.mh_io.specs.Limits.{most_bytes}
 use Rattle.simm_kinds.specs.declared.row.TradeRows.{TradeRows}
 use Rattle.simm_kinds.specs.Batch.{rows_of}
 use Rattle.simm_rules.specs.Params.{Params}
@@ -15,8 +16,6 @@ use Rattle.feed_reader.specs.Feed.{Whole, feed}
 use Rattle.margin_top.specs.declared.status.Status.{Status}
 use Rattle.margin_top.specs.declared.status.Status.TheVariants as status
 use Rattle.margin_top.specs.Words.{Form, Calc, Run, form_of}
-use Rattle.margin_top.specs.Files.{FolderSeen}
-use Rattle.margin_top.specs.Calc.{SinkSeen}
 
 -- the folder has both files, neither is too long, both are inside their grammars, the book is in range, and no count
 -- of faults rose
@@ -29,13 +28,13 @@ pub record IsWell (params_name crif_name : List ℕ) (old new : FolderSeen) (out
   pub told : old.told ≡ Some t
   pub has_params : file_of t.files params_name ≡ Some param_bytes
   pub has_crif : file_of t.files crif_name ≡ Some crif_bytes
-  pub params_fit : length param_bytes ≤ MOST_BYTES
-  pub crif_fits : length crif_bytes ≤ MOST_BYTES
+  pub params_fit : length param_bytes ≤ most_bytes
+  pub crif_fits : length crif_bytes ≤ most_bytes
   pub params_read : params_of param_bytes ≡ Some p
   pub crif_read : crif_of crif_bytes ≡ Some trades
   pub in_range : range p (rows_of trades) ≡ None
-  pub finds_stood : Rises old.finds new.finds → ⊥
-  pub reads_stood : Rises old.reads new.reads → ⊥
+  pub finds_stood : Rises old.find_faults new.find_faults → ⊥
+  pub reads_stood : Rises old.read_faults new.read_faults → ⊥
   pub puts_stood : Rises out_old.faults out_new.faults → ⊥
 
 -- The folder has the three files, none is too long, parameters and terms are inside their grammars, the feed stops
@@ -52,14 +51,14 @@ pub record IsWellRun (params_name terms_name feed_name : List ℕ) (old new : Fo
   pub has_params : file_of t.files params_name ≡ Some param_bytes
   pub has_terms : file_of t.files terms_name ≡ Some terms_bytes
   pub has_feed : file_of t.files feed_name ≡ Some feed_bytes
-  pub params_fit : length param_bytes ≤ MOST_BYTES
-  pub terms_fit : length terms_bytes ≤ MOST_BYTES
-  pub feed_fits : length feed_bytes ≤ MOST_BYTES
+  pub params_fit : length param_bytes ≤ most_bytes
+  pub terms_fit : length terms_bytes ≤ most_bytes
+  pub feed_fits : length feed_bytes ≤ most_bytes
   pub params_read : params_of param_bytes ≡ Some p
   pub terms_read : terms_of terms_bytes ≡ Ok agreements
   pub feed_whole : (feed feed_bytes true).stop ≡ Whole
-  pub finds_stood : Rises old.finds new.finds → ⊥
-  pub reads_stood : Rises old.reads new.reads → ⊥
+  pub finds_stood : Rises old.find_faults new.find_faults → ⊥
+  pub reads_stood : Rises old.read_faults new.read_faults → ⊥
   pub puts_stood : Rises out_old.faults out_new.faults → ⊥
 
 -- the words are a command, and all is well for it

@@ -1,22 +1,18 @@
 -- What a command does to a folder: the names that it asks for, and the readings of files that it adds.
 use Rattle.std.specs.Prelude.{ℕ, ◌≡◌, ◌+◌, ◌<◌, ◌≤◌, List, [], ◌∷◌, ◌++◌, length, Option, Some, None, IfSome, option_map, ◌⊎◌, Result, Ok, Err}
 use Rattle.mh_io.specs.Faults.{Rises}
-use Rattle.mh_io.specs.Folder.{Telling, Reading, file_of}
-use Rattle.mh_io.specs.declared.reading.TheConstants.{MOST_BYTES}
+use Rattle.mh_io.specs.Folder.{Telling, Reading, FolderSeen, file_of}
+use Rattle.mh_io.specs.Limits.{most_bytes}
 use Rattle.margin_top.specs.declared.fault.FileFault.{FileFault}
 use Rattle.margin_top.specs.declared.fault.FileFault.TheVariants as fault
 use Rattle.margin_top.specs.declared.fault.ValueFault.{ValueFault}
 use Rattle.margin_top.specs.declared.fault.ValueFault.TheVariants as value
 
--- what is seen of a folder: all that it tells, and its counts of faults
-pub record FolderSeen : Type 0 where
-  pub told : Option Telling
-  pub finds : ℕ
-  pub reads : ℕ
-
--- what is seen of this folder, by what its kind tells and counts
-abbrev pub folder_seen : {F : Type 0} → (F → Option Telling) → (F → ℕ) → (F → ℕ) → F → FolderSeen
-folder_seen told find_faults read_faults folder = record { told = told folder; finds = find_faults folder; reads = read_faults folder }
+-- no count of faults fell, and as many sources are out as before
+pub record KeepsCounts (old new : FolderSeen) : Type 0 where
+  pub finds : old.find_faults ≤ new.find_faults
+  pub reads : old.read_faults ≤ new.read_faults
+  pub due : new.due ≡ old.due
 
 -- names that a folder was asked for, and readings of its files
 pub record Deeds : Type 0 where
@@ -47,17 +43,17 @@ Did old new deeds = new.told ≡ option_map (told_after deeds) old.told
 -- the bytes are the whole file of this name, where the folder tells its files
 pub record IsWhole (folder : FolderSeen) (name bytes : List ℕ) : Type 0 where
   pub whole : IfSome folder.told (λ t. file_of t.files name ≡ Some bytes)
-  pub few : length bytes ≤ MOST_BYTES
+  pub few : length bytes ≤ most_bytes
 
 -- the bytes are the front of a file that is too long
 pub record IsTooLong (folder : FolderSeen) (name taken : List ℕ) : Type 0 where
   pub front : IfSome folder.told (λ t. (rest : List ℕ) × (file_of t.files name ≡ Some (taken ++ rest)))
-  pub many : length taken ≡ MOST_BYTES + 1
+  pub many : length taken ≡ most_bytes + 1
 
 -- a file was asked for, and isn't there or couldn't be opened
 pub record IsMissing (old new : FolderSeen) (before : Deeds) (name : List ℕ) : Type 0 where
   pub did : Did old new (with_name before name)
-  pub rose : Rises old.finds new.finds
+  pub rose : Rises old.find_faults new.find_faults
 
 -- a file couldn't be read to its end
 pub record IsUnread (old new : FolderSeen) (before : Deeds) (name : List ℕ) : Type 0 where
@@ -65,7 +61,7 @@ pub record IsUnread (old new : FolderSeen) (before : Deeds) (name : List ℕ) : 
   pub faults : ℕ
   pub did : Did old new (with_reading before name taken faults)
   pub failed : 0 < faults
-  pub rose : Rises old.reads new.reads
+  pub rose : Rises old.read_faults new.read_faults
 
 -- a file is longer than any that is read
 pub record IsLong (old new : FolderSeen) (before : Deeds) (name : List ℕ) : Type 0 where

@@ -1,11 +1,12 @@
 -- What the whole program does, for each status.
 use Rattle.std.specs.Prelude.{ℕ, ◌≡◌, List, Option, Some, None}
+use Rattle.mh_io.specs.Sink.{SinkSeen}
+use Rattle.mh_io.specs.Folder.{FolderSeen}
 use Rattle.margin_top.specs.declared.status.Status.{Status}
 use Rattle.margin_top.specs.declared.status.Status.TheVariants as status
 use Rattle.margin_top.specs.Words.{Form, Calc, Run, form_of}
 use Rattle.margin_top.specs.Lines.{words_fault}
-use Rattle.margin_top.specs.Files.{FolderSeen}
-use Rattle.margin_top.specs.Calc.{SinkSeen, GotLine, CalcEnds}
+use Rattle.margin_top.specs.Calc.{GotLine, CalcEnds}
 use Rattle.margin_top.specs.Run.{RunEnds}
 
 -- the words are no form of a command: the folder stands, and one line is printed

@@ -2,8 +2,9 @@
 use Rattle.std.specs.Prelude.{ℕ, ◌≡◌, ◌+◌, ◌<◌, ◌≤◌, List, [], ◌++◌, length, map, Bool, true, Some, None, IfSome, Ok, Err, ◌⊎◌}
 use Rattle.std.specs.List.{AllByRecursion, flat_map}
 use Rattle.mh_io.specs.Faults.{Rises}
-use Rattle.mh_io.specs.Folder.{file_of}
-use Rattle.mh_io.specs.declared.reading.TheConstants.{MOST_BYTES}
+use Rattle.mh_io.specs.Sink.{SinkSeen}
+use Rattle.mh_io.specs.Folder.{file_of, FolderSeen}
+use Rattle.mh_io.specs.Limits.{most_bytes}
 use Rattle.mh_io.specs.declared.folder.FindRefused.{FindRefused}
 use Rattle.mh_io.specs.declared.folder.FindRefused.TheVariants as find
 use Rattle.simm_rules.specs.Params.{Params}
@@ -27,8 +28,8 @@ use Rattle.margin_top.specs.declared.run_fault.TermsFileFault.TheVariants as ter
 use Rattle.margin_top.specs.declared.run_fault.RunFault.{RunFault}
 use Rattle.margin_top.specs.declared.run_fault.RunFault.TheVariants as fault
 use Rattle.margin_top.specs.Lines.{params_fault, find_fault}
-use Rattle.margin_top.specs.Files.{FolderSeen, no_deeds, with_reading, Did, IsWhole, IsRead, IsMissing, Failed, NoValue}
-use Rattle.margin_top.specs.Calc.{SinkSeen, Got, GotFront, GotLine, HasParams, status_of_file, status_of_value, line_of_file, line_of_value}
+use Rattle.margin_top.specs.Files.{no_deeds, with_reading, Did, IsWhole, IsRead, IsMissing, Failed, NoValue}
+use Rattle.margin_top.specs.Calc.{Got, GotFront, GotLine, HasParams, status_of_file, status_of_value, line_of_file, line_of_value}
 
 -- the parameter file and then the terms file were read whole, with these values, and no count of faults fell
 pub record HasInputs (params_name terms_name : List ℕ) (old new : FolderSeen) (p : Params) (agreements : List Agreement) : Type 0 where
@@ -40,8 +41,8 @@ pub record HasInputs (params_name terms_name : List ℕ) (old new : FolderSeen) 
   pub params : HasParams old params_name param_bytes p
   pub whole : IsWhole old terms_name terms_bytes
   pub terms : terms_of terms_bytes ≡ Ok agreements
-  pub finds : old.finds ≤ new.finds
-  pub reads : old.reads ≤ new.reads
+  pub finds : old.find_faults ≤ new.find_faults
+  pub reads : old.read_faults ≤ new.read_faults
 
 -- a set before its first call
 abbrev pub start : Params → Agreement → Set
@@ -55,12 +56,12 @@ pub record IsFed (name : List ℕ) (old new : FolderSeen) (old_sets new_sets : L
   pub ended : Bool
   pub faults : ℕ
   pub did : Did old new (with_reading no_deeds name taken faults)
-  pub few : length taken ≤ MOST_BYTES + 1
+  pub few : length taken ≤ most_bytes + 1
   pub front : IfSome old.told (λ t. (rest : List ℕ) × (file_of t.files name ≡ Some (taken ++ rest)))
   pub all : ended ≡ true → IfSome old.told (λ t. file_of t.files name ≡ Some taken)
   pub ran : RanOver taken ended old_sets new_sets r
   pub whole : r.end ≡ end_at.End → ended ≡ true
-  pub failed : r.end ≡ end_at.ReadFault → (0 < faults) × Rises old.reads new.reads
+  pub failed : r.end ≡ end_at.ReadFault → (0 < faults) × Rises old.read_faults new.read_faults
 
 -- Both files were read, and the feed was run on the sets of the terms. Each set's journal is legal: each reply is the
 -- answer of the written rule, from scratch, over the entries before it.

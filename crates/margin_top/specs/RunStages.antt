@@ -1,5 +1,6 @@
 -- The stages of a run, each by itself.
 use Rattle.std.specs.Prelude.{ℕ, ◌≡◌, ◌≢◌, List, map, Result, Ok, Err}
+use Rattle.mh_io.specs.Folder.{FolderSeen}
 use Rattle.mh_io.specs.declared.folder.FindRefused.{FindRefused}
 use Rattle.csa_terms.specs.Grammar.{terms_of}
 use Rattle.csa_terms.specs.Terms.{Agreement}
@@ -13,7 +14,7 @@ use Rattle.csa_terms.specs.declared.fault.TermsFault.{TermsFault}
 use Rattle.csa_terms.specs.declared.fault.TermsFault.TheVariants as reader
 use Rattle.margin_top.specs.declared.fault.FileFault.TheVariants as file
 use Rattle.margin_text.specs.TermsLine.{terms_fault}
-use Rattle.margin_top.specs.Files.{FolderSeen, no_deeds, IsRead, Failed}
+use Rattle.margin_top.specs.Files.{no_deeds, IsRead, Failed}
 use Rattle.margin_top.specs.Run.{IsFed, FindEnds, HasRun, RunCause}
 
 -- refused terms have their line, unless memory ran out

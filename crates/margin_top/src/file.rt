@@ -1,5 +1,4 @@
-ghost use Rattle.std.specs.Prelude.{◌≡◌, ◌≤◌};
-ghost use Rattle.margin_top.specs.Files.{folder_seen, FileEnds};
+ghost use Rattle.margin_top.specs.Files.{KeepsCounts, FileEnds};
 
 use crate::fault::FileFault;
 use mh_io::{Folder, read_all};
@@ -16,13 +15,8 @@ pub(crate) fn read_file<F: Folder>(
     folder: &mut F,
     name: &str,
 ) -> Result<Bytes, FileFault>
-    ensures finds { F.find_faults folder.old ≤ F.find_faults folder.new }
-    ensures reads { F.read_faults folder.old ≤ F.read_faults folder.new }
-    ensures due { F.due folder.new ≡ F.due folder.old }
-    ensures ends { FileEnds
-        (folder_seen F.told F.find_faults F.read_faults folder.old)
-        (folder_seen F.told F.find_faults F.read_faults folder.new)
-        name.now result }
+    ensures counts { KeepsCounts (F.seen folder.old) (F.seen folder.new) }
+    ensures ends { FileEnds (F.seen folder.old) (F.seen folder.new) name.now result }
 {
     let mut source = folder.find(alloc, name)?;
     let outcome = read_all(alloc, &mut source);

@@ -1,7 +1,6 @@
-ghost use Rattle.std.specs.Prelude.{◌≡◌, ◌≤◌, map};
+ghost use Rattle.std.specs.Prelude.{◌≤◌, map};
 ghost use Rattle.std.specs.String.{string_bytes};
-ghost use Rattle.margin_top.specs.Files.{folder_seen};
-ghost use Rattle.margin_top.specs.Calc.{sink_seen};
+ghost use Rattle.margin_top.specs.Files.{KeepsCounts};
 ghost use Rattle.margin_top.specs.Complete.{IsWellHouse, EndsWell};
 ghost use Rattle.margin_top.specs.House.{HouseEnds};
 
@@ -23,21 +22,13 @@ pub fn margin_house<F: Folder, K: Sink>(
     folder: &mut F,
     out: &mut K,
 ) -> Status
-    ensures finds { F.find_faults folder.old ≤ F.find_faults folder.new }
-    ensures reads { F.read_faults folder.old ≤ F.read_faults folder.new }
-    ensures due { F.due folder.new ≡ F.due folder.old }
-    ensures count { K.faults out.old ≤ K.faults out.new }
+    ensures counts { KeepsCounts (F.seen folder.old) (F.seen folder.new) }
+    ensures count { (K.seen out.old).faults ≤ (K.seen out.new).faults }
     ensures ends { HouseEnds (map string_bytes words.now)
-        (folder_seen F.told F.find_faults F.read_faults folder.old)
-        (folder_seen F.told F.find_faults F.read_faults folder.new)
-        (sink_seen K.holds K.faults out.old)
-        (sink_seen K.holds K.faults out.new) result }
+        (F.seen folder.old) (F.seen folder.new) (K.seen out.old) (K.seen out.new) result }
     // Where the words are a command for which all is well it is done and printed whole, or memory ran out.
     ensures complete { IsWellHouse (map string_bytes words.now)
-        (folder_seen F.told F.find_faults F.read_faults folder.old)
-        (folder_seen F.told F.find_faults F.read_faults folder.new)
-        (sink_seen K.holds K.faults out.old)
-        (sink_seen K.holds K.faults out.new) → EndsWell result }
+        (F.seen folder.old) (F.seen folder.new) (K.seen out.old) (K.seen out.new) → EndsWell result }
 {
     match command_of(words) {
         Some(Command::Calc(files)) => calc(alloc, files.params, files.crif, folder, out),

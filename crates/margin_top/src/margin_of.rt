@@ -1,10 +1,10 @@
-ghost use Rattle.std.specs.Prelude.{◌≡◌, ◌≤◌, None, Some, Err, IfOk, OnOk, IsTrue, true};
+ghost use Rattle.std.specs.Prelude.{◌≡◌, None, Some, Err, IfOk, OnOk, IsTrue, true};
 ghost use Rattle.simm_kinds.specs.Batch.{rows_of};
 ghost use Rattle.simm_rules.specs.declared.values.RangeFault.{RangeFault as Fault};
 ghost use Rattle.simm_rules.specs.Range.{range};
 ghost use Rattle.simm_rules.specs.Simm.{simm};
 ghost use Rattle.bucket_cache.specs.declared.fault.SubmitFault.TheVariants as submit;
-ghost use Rattle.margin_top.specs.Files.{folder_seen};
+ghost use Rattle.margin_top.specs.Files.{KeepsCounts};
 ghost use Rattle.margin_top.specs.Calc.{MarginEnds};
 
 use crate::fault::CalcFault;
@@ -34,13 +34,8 @@ pub(crate) fn margin_of_files<F: Folder>(
     crif: &str,
     folder: &mut F,
 ) -> Result<Breakdown, CalcFault>
-    ensures finds { F.find_faults folder.old ≤ F.find_faults folder.new }
-    ensures reads { F.read_faults folder.old ≤ F.read_faults folder.new }
-    ensures due { F.due folder.new ≡ F.due folder.old }
-    ensures ends { MarginEnds params.now crif.now
-        (folder_seen F.told F.find_faults F.read_faults folder.old)
-        (folder_seen F.told F.find_faults F.read_faults folder.new)
-        result }
+    ensures counts { KeepsCounts (F.seen folder.old) (F.seen folder.new) }
+    ensures ends { MarginEnds params.now crif.now (F.seen folder.old) (F.seen folder.new) result }
 {
     let values = match read_param_file(alloc, folder, params) {
         Ok(values) => values,

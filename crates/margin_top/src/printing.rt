@@ -1,7 +1,7 @@
-ghost use Rattle.std.specs.Prelude.{◌≡◌, ◌≤◌, ◌++◌};
+ghost use Rattle.std.specs.Prelude.{◌≤◌, ◌++◌};
 ghost use Rattle.margin_text.specs.Fields.{last_field};
 ghost use Rattle.margin_top.specs.FaultLine.{line_text};
-ghost use Rattle.margin_top.specs.Calc.{sink_seen, GotLine, MarginPrints};
+ghost use Rattle.margin_top.specs.Calc.{GotLine, MarginPrints};
 
 use crate::fault_line::FaultLine;
 use crate::status::Status;
@@ -12,10 +12,8 @@ use std::alloc::Global;
 
 /// Prints a margin with its parts.
 pub(crate) fn print_margin<K: Sink>(alloc: Global, out: &mut K, margin: &Breakdown) -> Status
-    ensures count { K.faults out.old ≤ K.faults out.new }
-    ensures printed { MarginPrints margin.now
-        (sink_seen K.holds K.faults out.old)
-        (sink_seen K.holds K.faults out.new) result }
+    ensures count { (K.seen out.old).faults ≤ (K.seen out.new).faults }
+    ensures printed { MarginPrints margin.now (K.seen out.old) (K.seen out.new) result }
 {
     let Ok(text) = margin_lines(alloc, margin) else {
         return Status::Memory;
@@ -28,10 +26,8 @@ pub(crate) fn print_margin<K: Sink>(alloc: Global, out: &mut K, margin: &Breakdo
 
 /// Prints the line of a fault, or a front of it where the sink fails. It takes no memory.
 pub(crate) fn print_line<K: Sink>(out: &mut K, line: FaultLine)
-    ensures count { K.faults out.old ≤ K.faults out.new }
-    ensures printed { GotLine
-        (sink_seen K.holds K.faults out.old)
-        (sink_seen K.holds K.faults out.new) (line_text line.entry) }
+    ensures count { (K.seen out.old).faults ≤ (K.seen out.new).faults }
+    ensures printed { GotLine (K.seen out.old) (K.seen out.new) (line_text line.entry) }
 {
     match line {
         FaultLine::Whole(bytes) => print_front(out, bytes),
@@ -41,20 +37,16 @@ pub(crate) fn print_line<K: Sink>(out: &mut K, line: FaultLine)
 
 /// Prints these bytes, or a front of them where the sink fails.
 fn print_front<K: Sink>(out: &mut K, bytes: &[u8])
-    ensures count { K.faults out.old ≤ K.faults out.new }
-    ensures printed { GotLine
-        (sink_seen K.holds K.faults out.old)
-        (sink_seen K.holds K.faults out.new) bytes.now }
+    ensures count { (K.seen out.old).faults ≤ (K.seen out.new).faults }
+    ensures printed { GotLine (K.seen out.old) (K.seen out.new) bytes.now }
 {
     let _ = put_all(out, bytes);
 }
 
 /// Prints one line whose last field is a file's name, or a front of it.
 fn print_named<K: Sink>(out: &mut K, fields: &[u8], name: &str)
-    ensures count { K.faults out.old ≤ K.faults out.new }
-    ensures printed { GotLine
-        (sink_seen K.holds K.faults out.old)
-        (sink_seen K.holds K.faults out.new) (fields.now ++ last_field name.now) }
+    ensures count { (K.seen out.old).faults ≤ (K.seen out.new).faults }
+    ensures printed { GotLine (K.seen out.old) (K.seen out.new) (fields.now ++ last_field name.now) }
 {
     if put_all(out, fields).is_err() {
         return;

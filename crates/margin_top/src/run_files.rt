@@ -1,8 +1,8 @@
 //! The files of a run: parameters, terms, and the feed run on its sets.
-ghost use Rattle.std.specs.Prelude.{◌≡◌, ◌≤◌, map, IfOk, OnOk};
+ghost use Rattle.std.specs.Prelude.{◌≡◌, map, IfOk, OnOk};
 ghost use Rattle.csa_terms.specs.Grammar.{terms_of};
 ghost use Rattle.feed_gate.specs.Sets.{AreApart, AreKept};
-ghost use Rattle.margin_top.specs.Files.{folder_seen};
+ghost use Rattle.margin_top.specs.Files.{KeepsCounts};
 ghost use Rattle.margin_top.specs.Run.{start};
 ghost use Rattle.margin_top.specs.RunStages.{TermsEnds, FeedEnds, RunFilesEnd, IsTermsFault};
 
@@ -32,13 +32,8 @@ fn read_terms_file<F: Folder>(
     folder: &mut F,
     name: &str,
 ) -> Result<Terms, TermsFileFault>
-    ensures finds { F.find_faults folder.old ≤ F.find_faults folder.new }
-    ensures reads { F.read_faults folder.old ≤ F.read_faults folder.new }
-    ensures due { F.due folder.new ≡ F.due folder.old }
-    ensures ends { TermsEnds
-        (folder_seen F.told F.find_faults F.read_faults folder.old)
-        (folder_seen F.told F.find_faults F.read_faults folder.new)
-        name.now result }
+    ensures counts { KeepsCounts (F.seen folder.old) (F.seen folder.new) }
+    ensures ends { TermsEnds (F.seen folder.old) (F.seen folder.new) name.now result }
 {
     let bytes = read_file(alloc, folder, name)?;
     match read_terms(alloc, bytes.as_slice()) {
@@ -78,14 +73,9 @@ fn run_feed_file<F: Folder>(
     sets: &mut [SetState],
 ) -> Result<FeedReport, FindRefused>
     requires { AreApart sets.old }
-    ensures finds { F.find_faults folder.old ≤ F.find_faults folder.new }
-    ensures reads { F.read_faults folder.old ≤ F.read_faults folder.new }
-    ensures due { F.due folder.new ≡ F.due folder.old }
+    ensures counts { KeepsCounts (F.seen folder.old) (F.seen folder.new) }
     ensures kept { OnOk result (AreKept sets.old sets.new) }
-    ensures ends { FeedEnds
-        (folder_seen F.told F.find_faults F.read_faults folder.old)
-        (folder_seen F.told F.find_faults F.read_faults folder.new)
-        name.now sets.old sets.new result }
+    ensures ends { FeedEnds (F.seen folder.old) (F.seen folder.new) name.now sets.old sets.new result }
 {
     let source = match folder.find(alloc, name) {
         Ok(source) => source,
@@ -104,13 +94,8 @@ pub(crate) fn run_files<F: Folder>(
     feed: &str,
     folder: &mut F,
 ) -> Result<Outcome, RunFault>
-    ensures finds { F.find_faults folder.old ≤ F.find_faults folder.new }
-    ensures reads { F.read_faults folder.old ≤ F.read_faults folder.new }
-    ensures due { F.due folder.new ≡ F.due folder.old }
-    ensures ends { RunFilesEnd params.now terms.now feed.now
-        (folder_seen F.told F.find_faults F.read_faults folder.old)
-        (folder_seen F.told F.find_faults F.read_faults folder.new)
-        result }
+    ensures counts { KeepsCounts (F.seen folder.old) (F.seen folder.new) }
+    ensures ends { RunFilesEnd params.now terms.now feed.now (F.seen folder.old) (F.seen folder.new) result }
 {
     let values = match read_param_file(alloc, folder, params) {
         Ok(values) => values,

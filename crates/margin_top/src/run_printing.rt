@@ -3,7 +3,6 @@ ghost use Rattle.std.specs.Prelude.{◌≡◌, ◌≤◌, ◌++◌, [], map, IfO
 ghost use Rattle.std.specs.List.{flat_map};
 ghost use Rattle.set_core.specs.Set.{Set};
 ghost use Rattle.margin_text.specs.Journal.{journal_text};
-ghost use Rattle.margin_top.specs.Calc.{sink_seen};
 ghost use Rattle.margin_top.specs.Run.{RunPrints, run_text, status_of_end};
 
 use crate::run_files::Outcome;
@@ -51,10 +50,8 @@ fn status_of_end(end: FeedEnd) -> Status
 /// Prints a run, and answers its status.
 pub(crate) fn print_run<K: Sink>(alloc: Global, out: &mut K, run: &Outcome) -> Status
     requires { run.now.terms ≡ map (λ s. s.terms) run.now.sets.items }
-    ensures count { K.faults out.old ≤ K.faults out.new }
-    ensures printed { RunPrints run.now.sets.items run.now.report
-        (sink_seen K.holds K.faults out.old)
-        (sink_seen K.holds K.faults out.new) result }
+    ensures count { (K.seen out.old).faults ≤ (K.seen out.new).faults }
+    ensures printed { RunPrints run.now.sets.items run.now.report (K.seen out.old) (K.seen out.new) result }
 {
     let Ok(text) = outcome_text(alloc, run) else {
         return Status::Memory;

@@ -1,6 +1,5 @@
-ghost use Rattle.std.specs.Prelude.{◌≡◌, ◌≤◌};
-ghost use Rattle.margin_top.specs.Files.{folder_seen};
-ghost use Rattle.margin_top.specs.Calc.{sink_seen};
+ghost use Rattle.std.specs.Prelude.{◌≤◌};
+ghost use Rattle.margin_top.specs.Files.{KeepsCounts};
 ghost use Rattle.margin_top.specs.Run.{RunEnds};
 ghost use Rattle.margin_top.specs.Complete.{IsWellRun, EndsWell};
 
@@ -24,21 +23,13 @@ pub(crate) fn run<F: Folder, K: Sink>(
     folder: &mut F,
     out: &mut K,
 ) -> Status
-    ensures finds { F.find_faults folder.old ≤ F.find_faults folder.new }
-    ensures reads { F.read_faults folder.old ≤ F.read_faults folder.new }
-    ensures due { F.due folder.new ≡ F.due folder.old }
-    ensures count { K.faults out.old ≤ K.faults out.new }
+    ensures counts { KeepsCounts (F.seen folder.old) (F.seen folder.new) }
+    ensures count { (K.seen out.old).faults ≤ (K.seen out.new).faults }
     ensures ends { RunEnds params.now terms.now feed.now
-        (folder_seen F.told F.find_faults F.read_faults folder.old)
-        (folder_seen F.told F.find_faults F.read_faults folder.new)
-        (sink_seen K.holds K.faults out.old)
-        (sink_seen K.holds K.faults out.new) result }
+        (F.seen folder.old) (F.seen folder.new) (K.seen out.old) (K.seen out.new) result }
     // Where all is well the run is done and printed whole, or memory ran out.
     ensures complete { IsWellRun params.now terms.now feed.now
-        (folder_seen F.told F.find_faults F.read_faults folder.old)
-        (folder_seen F.told F.find_faults F.read_faults folder.new)
-        (sink_seen K.holds K.faults out.old)
-        (sink_seen K.holds K.faults out.new) → EndsWell result }
+        (F.seen folder.old) (F.seen folder.new) (K.seen out.old) (K.seen out.new) → EndsWell result }
 {
     match run_files(alloc, params, terms, feed, folder) {
         Ok(run) => print_run(alloc, out, &run),

@@ -1,8 +1,7 @@
 //! Files read whole by their grammars.
-ghost use Rattle.std.specs.Prelude.{◌≡◌, ◌≤◌};
 ghost use Rattle.simm_params.specs.Grammar.{params_of};
 ghost use Rattle.crif_reader.specs.Grammar.{crif_of};
-ghost use Rattle.margin_top.specs.Files.{folder_seen, ValueEnds};
+ghost use Rattle.margin_top.specs.Files.{KeepsCounts, ValueEnds};
 
 use crate::fault::ValueFault;
 use crate::file::read_file;
@@ -18,13 +17,8 @@ pub(crate) fn read_param_file<F: Folder>(
     folder: &mut F,
     name: &str,
 ) -> Result<Params, ValueFault>
-    ensures finds { F.find_faults folder.old ≤ F.find_faults folder.new }
-    ensures reads { F.read_faults folder.old ≤ F.read_faults folder.new }
-    ensures due { F.due folder.new ≡ F.due folder.old }
-    ensures ends { ValueEnds params_of
-        (folder_seen F.told F.find_faults F.read_faults folder.old)
-        (folder_seen F.told F.find_faults F.read_faults folder.new)
-        name.now result }
+    ensures counts { KeepsCounts (F.seen folder.old) (F.seen folder.new) }
+    ensures ends { ValueEnds params_of (F.seen folder.old) (F.seen folder.new) name.now result }
 {
     let bytes = read_file(alloc, folder, name)?;
     Ok(read_params(alloc, bytes.as_slice())?)
@@ -36,13 +30,8 @@ pub(crate) fn read_crif_file<F: Folder>(
     folder: &mut F,
     name: &str,
 ) -> Result<Batch, ValueFault>
-    ensures finds { F.find_faults folder.old ≤ F.find_faults folder.new }
-    ensures reads { F.read_faults folder.old ≤ F.read_faults folder.new }
-    ensures due { F.due folder.new ≡ F.due folder.old }
-    ensures ends { ValueEnds crif_of
-        (folder_seen F.told F.find_faults F.read_faults folder.old)
-        (folder_seen F.told F.find_faults F.read_faults folder.new)
-        name.now result }
+    ensures counts { KeepsCounts (F.seen folder.old) (F.seen folder.new) }
+    ensures ends { ValueEnds crif_of (F.seen folder.old) (F.seen folder.new) name.now result }
 {
     let bytes = read_file(alloc, folder, name)?;
     Ok(read_batch(alloc, bytes.as_slice())?)

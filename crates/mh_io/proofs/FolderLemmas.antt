@@ -2,7 +2,7 @@
 use Rattle.std.proofs.Common.{◌≡◌, ℕ, Bool, true, false, cond, List, [], ◌∷◌, Option, Some, None, map, find, option_map, bytes_eq, refl, sym, ap, ◌∙◌}
 use Rattle.std.proofs.lemmas.Slice.Eq.{bytes_eq-Decides}
 use Rattle.mh_io.specs.Folder.{File, file_of, IsFound}
-use Rattle.mh_io.specs.Memory.{MemoryFile, MemorySource, file_told, is_named, opened}
+use Rattle.mh_io.specs.Memory.{MemoryFile, MemorySource, file_told, is_named, opened, source_seen}
 
 -- the file that is told is the file that is there
 pub file_of-told : (files : List MemoryFile) (name : List ℕ) → file_of (map file_told files) name ≡ option_map (λ f. f.bytes) (find (is_named name) files)
@@ -19,7 +19,7 @@ find_passes {X} p (y ∷ ys) x h =
     [ true ↦ λ here is. cc | false ↦ λ _ is. find_passes p ys x is ]) refl h
 
 -- a source of the file that was looked up is one that was found
-pub found_file : (files : List MemoryFile) (name : List ℕ) (source : MemorySource) (found : Option MemoryFile) → find (is_named name) files ≡ found → option_map opened found ≡ Some source → IsFound (map file_told files) name (Some source.name) (Some source.gave) (Some source.left)
+pub found_file : (files : List MemoryFile) (name : List ℕ) (source : MemorySource) (found : Option MemoryFile) → find (is_named name) files ≡ found → option_map opened found ≡ Some source → IsFound (map file_told files) name (source_seen source)
 found_file files name source None here is = cc
 found_file files name source (Some file) here is =
     let same : source ≡ opened file = cc in

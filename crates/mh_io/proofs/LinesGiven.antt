@@ -1,12 +1,12 @@
 -- What giving a line, or a fault, means for the lines of all that is taken.
-use Rattle.std.proofs.Common.{◌≡◌, ℕ, ◌+◌, ◌<◌, ◌≤◌, Bool, true, false, List, [], ◌∷◌, ◌++◌, Option, Err, length, take, drop, refl, sym, ap, ◌∙◌, arith, append_assoc}
+use Rattle.std.proofs.Common.{◌≡◌, ℕ, ◌+◌, ◌<◌, ◌≤◌, Bool, true, false, List, [], ◌∷◌, ◌++◌, Err, length, take, drop, refl, sym, ap, ◌∙◌, arith, append_assoc}
 use Rattle.std.proofs.lemmas.List.{append-nil, length-take-le, length-drop, drop_all}
 use Rattle.std.proofs.lemmas.List.Elements.{All-nil}
+use Rattle.mh_io.specs.Source.{SourceSeen}
 use Rattle.mh_io.specs.Lines.{LineRun, Stop, Whole, Open, Long, Over, stopped, with_lines, is_lf, lines_behind, without_cr}
 use Rattle.mh_io.specs.Lined.{Lined, Took, Gave, IsStopped, ComesWhere, answer_at, is_ended, lines_with, lines_now}
 use Rattle.mh_io.specs.LinesSteps.{BeginsLine, IsPart, TookMore, Shows, past}
-use Rattle.mh_io.specs.declared.reading.TheConstants.{MOST_BYTES}
-use Rattle.mh_io.specs.declared.lines_window.TheConstants.{LINE_BYTES}
+use Rattle.mh_io.specs.Limits.{most_bytes, line_bytes}
 use Rattle.mh_io.specs.declared.lines_answer.Supply.TheVariants as supply
 use Rattle.mh_io.specs.declared.lines_answer.LineFault.{LineFault}
 use Rattle.mh_io.specs.declared.lines_answer.LineFault.TheVariants.{ReadFault, LineLong, TooLong, Memory}
@@ -19,8 +19,8 @@ line_with passed count pending later ended begins =
     let text = take count pending in
     let there = begins.there in
     let long : length text ≡ count = length-take-le count pending (omega arith) in
-    let short : length text < LINE_BYTES = rw long begins.short in
-    let near : passed + length text < MOST_BYTES = rw long begins.near in
+    let short : length text < line_bytes = rw long begins.short in
+    let near : passed + length text < most_bytes = rw long begins.near in
     let all : pending ++ later ≡ text ++ 10 ∷ (drop (count + 1) pending ++ later) =
     ap (λ xs. xs ++ later) begins.lf ∙ append_assoc text (10 ∷ drop (count + 1) pending) later in
     ap (λ xs. lines_behind passed xs ended) all
@@ -33,7 +33,7 @@ line_now held count begins =
     (without_cr (take count held.pending), _, ap (λ xs. lines_behind held.passed xs (is_ended held.supply)) (sym (append-nil held.pending)) ∙ line_with held.passed count held.pending [] (is_ended held.supply) begins)
 
 -- where nothing is left, the run of it
-nothing_left : (passed : ℕ) → passed ≤ MOST_BYTES → lines_behind passed [] true ≡ stopped Whole
+nothing_left : (passed : ℕ) → passed ≤ most_bytes → lines_behind passed [] true ≡ stopped Whole
 nothing_left passed near = part_run passed [] true (record { text = All-nil (λ b. is_lf b ≡ false); short = omega arith; near = omega arith })
 
 last_with : (passed : ℕ) (pending : List ℕ) → IsPart passed pending → 0 < length pending → lines_behind passed pending true ≡ with_lines (pending ∷ []) (lines_behind (passed + length pending) [] true)
@@ -74,17 +74,17 @@ fault_again held LineLong stop shows is_stopped = ap answer_at (same_stop held L
 fault_again held (TooLong taken) stop shows is_stopped = rw shows.1 (ap answer_at (same_stop held Over stop (shows.0, tt) is_stopped))
 fault_again held Memory stop shows is_stopped = absurd shows
 
-module _ {S : Type 0} (faults : S → ℕ) (name gave left : S → Option (List ℕ)) where
-  took_past : {a b : Lined S} {taken : List ℕ} (count : ℕ) → count ≤ length b.pending → Took faults name gave left a b taken → Took faults name gave left a (past b count) taken
+module _ {S : Type 0} (seen : S → SourceSeen) where
+  took_past : {a b : Lined S} {taken : List ℕ} (count : ℕ) → count ≤ length b.pending → Took seen a b taken → Took seen a (past b count) taken
   took_past {a} {b} count there took =
       let same : b.passed + count + length (drop count b.pending) ≡ b.passed + length b.pending = omega (arith, length-drop count b.pending) in
       record { takes = took.takes; count = took.count; named = took.named; total = same ∙ took.total; few = λ few. omega (arith, same, took.few few); failed = took.failed; at_end = took.at_end; stays = took.stays; rests = took.rests; came = took.came }
 
   -- the bytes that were taken, as they wait
-  taken_with : {a b : Lined S} (more : TookMore faults name gave left a b) (later : List ℕ) (ended : Bool) → lines_with a (more.taken ++ later) ended ≡ lines_with b later ended
+  taken_with : {a b : Lined S} (more : TookMore seen a b) (later : List ℕ) (ended : Bool) → lines_with a (more.taken ++ later) ended ≡ lines_with b later ended
   taken_with {a} {b} more later ended = rw (more.passed, more.pending, append_assoc) refl
 
-  pub gave_line : {a b : Lined S} (count : ℕ) → TookMore faults name gave left a b → BeginsLine b.passed b.pending count → Gave faults name gave left a (past b (count + 1)) (without_cr (take count b.pending) ∷ [])
+  pub gave_line : {a b : Lined S} (count : ℕ) → TookMore seen a b → BeginsLine b.passed b.pending count → Gave seen a (past b (count + 1)) (without_cr (take count b.pending) ∷ [])
   gave_line {a} {b} count more begins = record {
     taken = more.taken;
     took = took_past (count + 1) (let there = begins.there in omega arith) more.took;
@@ -92,7 +92,7 @@ module _ {S : Type 0} (faults : S → ℕ) (name gave left : S → Option (List 
     count = ap (λ n. n + 1) more.given;
   }
 
-  pub gave_last : {a b : Lined S} → TookMore faults name gave left a b → IsPart b.passed b.pending → b.supply ≡ supply.Ended → 0 < length b.pending → Gave faults name gave left a (past b (length b.pending)) (b.pending ∷ [])
+  pub gave_last : {a b : Lined S} → TookMore seen a b → IsPart b.passed b.pending → b.supply ≡ supply.Ended → 0 < length b.pending → Gave seen a (past b (length b.pending)) (b.pending ∷ [])
   gave_last {a} {b} more part over some = record {
     taken = more.taken;
     took = took_past (length b.pending) (omega arith) more.took;

@@ -8,8 +8,7 @@ use Rattle.std.proofs.lemmas.List.Sums.{fails_before_first, passes_at_first}
 use Rattle.std.proofs.Math.Seq.{take-add}
 use Rattle.mh_io.specs.Lines.{is_lf}
 use Rattle.mh_io.specs.LinesSteps.{HasNoLf, BeginsLine, IsPart}
-use Rattle.mh_io.specs.declared.reading.TheConstants.{MOST_BYTES}
-use Rattle.mh_io.specs.declared.lines_window.TheConstants.{LINE_BYTES}
+use Rattle.mh_io.specs.Limits.{most_bytes, line_bytes}
 
 record Found (bytes : List ℕ) (place : ℕ) : Type 0 where
   pub there : place < length bytes
@@ -36,7 +35,7 @@ none_found bytes e =
     All-from_get_or (λ b. is_lf b ≡ false) bytes 0 (λ i h. fails_before_first is_lf bytes i 0 (omega arith))
 
 -- the bytes up to an LF that a search behind `looked` bytes found
-pub line_found : (passed looked near place : ℕ) (bytes : List ℕ) → passed ≤ MOST_BYTES → near ≡ min (length bytes) (MOST_BYTES - passed) → looked ≤ near → length bytes ≤ LINE_BYTES → HasNoLf (take looked bytes) → position is_lf (take (near - looked) (drop looked bytes)) ≡ Some place → BeginsLine passed bytes (looked + place)
+pub line_found : (passed looked near place : ℕ) (bytes : List ℕ) → passed ≤ most_bytes → near ≡ min (length bytes) (most_bytes - passed) → looked ≤ near → length bytes ≤ line_bytes → HasNoLf (take looked bytes) → position is_lf (take (near - looked) (drop looked bytes)) ≡ Some place → BeginsLine passed bytes (looked + place)
 line_found passed looked near place bytes before is order few free e =
     let part = take (near - looked) (drop looked bytes) in
     let f = found part place e in
@@ -55,20 +54,20 @@ line_found passed looked near place bytes before is order few free e =
     }
 
 -- no LF is among the bytes that are looked at
-pub none_near : (passed looked near : ℕ) (bytes : List ℕ) → near ≡ min (length bytes) (MOST_BYTES - passed) → looked ≤ near → HasNoLf (take looked bytes) → position is_lf (take (near - looked) (drop looked bytes)) ≡ None → HasNoLf (take near bytes)
+pub none_near : (passed looked near : ℕ) (bytes : List ℕ) → near ≡ min (length bytes) (most_bytes - passed) → looked ≤ near → HasNoLf (take looked bytes) → position is_lf (take (near - looked) (drop looked bytes)) ≡ None → HasNoLf (take near bytes)
 none_near passed looked near bytes is order free e =
     let all : near ≡ looked + (near - looked) = omega arith in
     let text : take near bytes ≡ take looked bytes ++ take (near - looked) (drop looked bytes) = ap (λ k. take k bytes) all ∙ take-add looked (near - looked) bytes in
     rw text (All-append (λ b. is_lf b ≡ false) (take looked bytes) (take (near - looked) (drop looked bytes)) free (none_found _ e))
 
 -- these are all the bytes that are looked at
-pub near_bytes : (passed near : ℕ) (bytes : List ℕ) → near ≡ min (length bytes) (MOST_BYTES - passed) → take near bytes ≡ take (MOST_BYTES - passed) bytes
+pub near_bytes : (passed near : ℕ) (bytes : List ℕ) → near ≡ min (length bytes) (most_bytes - passed) → take near bytes ≡ take (most_bytes - passed) bytes
 near_bytes passed near bytes is =
-    let other : near ≡ min (MOST_BYTES - passed) (length bytes) = omega arith in
-    ap (λ k. take k bytes) other ∙ take_min (MOST_BYTES - passed) bytes
+    let other : near ≡ min (most_bytes - passed) (length bytes) = omega arith in
+    ap (λ k. take k bytes) other ∙ take_min (most_bytes - passed) bytes
 
 -- all bytes are looked at, and no line begins
-pub part_found : (passed near : ℕ) (bytes : List ℕ) → passed ≤ MOST_BYTES → near ≡ min (length bytes) (MOST_BYTES - passed) → HasNoLf (take near bytes) → near < LINE_BYTES → length bytes ≤ near → IsPart passed bytes
+pub part_found : (passed near : ℕ) (bytes : List ℕ) → passed ≤ most_bytes → near ≡ min (length bytes) (most_bytes - passed) → HasNoLf (take near bytes) → near < line_bytes → length bytes ≤ near → IsPart passed bytes
 part_found passed near bytes before is free short all = record {
   text = let whole : take near bytes ≡ bytes = take_all near bytes all in rw whole at free;
   short = omega arith;

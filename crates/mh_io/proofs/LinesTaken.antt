@@ -1,7 +1,8 @@
 -- What a reader of lines took, call by call.
-use Rattle.std.proofs.Common.{◌≡◌, ◌≢◌, ◌⊎◌, inl, inr, ℕ, List, [], ◌++◌, Option, refl, sym, ap, ◌∙◌, arith, append_assoc, length-append}
+use Rattle.std.proofs.Common.{◌≡◌, ◌≢◌, ◌⊎◌, inl, inr, ℕ, List, [], ◌++◌, refl, sym, ap, ◌∙◌, arith, append_assoc, length-append}
 use Rattle.std.proofs.lemmas.List.{append-nil}
 use Rattle.mh_io.specs.Faults.{Rises}
+use Rattle.mh_io.specs.Source.{SourceSeen}
 use Rattle.mh_io.specs.Lines.{LineRun, with_lines}
 use Rattle.mh_io.specs.Lined.{Lined, Took, Gave, lines_with}
 use Rattle.mh_io.specs.LinesSteps.{TookMore}
@@ -20,13 +21,13 @@ open_or_not supply.Failed = inr (λ e. cc)
 with_lines_twice : (xs ys : List (List ℕ)) (run : LineRun) → with_lines xs (with_lines ys run) ≡ with_lines (xs ++ ys) run
 with_lines_twice xs ys run = ap (λ (zs : List (List ℕ)). let all : LineRun = record { lines = zs; stop = run.stop } in all) (sym (append_assoc xs ys run.lines))
 
-module _ {S : Type 0} (faults : S → ℕ) (name gave left : S → Option (List ℕ)) where
+module _ {S : Type 0} (seen : S → SourceSeen) where
   -- the source failed
-  pub failed_now : (old new : Lined S) → old.supply ≡ supply.Open → new.supply ≡ supply.Failed → Rises (faults old.source) (faults new.source) → name new.source ≡ name old.source → gave new.source ≡ gave old.source → left new.source ≡ left old.source → new.pending ≡ old.pending → new.passed ≡ old.passed → new.given ≡ old.given → TookMore faults name gave left old new
+  pub failed_now : (old new : Lined S) → old.supply ≡ supply.Open → new.supply ≡ supply.Failed → Rises (seen old.source).faults (seen new.source).faults → (seen new.source).name ≡ (seen old.source).name → (seen new.source).gave ≡ (seen old.source).gave → (seen new.source).left ≡ (seen old.source).left → new.pending ≡ old.pending → new.passed ≡ old.passed → new.given ≡ old.given → TookMore seen old new
   failed_now old new is_open is_failed rises named same_gave same_left pending passed given = record {
     taken = [];
     took = record {
-      takes = rw (same_gave, same_left) (nothing_taken (gave old.source) (left old.source));
+      takes = nothing_taken _ _ same_gave same_left;
       count = rises.kept;
       named = named;
       total = rw (passed, pending) (omega arith);
@@ -43,9 +44,9 @@ module _ {S : Type 0} (faults : S → ℕ) (name gave left : S → Option (List 
   }
 
   -- nothing was taken yet
-  pub took_nothing : (held : Lined S) → Took faults name gave left held held []
+  pub took_nothing : (held : Lined S) → Took seen held held []
   took_nothing held = record {
-    takes = nothing_taken (gave held.source) (left held.source);
+    takes = nothing_taken _ _ refl refl;
     count = omega arith;
     named = refl;
     total = omega arith;
@@ -58,7 +59,7 @@ module _ {S : Type 0} (faults : S → ℕ) (name gave left : S → Option (List 
   }
 
   -- one taking after another
-  pub then_took : {a b c : Lined S} {xs ys : List ℕ} → Took faults name gave left a b xs → Took faults name gave left b c ys → Took faults name gave left a c (xs ++ ys)
+  pub then_took : {a b c : Lined S} {xs ys : List ℕ} → Took seen a b xs → Took seen b c ys → Took seen a c (xs ++ ys)
   then_took {a} {b} {c} {xs} {ys} first second = record {
     takes = then_taken first.takes second.takes;
     count = let k = first.count in let l = second.count in omega arith;
@@ -78,10 +79,10 @@ module _ {S : Type 0} (faults : S → ℕ) (name gave left : S → Option (List 
     came = λ later ended can. rw append_assoc (first.came (ys ++ later) ended (second.came later ended can));
   }
 
-  pub more_nothing : (held : Lined S) → TookMore faults name gave left held held
+  pub more_nothing : (held : Lined S) → TookMore seen held held
   more_nothing held = record { taken = []; took = took_nothing held; pending = sym (append-nil held.pending); passed = refl; given = refl }
 
-  pub then_more : {a b c : Lined S} → TookMore faults name gave left a b → TookMore faults name gave left b c → TookMore faults name gave left a c
+  pub then_more : {a b c : Lined S} → TookMore seen a b → TookMore seen b c → TookMore seen a c
   then_more {a} {b} {c} first second = record {
     taken = first.taken ++ second.taken;
     took = then_took first.took second.took;
@@ -90,11 +91,11 @@ module _ {S : Type 0} (faults : S → ℕ) (name gave left : S → Option (List 
     given = second.given ∙ first.given;
   }
 
-  pub gave_none : (held : Lined S) → Gave faults name gave left held held []
+  pub gave_none : (held : Lined S) → Gave seen held held []
   gave_none held = record { taken = []; took = took_nothing held; lines = λ later ended _. refl; count = omega arith }
 
   -- lines, and then further ones
-  pub then_gave : {a b c : Lined S} {xs ys : List (List ℕ)} → Gave faults name gave left a b xs → Gave faults name gave left b c ys → Gave faults name gave left a c (xs ++ ys)
+  pub then_gave : {a b c : Lined S} {xs ys : List (List ℕ)} → Gave seen a b xs → Gave seen b c ys → Gave seen a c (xs ++ ys)
   then_gave {a} {b} {c} {xs} {ys} first second = record {
     taken = first.taken ++ second.taken;
     took = then_took first.took second.took;

@@ -4,7 +4,7 @@ use Rattle.std.proofs.lemmas.List.{append-nil, length-drop}
 use Rattle.std.proofs.Math.Seq.{take-add, take-length}
 use Rattle.std.specs.Io.KnownBytes.{append_known, prepend_known}
 use Rattle.mh_io.specs.Told.{Appends}
-use Rattle.mh_io.specs.Source.{Takes}
+use Rattle.mh_io.specs.Source.{SourceSeen, Takes}
 
 -- bytes appended in two parts
 pub append_known-twice : (held : Option (List ℕ)) (xs ys : List ℕ) → append_known (append_known held xs) ys ≡ append_known held (xs ++ ys)
@@ -24,15 +24,15 @@ prepend_known-none : (left : Option (List ℕ)) → left ≡ prepend_known [] le
 prepend_known-none None = refl
 prepend_known-none (Some left) = refl
 
--- before the first taking
-pub nothing_taken : (gave left : Option (List ℕ)) → Takes gave gave left left []
-nothing_taken gave left = record { gave = append_known-none gave; left = prepend_known-none left }
+-- where nothing was taken
+pub nothing_taken : (old new : SourceSeen) → new.gave ≡ old.gave → new.left ≡ old.left → Takes old new []
+nothing_taken old new gave left = record { gave = gave ∙ append_known-none old.gave; left = sym left ∙ prepend_known-none new.left }
 
 -- one taking after another
-pub then_taken : {g0 g1 g2 l0 l1 l2 : Option (List ℕ)} {xs ys : List ℕ} → Takes g0 g1 l0 l1 xs → Takes g1 g2 l1 l2 ys → Takes g0 g2 l0 l2 (xs ++ ys)
-then_taken {g0} {g1} {g2} {l0} {l1} {l2} {xs} {ys} a b = record {
-  gave = b.gave ∙ (ap (λ g. append_known g ys) a.gave ∙ append_known-twice g0 xs ys);
-  left = a.left ∙ (ap (λ l. prepend_known xs l) b.left ∙ prepend_known-twice l2 xs ys);
+pub then_taken : {old mid new : SourceSeen} {xs ys : List ℕ} → Takes old mid xs → Takes mid new ys → Takes old new (xs ++ ys)
+then_taken {old} {mid} {new} {xs} {ys} a b = record {
+  gave = b.gave ∙ (ap (λ g. append_known g ys) a.gave ∙ append_known-twice old.gave xs ys);
+  left = a.left ∙ (ap (λ l. prepend_known xs l) b.left ∙ prepend_known-twice new.left xs ys);
 }
 
 -- all that is left after a front

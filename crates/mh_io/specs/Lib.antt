@@ -1,4 +1,5 @@
 pub mod Faults
+pub mod Limits
 pub mod Told
 pub mod Source
 pub mod Sink

@@ -1,10 +1,10 @@
 -- What a reader of lines holds, and what its calls do.
-use Rattle.std.specs.Prelude.{◌≡◌, ◌≢◌, ℕ, ◌+◌, ◌≤◌, ◌<◌, List, [], ◌∷◌, ◌++◌, length, Bool, true, false, Option, Result, Ok, Err}
+use Rattle.std.specs.Prelude.{◌≡◌, ◌≢◌, ℕ, ◌+◌, ◌≤◌, ◌<◌, List, [], ◌∷◌, ◌++◌, length, Bool, true, false, Result, Ok, Err}
 use Rattle.std.specs.Io.KnownBytes.{IsAtEnd}
 use Rattle.mh_io.specs.Faults.{Rises}
-use Rattle.mh_io.specs.Source.{Takes}
+use Rattle.mh_io.specs.Source.{SourceSeen, Takes}
 use Rattle.mh_io.specs.Lines.{LineRun, Stop, Whole, Open, Long, Over, stopped, with_lines, lines_behind}
-use Rattle.mh_io.specs.declared.reading.TheConstants.{MOST_BYTES}
+use Rattle.mh_io.specs.Limits.{most_bytes}
 use Rattle.mh_io.specs.declared.lines_answer.Supply.{Supply}
 use Rattle.mh_io.specs.declared.lines_answer.Supply.TheVariants as supply
 use Rattle.mh_io.specs.declared.lines_answer.LineStep.{LineStep}
@@ -40,18 +40,18 @@ lines_with held later ended = lines_behind held.passed (held.pending ++ later) e
 abbrev pub lines_now : {S : Type 0} → Lined S → LineRun
 lines_now held = lines_behind held.passed held.pending (is_ended held.supply)
 
-module _ {S : Type 0} (faults : S → ℕ) (name gave left : S → Option (List ℕ)) where
+module _ {S : Type 0} (seen : S → SourceSeen) where
   -- These bytes were taken from the source, which keeps its name and loses no fault. Each of them was given or waits, and
   -- there are no more than 33,554,433 in all. The source failed only where a fault was met, ended only where nothing is
   -- left, and isn't asked again.
   pub record Took (old new : Lined S) (taken : List ℕ) : Type 0 where
-    pub takes : Takes (gave old.source) (gave new.source) (left old.source) (left new.source) taken
-    pub count : faults old.source ≤ faults new.source
-    pub named : name new.source ≡ name old.source
+    pub takes : Takes (seen old.source) (seen new.source) taken
+    pub count : (seen old.source).faults ≤ (seen new.source).faults
+    pub named : (seen new.source).name ≡ (seen old.source).name
     pub total : new.passed + length new.pending ≡ old.passed + length old.pending + length taken
-    pub few : old.passed + length old.pending ≤ MOST_BYTES + 1 → new.passed + length new.pending ≤ MOST_BYTES + 1
-    pub failed : old.supply ≡ supply.Open → new.supply ≡ supply.Failed → Rises (faults old.source) (faults new.source)
-    pub at_end : old.supply ≡ supply.Open → new.supply ≡ supply.Ended → IsAtEnd (left new.source)
+    pub few : old.passed + length old.pending ≤ most_bytes + 1 → new.passed + length new.pending ≤ most_bytes + 1
+    pub failed : old.supply ≡ supply.Open → new.supply ≡ supply.Failed → Rises (seen old.source).faults (seen new.source).faults
+    pub at_end : old.supply ≡ supply.Open → new.supply ≡ supply.Ended → IsAtEnd (seen new.source).left
     pub stays : old.supply ≢ supply.Open → new.supply ≡ old.supply
     pub rests : old.supply ≢ supply.Open → new.source ≡ old.source
     pub came : (later : List ℕ) (ended : Bool) → CanCome new.supply later ended → CanCome old.supply (taken ++ later) ended
@@ -79,7 +79,7 @@ abbrev pub answer_at : Stop → Result LineStep LineFault
 answer_at Whole = Ok End
 answer_at Open = Err ReadFault
 answer_at Long = Err LineLong
-answer_at Over = Err (TooLong (MOST_BYTES + 1))
+answer_at Over = Err (TooLong (most_bytes + 1))
 
 -- the lines that an answer gives
 abbrev pub lines_given : Result LineStep LineFault → List ℕ → List (List ℕ)
@@ -94,7 +94,7 @@ ComesWhere (Ok Line) new = Unit {0}
 ComesWhere (Ok End) new = IsStopped new Whole
 ComesWhere (Err ReadFault) new = IsStopped new Open
 ComesWhere (Err LineLong) new = IsStopped new Long
-ComesWhere (Err (TooLong taken)) new = IsStopped new Over × (taken ≡ MOST_BYTES + 1)
+ComesWhere (Err (TooLong taken)) new = IsStopped new Over × (taken ≡ most_bytes + 1)
 ComesWhere (Err Memory) new = 0 < length (lines_now new).lines
 
 -- the line is empty at each answer but Line

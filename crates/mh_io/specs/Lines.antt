@@ -1,8 +1,7 @@
 -- The lines of the bytes that were taken from a source, and the way they stop.
 use Rattle.std.specs.Prelude.{ℕ, ◌+◌, ◌-◌, List, [], ◌∷◌, ◌++◌, length, reverse, take, Bool, nat_le, nat_lt, ◌==◌, if◌then◌else◌}
 use Rattle.std.specs.List.{slice_split}
-use Rattle.mh_io.specs.declared.reading.TheConstants.{MOST_BYTES}
-use Rattle.mh_io.specs.declared.lines_window.TheConstants.{LINE_BYTES}
+use Rattle.mh_io.specs.Limits.{most_bytes, line_bytes}
 
 -- the way the bytes stop: the input ended; bytes without LF stand at the end and more may come; a line has no LF among
 -- its first 65,536 bytes; the LF that ends a line isn't among the first 33,554,432 bytes
@@ -42,7 +41,7 @@ last_line (b ∷ bs) = record { lines = (b ∷ bs) ∷ []; stop = Whole }
 -- the bytes that no LF follows
 abbrev pub at_rest : List ℕ → Bool → Bool → LineRun
 at_rest rest over ended =
-    if nat_le LINE_BYTES (length rest) then stopped Long
+    if nat_le line_bytes (length rest) then stopped Long
     else if over then stopped Over
     else if ended then last_line rest
     else stopped Open
@@ -53,12 +52,12 @@ abbrev pub cut : List (List ℕ) → Bool → Bool → LineRun
 cut [] over ended = stopped Open
 cut (rest ∷ []) over ended = at_rest rest over ended
 cut (text ∷ next ∷ more) over ended =
-    if nat_le LINE_BYTES (length text) then stopped Long
+    if nat_le line_bytes (length text) then stopped Long
     else with_lines (without_cr text ∷ []) (cut (next ∷ more) over ended)
 
 -- the lines of what comes behind `passed` bytes; LFs are looked for among the first 33,554,432 bytes of all
 unfoldable pub lines_behind : ℕ → List ℕ → Bool → LineRun
-lines_behind passed bytes ended = cut (slice_split is_lf (take (MOST_BYTES - passed) bytes)) (nat_lt MOST_BYTES (passed + length bytes)) ended
+lines_behind passed bytes ended = cut (slice_split is_lf (take (most_bytes - passed) bytes)) (nat_lt most_bytes (passed + length bytes)) ended
 
 -- the lines of all bytes that were taken, where `ended` says that the source gave its end of input
 abbrev pub lines : List ℕ → Bool → LineRun

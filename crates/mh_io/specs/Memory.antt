@@ -1,8 +1,10 @@
 -- What a source, a sink and a folder over memory are, as contracts see them, and which of their calls fail.
-use Rattle.std.specs.Prelude.{ℕ, ◌+◌, ◌-◌, ◌^◌, ◌==◌, Bool, ◌&&◌, ◌||◌, not, List, [], ◌∷◌, ◌++◌, Option, Result, Ok, Err, min, length, map, find, is_none, bytes_eq}
+use Rattle.std.specs.Prelude.{ℕ, ◌+◌, ◌-◌, ◌^◌, ◌==◌, Bool, ◌&&◌, ◌||◌, not, List, [], ◌∷◌, ◌++◌, Option, Some, Result, Ok, Err, min, length, map, find, is_none, bytes_eq}
 use Rattle.std.specs.List.{list_any, filter}
 use Rattle.mh_io.specs.Faults.{added_faults}
-use Rattle.mh_io.specs.Folder.{File, Reading, Telling}
+use Rattle.mh_io.specs.Sink.{SinkSeen}
+use Rattle.mh_io.specs.Source.{SourceSeen}
+use Rattle.mh_io.specs.Folder.{File, Reading, Telling, FolderSeen}
 use Rattle.mh_io.specs.declared.folder.FindRefused.{FindRefused}
 use Rattle.mh_io.specs.declared.folder.FindRefused.TheVariants.{Failed, Memory}
 
@@ -36,12 +38,20 @@ pub record MemorySource : Type 0 where
   pub most : ℕ
   pub calls : Counted
 
+-- it tells its name, what it gave and what is left
+abbrev pub source_seen : MemorySource → SourceSeen
+source_seen source = record { faults = source.calls.faults; name = Some source.name; gave = Some source.gave; left = Some source.left }
+
 -- a sink over memory: what it holds, the most bytes that it can hold, and the most that it takes at one call
 pub record MemorySink : Type 0 where
   pub holds : List ℕ
   pub room : ℕ
   pub most : ℕ
   pub calls : Counted
+
+-- it tells what it holds
+abbrev pub sink_seen : MemorySink → SinkSeen
+sink_seen sink = record { faults = sink.calls.faults; holds = Some sink.holds }
 
 -- a put of so many bytes fails: it is due to fail, or the sink takes none of them
 abbrev pub put_fails : MemorySink → ℕ → Bool
@@ -78,6 +88,9 @@ file_told file = record { name = file.name; bytes = file.bytes }
 -- all that the folder tells
 abbrev pub telling : MemoryFolder → Telling
 telling folder = record { files = map file_told folder.files; asked = folder.asked; reads = folder.reads }
+
+abbrev pub folder_seen : MemoryFolder → FolderSeen
+folder_seen folder = record { told = Some (telling folder); find_faults = folder.calls.faults; read_faults = folder.read_faults; due = folder.due }
 
 abbrev pub is_named : List ℕ → MemoryFile → Bool
 is_named name file = bytes_eq file.name name

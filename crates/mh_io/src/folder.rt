@@ -1,6 +1,5 @@
-ghost use Rattle.std.specs.Prelude.{◌≡◌, ℕ, ◌+◌, ◌<◌, ◌≤◌, Option, IfOk, IfSome};
-ghost use Rattle.mh_io.specs.Faults.{IsCount, Rises, added_faults};
-ghost use Rattle.mh_io.specs.Folder.{Telling, told_after_find, due_after_find, IsFound, told_after_done};
+ghost use Rattle.std.specs.Prelude.{◌<◌};
+ghost use Rattle.mh_io.specs.Folder.{FolderSeen, Finds, TakesBack};
 
 use crate::source::Source;
 use std::alloc::{AllocError, Global};
@@ -27,22 +26,14 @@ impl From<AllocError> for FindRefused {
 
 /// Files by name, each found as a source and handed back when it is read.
 ///
-/// A folder counts its faults at finds and those of the sources that came back, each at most to 2^64 - 1. It may tell
-/// its files, the names that it was asked for, and what was read.
+/// A folder counts its faults at finds and those of the sources that came back, each at most to 2^64 - 1. These counts
+/// never fall, and stay at that value once they are there. It counts the sources that were found and have not come back
+/// too. A folder may tell its files, the names that it was asked for, and what was read.
 pub trait Folder {
     /// What a find gives.
     type Src: Source + Send;
 
-    // The faults that it met at finds. It never falls, and stays at 2^64 - 1 once it is there.
-    ghost find_faults: { Self → ℕ };
-
-    // The faults of the sources that came back, likewise.
-    ghost read_faults: { Self → ℕ };
-
-    // How many sources were found and have not come back.
-    ghost due: { Self → ℕ };
-
-    ghost told: { Self → Option Telling };
+    ghost seen: { Self → FolderSeen };
 
     /// Finds the file of this name, and makes the room that `done` will need.
     ///
@@ -51,28 +42,10 @@ pub trait Folder {
     /// `Failed` only where the count of find faults rose in this call, as it does for a file that isn't there. `Memory`
     /// for want of memory; then the name isn't counted as asked for.
     fn find(&mut self, alloc: Global, name: &str) -> Result<Self::Src, FindRefused>
-        ensures count { find_faults self.old ≤ find_faults self.new }
-        ensures counted { IsCount (find_faults self.new) }
-        ensures reads_stand { read_faults self.new ≡ read_faults self.old }
-        ensures reads_counted { IsCount (read_faults self.new) }
-        ensures due { due self.new ≡ due_after_find result (due self.old) }
-        ensures told { told self.new ≡ told_after_find result name.now (told self.old) }
-
-        ensures clean { IfOk result (λ source. Self.Src.faults source ≡ 0) }
-        ensures found { IfOk result (λ source. IfSome (told self.old) (λ folder.
-            IsFound folder.files name.now (Self.Src.name source) (Self.Src.gave source) (Self.Src.left source))) }
-
-        ensures failed { result ≡ Err FindRefused.Failed → Rises (find_faults self.old) (find_faults self.new) };
+        ensures { Finds Self.Src.seen (seen self.old) (seen self.new) name.now result };
 
     /// Takes back a source that `find` gave. It takes no memory.
     fn done(&mut self, source: Self::Src)
-        requires { 0 < due self.old }
-        ensures finds_stand { find_faults self.new ≡ find_faults self.old }
-        ensures finds_counted { IsCount (find_faults self.new) }
-        ensures count { read_faults self.old ≤ read_faults self.new }
-        ensures counted { IsCount (read_faults self.new) }
-        ensures rises { read_faults self.new ≡ added_faults (read_faults self.old) (Self.Src.faults source) }
-        ensures due { due self.new + 1 ≡ due self.old }
-        ensures told { told self.new
-            ≡ told_after_done (told self.old) (Self.Src.name source) (Self.Src.gave source) (Self.Src.faults source) };
+        requires { 0 < (seen self.old).due }
+        ensures { TakesBack (seen self.old) (seen self.new) (Self.Src.seen source) };
 }

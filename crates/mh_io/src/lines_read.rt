@@ -2,6 +2,7 @@ ghost use Rattle.std.specs.Prelude.{◌≡◌, ℕ, ◌+◌, ◌-◌, ◌<◌, �
 ghost use Rattle.mh_io.specs.Lines.{Stop, is_lf, without_cr};
 ghost use Rattle.mh_io.specs.Lined.{Lined, Gave, IsStopped, ComesWhere, IsLineOnly, lines_given, answer_at};
 ghost use Rattle.mh_io.specs.LinesSteps.{HasNoLf, BeginsLine, IsPart, Shows, Reached, TookMore, turns_left, past};
+ghost use Rattle.mh_io.specs.Limits.{most_bytes};
 
 use crate::lines_answer::{Front, LineFault, LineStep, MemoryBack, Supply};
 use crate::lines_window::{LINE_BYTES, Window};
@@ -27,14 +28,14 @@ pub struct Lines<S: Source> {
 
 impl<S: Source> Model for Lines<S> {
     ghost use Rattle.std.specs.Prelude.{ℕ, ◌+◌, ◌≤◌, length};
-    ghost use Rattle.mh_io.specs.declared.reading.TheConstants.{MOST_BYTES};
+    ghost use Rattle.mh_io.specs.Limits.{most_bytes};
     ghost use Rattle.mh_io.specs.Lined.{Lined};
 
     ghost Value = { Lined S };
 
     ghost view = { λ l. record { source = l.source; pending = l.window; passed = l.passed; given = l.given; supply = l.supply } };
 
-    ghost invariant = { λ l. (l.passed ≤ MOST_BYTES) × (l.passed + length l.window ≤ MOST_BYTES + 1) × (l.given ≤ l.passed) };
+    ghost invariant = { λ l. (l.passed ≤ most_bytes) × (l.passed + length l.window ≤ most_bytes + 1) × (l.given ≤ l.passed) };
 }
 
 /// The lines of a source, of which nothing was taken here yet. For want of memory the source comes back.
@@ -75,10 +76,10 @@ impl<S: Source> Lines<S> {
     /// Tells what stands at the front, where no LF is among the first `looked` bytes, or `None` where more is wanted.
     fn look(&self, looked: usize) -> Result<Option<Front>, LineFault>
         requires there { looked ≤ length self.now.pending }
-        requires near { looked ≤ MOST_BYTES - self.now.passed }
+        requires near { looked ≤ most_bytes - self.now.passed }
         requires text { HasNoLf (take looked self.now.pending) }
         ensures shows { Shows self.now result }
-        ensures bounded { self.now.passed + length self.now.pending ≤ MOST_BYTES + 1 }
+        ensures bounded { self.now.passed + length self.now.pending ≤ most_bytes + 1 }
     {
         let bytes = self.window.bytes();
         let near = bytes.len().min(MOST_BYTES - self.passed);
@@ -106,7 +107,7 @@ impl<S: Source> Lines<S> {
     fn refill(&mut self)
         requires part { IsPart self.old.passed self.old.pending }
         requires supply { self.old.supply ≡ Supply.Open }
-        ensures took { TookMore S.faults S.name S.gave S.left self.old self.new }
+        ensures took { TookMore S.seen self.old self.new }
         ensures turns { turns_left self.new < turns_left self.old }
     {
         let most = MOST_BYTES + 1 - self.passed - self.window.bytes().len();
@@ -119,10 +120,10 @@ impl<S: Source> Lines<S> {
 
     /// Takes bytes until it can be told what stands at the front.
     fn reach(&mut self) -> Result<Front, LineFault>
-        ensures took { TookMore S.faults S.name S.gave S.left self.old self.new }
+        ensures took { TookMore S.seen self.old self.new }
         ensures reached { Reached self.new result }
         ensures again { (stop : Stop) → IsStopped self.old stop → self.new ≡ self.old }
-        ensures bounded { self.new.passed + length self.new.pending ≤ MOST_BYTES + 1 }
+        ensures bounded { self.new.passed + length self.new.pending ≤ most_bytes + 1 }
     {
         let mut looked = 0;
         loop {
@@ -138,10 +139,10 @@ impl<S: Source> Lines<S> {
     fn pass(&mut self, count: usize)
         requires some { 0 < count }
         requires there { count ≤ length self.old.pending }
-        requires near { self.old.passed + count ≤ MOST_BYTES }
+        requires near { self.old.passed + count ≤ most_bytes }
         ensures past { self.new ≡ past self.old count }
-        ensures few { self.new.given ≤ MOST_BYTES }
-        ensures bounded { self.new.passed + length self.new.pending ≤ MOST_BYTES + 1 }
+        ensures few { self.new.given ≤ most_bytes }
+        ensures bounded { self.new.passed + length self.new.pending ≤ most_bytes + 1 }
     {
         self.window.skip(count);
         self.passed += count;
@@ -152,8 +153,8 @@ impl<S: Source> Lines<S> {
     fn give_line(&mut self, bytes: &mut Bytes, count: usize) -> Result<(), AllocError>
         requires begins { BeginsLine self.old.passed self.old.pending count }
         ensures ok { OnOk result ((self.new ≡ past self.old (count + 1)) × (bytes.new ≡ bytes.old ++ without_cr (take count self.old.pending))) }
-        ensures few { OnOk result (self.new.given ≤ MOST_BYTES) }
-        ensures bounded { OnOk result (self.new.passed + length self.new.pending ≤ MOST_BYTES + 1) }
+        ensures few { OnOk result (self.new.given ≤ most_bytes) }
+        ensures bounded { OnOk result (self.new.passed + length self.new.pending ≤ most_bytes + 1) }
         ensures err { OnErr result ((self.new ≡ self.old) × (bytes.new ≡ bytes.old)) }
     {
         bytes.extend(without_cr(&self.window.bytes()[..count]))?;
@@ -166,8 +167,8 @@ impl<S: Source> Lines<S> {
         requires part { IsPart self.old.passed self.old.pending }
         requires some { 0 < length self.old.pending }
         ensures ok { OnOk result ((self.new ≡ past self.old (length self.old.pending)) × (bytes.new ≡ bytes.old ++ self.old.pending)) }
-        ensures few { OnOk result (self.new.given ≤ MOST_BYTES) }
-        ensures bounded { OnOk result (self.new.passed + length self.new.pending ≤ MOST_BYTES + 1) }
+        ensures few { OnOk result (self.new.given ≤ most_bytes) }
+        ensures bounded { OnOk result (self.new.passed + length self.new.pending ≤ most_bytes + 1) }
         ensures err { OnErr result ((self.new ≡ self.old) × (bytes.new ≡ bytes.old)) }
     {
         let rest = self.window.bytes();
@@ -189,12 +190,12 @@ impl<S: Source> Lines<S> {
     /// these three nothing changes, and each further call answers the same. `Memory` for want of memory; the next call
     /// answers the same line.
     pub fn next_line(&mut self, line: &mut Bytes) -> Result<LineStep, LineFault>
-        ensures gave { Gave S.faults S.name S.gave S.left self.old self.new (lines_given result line.new) }
+        ensures gave { Gave S.seen self.old self.new (lines_given result line.new) }
         ensures comes { ComesWhere result self.new }
         ensures line_only { IsLineOnly result line.new }
-        ensures few { result ≡ Ok LineStep.Line → self.new.given ≤ MOST_BYTES }
+        ensures few { result ≡ Ok LineStep.Line → self.new.given ≤ most_bytes }
         // No more bytes were taken in all.
-        ensures bounded { self.new.passed + length self.new.pending ≤ MOST_BYTES + 1 }
+        ensures bounded { self.new.passed + length self.new.pending ≤ most_bytes + 1 }
         // Where no line is left, and the bytes stop for good, the answer is the one of the way in which they stop.
         ensures again { (stop : Stop) → IsStopped self.old stop → (self.new ≡ self.old) × (result ≡ answer_at stop) }
     {
@@ -212,13 +213,13 @@ impl<S: Source> Lines<S> {
     /// Those of `next_line`, each where it has it. After `Memory` the next call answers the same line.
     pub fn append_line(&mut self, bytes: &mut Bytes) -> Result<LineStep, LineFault>
         // The line is what was added.
-        ensures gave { Gave S.faults S.name S.gave S.left self.old self.new (lines_given result (drop (length bytes.old) bytes.new)) }
+        ensures gave { Gave S.seen self.old self.new (lines_given result (drop (length bytes.old) bytes.new)) }
         ensures added { bytes.new ≡ bytes.old ++ drop (length bytes.old) bytes.new }
         ensures comes { ComesWhere result self.new }
         ensures line_only { IsLineOnly result (drop (length bytes.old) bytes.new) }
-        ensures few { result ≡ Ok LineStep.Line → self.new.given ≤ MOST_BYTES }
+        ensures few { result ≡ Ok LineStep.Line → self.new.given ≤ most_bytes }
         // No more bytes were taken in all.
-        ensures bounded { self.new.passed + length self.new.pending ≤ MOST_BYTES + 1 }
+        ensures bounded { self.new.passed + length self.new.pending ≤ most_bytes + 1 }
         // Where no line is left, and the bytes stop for good, the answer is the one of the way in which they stop.
         ensures again { (stop : Stop) → IsStopped self.old stop → (self.new ≡ self.old) × (result ≡ answer_at stop) }
     {
@@ -233,7 +234,7 @@ impl<S: Source> Lines<S> {
     /// How many lines were given. It takes no memory.
     pub fn given(&self) -> u32
         ensures value { result ≡ self.now.given }
-        ensures few { result ≤ MOST_BYTES }
+        ensures few { result ≤ most_bytes }
     {
         self.given
     }

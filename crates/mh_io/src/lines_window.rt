@@ -2,6 +2,7 @@ ghost use Rattle.std.specs.Prelude.{◌≡◌, ℕ, ◌+◌, ◌-◌, ◌<◌, �
 ghost use Rattle.std.specs.Io.KnownBytes.{IsAtEnd};
 ghost use Rattle.mh_io.specs.Faults.{Rises};
 ghost use Rattle.mh_io.specs.Source.{Takes};
+ghost use Rattle.mh_io.specs.Limits.{line_bytes};
 
 use crate::source::{Failed, Source};
 use std::alloc::{AllocError, Global};
@@ -20,13 +21,13 @@ pub(crate) struct Window {
 
 impl Model for Window {
     ghost use Rattle.std.specs.Prelude.{◌≡◌, List, ℕ, ◌-◌, ◌≤◌, take, drop, vec_len};
-    ghost use Rattle.mh_io.specs.declared.lines_window.TheConstants.{LINE_BYTES};
+    ghost use Rattle.mh_io.specs.Limits.{line_bytes};
 
     ghost Value = { List ℕ };
 
     ghost view = { λ w. take (w.end - w.start) (drop w.start w.bytes.items) };
 
-    ghost invariant = { λ w. (w.start ≤ w.end) × (w.end ≤ vec_len w.bytes) × (vec_len w.bytes ≡ LINE_BYTES) };
+    ghost invariant = { λ w. (w.start ≤ w.end) × (w.end ≤ vec_len w.bytes) × (vec_len w.bytes ≡ line_bytes) };
 }
 
 /// Moves these bytes to the front.
@@ -57,7 +58,7 @@ impl Window {
     /// Lends the bytes.
     pub(crate) fn bytes(&self) -> &[u8]
         ensures value { result.now ≡ self.now }
-        ensures few { length self.now ≤ LINE_BYTES }
+        ensures few { length self.now ≤ line_bytes }
     {
         &self.bytes[self.start..self.end]
     }
@@ -74,19 +75,19 @@ impl Window {
     /// first; none is moved twice where each whole line is left off before more is taken.
     pub(crate) fn fill<S: Source>(&mut self, source: &mut S, most: usize) -> Result<usize, Failed>
         requires some { 0 < most }
-        requires room { length self.old < LINE_BYTES }
-        ensures count { S.faults source.old ≤ S.faults source.new }
-        ensures name { S.name source.new ≡ S.name source.old }
+        requires room { length self.old < line_bytes }
+        ensures count { (S.seen source.old).faults ≤ (S.seen source.new).faults }
+        ensures name { (S.seen source.new).name ≡ (S.seen source.old).name }
 
         ensures within { IfOk result (λ n. n ≤ most) }
         ensures takes { IfOk result (λ n. (more : List ℕ)
-            × Takes (S.gave source.old) (S.gave source.new) (S.left source.old) (S.left source.new) more
+            × Takes (S.seen source.old) (S.seen source.new) more
             × (self.new ≡ self.old ++ more) × (length more ≡ n)) }
-        ensures end { IfOk result (λ n. n ≡ 0 → IsAtEnd (S.left source.new)) }
+        ensures end { IfOk result (λ n. n ≡ 0 → IsAtEnd (S.seen source.new).left) }
 
-        ensures failed { OnErr result (Rises (S.faults source.old) (S.faults source.new)) }
-        ensures gave_stands { OnErr result (S.gave source.new ≡ S.gave source.old) }
-        ensures left_stands { OnErr result (S.left source.new ≡ S.left source.old) }
+        ensures failed { OnErr result (Rises (S.seen source.old).faults (S.seen source.new).faults) }
+        ensures gave_stands { OnErr result ((S.seen source.new).gave ≡ (S.seen source.old).gave) }
+        ensures left_stands { OnErr result ((S.seen source.new).left ≡ (S.seen source.old).left) }
         ensures stands { OnErr result (self.new ≡ self.old) }
     {
         let held = self.end - self.start;

@@ -1,8 +1,7 @@
-ghost use Rattle.std.specs.Prelude.{◌≡◌, ◌+◌, ◌<◌, ◌≤◌, [], Some, false, true, option_map, IfOk, IfSome, OnOk, OnErr};
+ghost use Rattle.std.specs.Prelude.{◌≡◌, ◌<◌, ◌≤◌, [], Some, Err, false, true, option_map, IfOk, OnOk, OnErr};
 ghost use Rattle.std.specs.Vec.{vec_len, vec_capacity};
-ghost use Rattle.mh_io.specs.Faults.{IsCount, Rises, added_faults};
-ghost use Rattle.mh_io.specs.Folder.{told_after_find, due_after_find, IsFound, told_after_done};
-ghost use Rattle.mh_io.specs.Memory.{uncalled, with_file, files_but, telling, opened, named_file, find_fails, after_find, after_done};
+ghost use Rattle.mh_io.specs.Folder.{Finds, TakesBack};
+ghost use Rattle.mh_io.specs.Memory.{uncalled, with_file, files_but, opened, named_file, find_fails, after_find, after_done, source_seen, folder_seen};
 
 use crate::calls::Calls;
 use crate::folder::{FindRefused, Folder};
@@ -109,34 +108,15 @@ fn drop_named(files: &mut Vec<MemFile>, name: &str)
 }
 
 impl Folder for MemFolder {
-    ghost use Rattle.std.specs.Prelude.{Some};
-    ghost use Rattle.mh_io.specs.Memory.{telling};
+    ghost use Rattle.mh_io.specs.Memory.{folder_seen};
 
     type Src = MemSource;
 
-    ghost find_faults = { λ f. f.calls.faults };
-
-    ghost read_faults = { λ f. f.read_faults };
-
-    ghost due = { λ f. f.due };
-
-    ghost told = { λ f. Some (telling f) };
+    ghost seen = { folder_seen };
 
     /// It fails exactly at the finds that are to fail and at names that aren't there.
     fn find(&mut self, alloc: Global, name: &str) -> Result<MemSource, FindRefused>
-        ensures count { self.old.calls.faults ≤ self.new.calls.faults }
-        ensures counted { IsCount self.new.calls.faults }
-        ensures reads_stand { self.new.read_faults ≡ self.old.read_faults }
-        ensures reads_counted { IsCount self.new.read_faults }
-        ensures due { self.new.due ≡ due_after_find result self.old.due }
-        ensures told { Some (telling self.new) ≡ told_after_find result name.now (Some (telling self.old)) }
-
-        ensures clean { IfOk result (λ source. source.calls.faults ≡ 0) }
-        ensures found { IfOk result (λ source. IfSome (Some (telling self.old)) (λ folder.
-            IsFound folder.files name.now (Some source.name) (Some source.gave) (Some source.left))) }
-
-        ensures failed { result ≡ Err FindRefused.Failed → Rises self.old.calls.faults self.new.calls.faults }
-
+        ensures finds { Finds source_seen (folder_seen self.old) (folder_seen self.new) name.now result }
         ensures opens { IfOk result (λ source. option_map opened (named_file self.old name.now) ≡ Some source) }
         ensures works { OnOk result (find_fails self.old name.now ≡ false) }
         ensures fails { result ≡ Err FindRefused.Failed → find_fails self.old name.now ≡ true }
@@ -164,15 +144,7 @@ impl Folder for MemFolder {
 
     fn done(&mut self, source: MemSource)
         requires { 0 < self.old.due }
-        ensures finds_stand { self.new.calls.faults ≡ self.old.calls.faults }
-        ensures finds_counted { IsCount self.new.calls.faults }
-        ensures count { self.old.read_faults ≤ self.new.read_faults }
-        ensures counted { IsCount self.new.read_faults }
-        ensures rises { self.new.read_faults ≡ added_faults self.old.read_faults source.calls.faults }
-        ensures due { self.new.due + 1 ≡ self.old.due }
-        ensures told { Some (telling self.new)
-            ≡ told_after_done (Some (telling self.old)) (Some source.name) (Some source.gave) source.calls.faults }
-
+        ensures takes_back { TakesBack (folder_seen self.old) (folder_seen self.new) (source_seen source) }
         ensures after { self.new ≡ after_done source self.old }
     {
         self.read_faults = self.read_faults.saturating_add(source.faults());

@@ -1,7 +1,6 @@
-ghost use Rattle.std.specs.Prelude.{◌≡◌, ◌-◌, ◌<◌, ◌≤◌, [], Some, length, take, min, IfOk, OnErr, is_err, if◌then◌else◌};
-ghost use Rattle.mh_io.specs.Faults.{IsCount, Rises};
-ghost use Rattle.mh_io.specs.Told.{Appends};
-ghost use Rattle.mh_io.specs.Memory.{MemorySink, uncalled, put_fails, with_call, with_fault};
+ghost use Rattle.std.specs.Prelude.{◌≡◌, ◌-◌, [], length, min, IfOk, is_err, if◌then◌else◌};
+ghost use Rattle.mh_io.specs.Sink.{Puts};
+ghost use Rattle.mh_io.specs.Memory.{sink_seen, uncalled, put_fails, with_call, with_fault};
 
 use crate::calls::Calls;
 use crate::sink::Sink;
@@ -62,25 +61,14 @@ impl MemSink {
 }
 
 impl Sink for MemSink {
-    ghost use Rattle.std.specs.Prelude.{Some};
+    ghost use Rattle.mh_io.specs.Memory.{sink_seen};
 
-    ghost faults = { λ s. s.calls.faults };
-
-    ghost holds = { λ s. Some s.holds };
+    ghost seen = { sink_seen };
 
     /// It fails exactly at the calls that are to fail, and where it takes nothing of a piece that isn't empty. It takes as
     /// many bytes as come, as `most` allows and as the room holds.
     fn put(&mut self, bytes: &[u8]) -> Result<usize, Failed>
-        ensures count { self.old.calls.faults ≤ self.new.calls.faults }
-        ensures counted { IsCount self.new.calls.faults }
-
-        ensures within { IfOk result (λ n. n ≤ length bytes.now) }
-        ensures advances { IfOk result (λ n. 0 < length bytes.now → 0 < n) }
-        ensures holds { IfOk result (λ n. Appends (Some self.old.holds) (Some self.new.holds) (take n bytes.now)) }
-
-        ensures failed { OnErr result (Rises self.old.calls.faults self.new.calls.faults) }
-        ensures holds_stands { OnErr result (Some self.new.holds ≡ Some self.old.holds) }
-
+        ensures puts { Puts (sink_seen self.old) (sink_seen self.new) bytes.now result }
         ensures due { is_err result ≡ put_fails self.old (length bytes.now) }
         ensures most { IfOk result (λ n. n ≡ min (min (length bytes.now) self.old.most) (self.old.room - length self.old.holds)) }
         ensures same_room { self.new.room ≡ self.old.room }

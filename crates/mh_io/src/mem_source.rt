@@ -1,8 +1,6 @@
-ghost use Rattle.std.specs.Prelude.{◌≡◌, ℕ, ◌<◌, ◌≤◌, [], Some, length, take, min, IfOk, OnErr, is_err, if◌then◌else◌};
-ghost use Rattle.std.specs.Io.KnownBytes.{IsAtEnd};
-ghost use Rattle.mh_io.specs.Faults.{IsCount, Rises};
-ghost use Rattle.mh_io.specs.Source.{Takes};
-ghost use Rattle.mh_io.specs.Memory.{MemorySource, uncalled, is_due, with_call, with_fault};
+ghost use Rattle.std.specs.Prelude.{◌≡◌, ◌<◌, [], length, min, IfOk, is_err, if◌then◌else◌};
+ghost use Rattle.mh_io.specs.Source.{TakesNext};
+ghost use Rattle.mh_io.specs.Memory.{source_seen, uncalled, is_due, with_call, with_fault};
 
 use crate::calls::Calls;
 use crate::source::{Failed, Source};
@@ -67,33 +65,15 @@ impl MemSource {
 }
 
 impl Source for MemSource {
-    ghost use Rattle.std.specs.Prelude.{Some};
+    ghost use Rattle.mh_io.specs.Memory.{source_seen};
 
-    ghost faults = { λ s. s.calls.faults };
-
-    ghost name = { λ s. Some s.name };
-
-    ghost gave = { λ s. Some s.gave };
-
-    ghost left = { λ s. Some s.left };
+    ghost seen = { source_seen };
 
     /// It fails exactly at the calls that are to fail, and gives as many bytes as are left, as `most` allows and as `buf`
     /// holds.
     fn take(&mut self, buf: &mut [u8]) -> Result<usize, Failed>
         requires { 0 < length buf.old }
-        ensures count { self.old.calls.faults ≤ self.new.calls.faults }
-        ensures counted { IsCount self.new.calls.faults }
-        ensures name { Some self.new.name ≡ Some self.old.name }
-
-        ensures within { IfOk result (λ n. n ≤ length buf.old) }
-        ensures takes { IfOk result (λ n.
-            Takes (Some self.old.gave) (Some self.new.gave) (Some self.old.left) (Some self.new.left) (take n buf.new)) }
-        ensures end { IfOk result (λ n. n ≡ 0 → IsAtEnd (Some self.new.left)) }
-
-        ensures failed { OnErr result (Rises self.old.calls.faults self.new.calls.faults) }
-        ensures gave_stands { OnErr result (Some self.new.gave ≡ Some self.old.gave) }
-        ensures left_stands { OnErr result (Some self.new.left ≡ Some self.old.left) }
-
+        ensures takes { TakesNext (source_seen self.old) (source_seen self.new) buf.old buf.new result }
         ensures due { is_err result ≡ is_due self.old.calls }
         ensures most { IfOk result (λ n. n ≡ min (min (length self.old.left) self.old.most) (length buf.old)) }
         ensures same_most { self.new.most ≡ self.old.most }

@@ -2,6 +2,7 @@ ghost use Rattle.std.specs.Prelude.{◌≡◌, ℕ, ◌+◌, ◌-◌, ◌<◌, �
 ghost use Rattle.std.specs.Io.KnownBytes.{IsAtEnd};
 ghost use Rattle.mh_io.specs.Faults.{Rises};
 ghost use Rattle.mh_io.specs.Source.{Takes, StopsAt};
+ghost use Rattle.mh_io.specs.Limits.{most_bytes};
 
 use crate::source::{Failed, Source};
 use mh_units::Bytes;
@@ -53,19 +54,17 @@ impl From<Failed> for ReadAllFault {
 /// `ReadFault` only where the source's count of faults rose. `TooLong` exactly where it gave one byte more than
 /// `MOST_BYTES`. `Memory` for want of memory. What was taken before is taken.
 pub fn read_all<S: Source>(alloc: Global, source: &mut S) -> Result<Bytes, ReadAllFault>
-    ensures count { S.faults source.old ≤ S.faults source.new }
-    ensures name { S.name source.new ≡ S.name source.old }
+    ensures count { (S.seen source.old).faults ≤ (S.seen source.new).faults }
+    ensures name { (S.seen source.new).name ≡ (S.seen source.old).name }
 
-    ensures takes { IfOk result (λ bytes.
-        Takes (S.gave source.old) (S.gave source.new) (S.left source.old) (S.left source.new) bytes) }
-    ensures whole { IfOk result (λ _. IsAtEnd (S.left source.new)) }
-    ensures few { IfOk result (λ bytes. length bytes ≤ MOST_BYTES) }
+    ensures takes { IfOk result (λ bytes. Takes (S.seen source.old) (S.seen source.new) bytes) }
+    ensures whole { IfOk result (λ _. IsAtEnd (S.seen source.new).left) }
+    ensures few { IfOk result (λ bytes. length bytes ≤ most_bytes) }
 
     // At a fault some bytes were taken, so many as the fault tells.
     ensures stops { IfErr result (λ fault. (taken : List ℕ)
-        × Takes (S.gave source.old) (S.gave source.new) (S.left source.old) (S.left source.new) taken
-        × StopsAt fault (length taken)) }
-    ensures failed { result ≡ Err ReadAllFault.ReadFault → Rises (S.faults source.old) (S.faults source.new) }
+        × Takes (S.seen source.old) (S.seen source.new) taken × StopsAt fault (length taken)) }
+    ensures failed { result ≡ Err ReadAllFault.ReadFault → Rises (S.seen source.old).faults (S.seen source.new).faults }
 {
     let mut chunk = vec![in alloc; 0u8; CHUNK_BYTES]?;
     let mut bytes = Bytes::new(alloc);
@@ -84,22 +83,20 @@ fn take_chunk<S: Source>(
     bytes: &mut Bytes,
 ) -> Result<usize, ReadAllFault>
     requires buffer { 0 < length chunk.old }
-    requires few { length bytes.old ≤ MOST_BYTES }
-    requires room { length bytes.old + length chunk.old ≤ MOST_BYTES + 1 }
-    ensures count { S.faults source.old ≤ S.faults source.new }
-    ensures name { S.name source.new ≡ S.name source.old }
+    requires few { length bytes.old ≤ most_bytes }
+    requires room { length bytes.old + length chunk.old ≤ most_bytes + 1 }
+    ensures count { (S.seen source.old).faults ≤ (S.seen source.new).faults }
+    ensures name { (S.seen source.new).name ≡ (S.seen source.old).name }
 
-    ensures takes { IfOk result (λ n.
-        Takes (S.gave source.old) (S.gave source.new) (S.left source.old) (S.left source.new) (take n chunk.new)) }
+    ensures takes { IfOk result (λ n. Takes (S.seen source.old) (S.seen source.new) (take n chunk.new)) }
     ensures added { IfOk result (λ n. bytes.new ≡ bytes.old ++ take n chunk.new) }
     ensures grown { IfOk result (λ n. length bytes.new ≡ length bytes.old + n) }
-    ensures still_few { OnOk result (length bytes.new ≤ MOST_BYTES) }
-    ensures end { IfOk result (λ n. n ≡ 0 → IsAtEnd (S.left source.new)) }
+    ensures still_few { OnOk result (length bytes.new ≤ most_bytes) }
+    ensures end { IfOk result (λ n. n ≡ 0 → IsAtEnd (S.seen source.new).left) }
 
     ensures stops { IfErr result (λ fault. (taken : List ℕ)
-        × Takes (S.gave source.old) (S.gave source.new) (S.left source.old) (S.left source.new) taken
-        × StopsAt fault (length bytes.old + length taken)) }
-    ensures failed { result ≡ Err ReadAllFault.ReadFault → Rises (S.faults source.old) (S.faults source.new) }
+        × Takes (S.seen source.old) (S.seen source.new) taken × StopsAt fault (length bytes.old + length taken)) }
+    ensures failed { result ≡ Err ReadAllFault.ReadFault → Rises (S.seen source.old).faults (S.seen source.new).faults }
 {
     let taken = source.take(chunk)?;
     let most = MOST_BYTES - bytes.as_slice().len();

@@ -1,4 +1,4 @@
-ghost use Rattle.std.specs.Prelude.{◌≡◌};
+ghost use Rattle.std.specs.Prelude.{◌≡◌, None};
 
 use crate::folder::{FindRefused, Folder};
 use crate::sink::Sink;
@@ -40,13 +40,7 @@ impl<R: Read> RealSource<R> {
 impl<R: Read + Drop> Source for RealSource<R> {
     ghost use Rattle.std.specs.Prelude.{None};
 
-    ghost faults = { λ s. s };
-
-    ghost name = { λ _. None };
-
-    ghost gave = { λ _. None };
-
-    ghost left = { λ _. None };
+    ghost seen = { λ s. record { faults = s; name = None; gave = None; left = None } };
 
     fn take(&mut self, buf: &mut [u8]) -> Result<usize, Failed> {
         match self.reader.read(buf) {
@@ -90,9 +84,7 @@ impl<W: Write> RealSink<W> {
 impl<W: Write> Sink for RealSink<W> {
     ghost use Rattle.std.specs.Prelude.{None};
 
-    ghost faults = { λ s. s };
-
-    ghost holds = { λ _. None };
+    ghost seen = { λ s. record { faults = s; holds = None } };
 
     fn put(&mut self, bytes: &[u8]) -> Result<usize, Failed> {
         match self.writer.write(bytes) {
@@ -115,12 +107,14 @@ pub struct RealFolder<R: Files> {
 }
 
 impl<R: Files> Model for RealFolder<R> {
+    ghost use Rattle.std.specs.Prelude.{None};
     ghost use Rattle.mh_io.specs.Faults.{IsCount};
-    ghost use Rattle.mh_io.specs.Folder.{FolderCounts};
+    ghost use Rattle.mh_io.specs.Folder.{FolderSeen};
 
-    ghost Value = { FolderCounts };
+    /// All that is seen of it.
+    ghost Value = { FolderSeen };
 
-    ghost view = { λ f. record { find_faults = f.find_faults; read_faults = f.read_faults; due = f.due } };
+    ghost view = { λ f. record { told = None; find_faults = f.find_faults; read_faults = f.read_faults; due = f.due } };
 
     ghost invariant = { λ f. IsCount f.find_faults × IsCount f.read_faults };
 }
@@ -128,7 +122,7 @@ impl<R: Files> Model for RealFolder<R> {
 impl<R: Files> RealFolder<R> {
     /// The files that this runtime reaches.
     pub fn new(runtime: R) -> Self
-        ensures { result ≡ record { find_faults = 0; read_faults = 0; due = 0 } }
+        ensures { result ≡ record { told = None; find_faults = 0; read_faults = 0; due = 0 } }
     {
         RealFolder {
             runtime,
@@ -143,17 +137,9 @@ impl<R: Files> Folder for RealFolder<R>
 where
     R::File: Send,
 {
-    ghost use Rattle.std.specs.Prelude.{None};
-
     type Src = RealSource<R::File>;
 
-    ghost find_faults = { λ f. f.find_faults };
-
-    ghost read_faults = { λ f. f.read_faults };
-
-    ghost due = { λ f. f.due };
-
-    ghost told = { λ _. None };
+    ghost seen = { λ f. f };
 
     /// Opens the file of this path. It fails too where 2^64 - 1 sources are due.
     fn find(&mut self, _alloc: Global, name: &str) -> Result<RealSource<R::File>, FindRefused> {

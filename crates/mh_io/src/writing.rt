@@ -1,7 +1,4 @@
-ghost use Rattle.std.specs.Prelude.{◌≤◌, IfErr, OnOk, OnErr};
-ghost use Rattle.mh_io.specs.Faults.{Rises};
-ghost use Rattle.mh_io.specs.Told.{Appends};
-ghost use Rattle.mh_io.specs.Sink.{BreaksOff};
+ghost use Rattle.mh_io.specs.Sink.{PutsAll};
 
 use crate::sink::Sink;
 
@@ -17,10 +14,7 @@ pub struct PutFault {
 ///
 /// `PutFault` only where the sink's count of faults rose: then a front of `put` bytes went out, and not all.
 pub fn put_all<K: Sink>(sink: &mut K, bytes: &[u8]) -> Result<(), PutFault>
-    ensures count { K.faults sink.old ≤ K.faults sink.new }
-    ensures ok { OnOk result (Appends (K.holds sink.old) (K.holds sink.new) bytes.now) }
-    ensures cut { IfErr result (λ fault. BreaksOff (K.holds sink.old) (K.holds sink.new) bytes.now fault.put) }
-    ensures failed { OnErr result (Rises (K.faults sink.old) (K.faults sink.new)) }
+    ensures { PutsAll (K.seen sink.old) (K.seen sink.new) bytes.now result }
 {
     let mut put = 0;
     while put < bytes.len() {

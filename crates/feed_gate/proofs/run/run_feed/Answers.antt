@@ -6,12 +6,12 @@ use Rattle.feed_gate.proofs.run.run_feed.Goals as goal
 
 pub returns-in-Ok : goal.returns-in-Ok
 returns-in-Ok g c =
-    subst (λ s. RanSource g.S.Source.faults g.S.Source.name g.S.Source.gave g.S.Source.left c.args.source s c.args.sets.now c.run_lines-report.new.sets c.run_lines-report.result) (sym c.give_back.ensures)
-    (over g.S.Source.faults g.S.Source.name g.S.Source.gave g.S.Source.left c.args.source c.run_lines-report.new.lines c.args.sets.now c.run_lines-report.new.sets c.run_lines-report.result
-    (subst (λ l. RanLines g.S.Source.faults g.S.Source.name g.S.Source.gave g.S.Source.left l c.run_lines-report.new.lines c.args.sets.now c.run_lines-report.new.sets c.run_lines-report.result) c.in-Ok.ensures.ok c.run_lines-report.ensures) c.facts_of.ensures)
+    subst (λ s. RanSource g.S.Source.seen c.args.source s c.args.sets.now c.run_lines-report.new.sets c.run_lines-report.result) (sym c.give_back.ensures)
+    (over g.S.Source.seen c.args.source c.run_lines-report.new.lines c.args.sets.now c.run_lines-report.new.sets c.run_lines-report.result
+    (subst (λ l. RanLines g.S.Source.seen l c.run_lines-report.new.lines c.args.sets.now c.run_lines-report.new.sets c.run_lines-report.result) c.in-Ok.ensures.ok c.run_lines-report.ensures) c.facts_of.ensures)
 
 pub returns-in-Err : goal.returns-in-Err
 returns-in-Err g c =
-    subst (λ s. RanSource g.S.Source.faults g.S.Source.name g.S.Source.gave g.S.Source.left c.args.source s c.args.sets.now c.args.sets.now (record c.new-report.result { end = end_at.Memory 1 })) (sym c.in-Err.ensures.memory)
-    (subst (λ r. RanSource g.S.Source.faults g.S.Source.name g.S.Source.gave g.S.Source.left c.args.source c.args.source c.args.sets.now c.args.sets.now (record r { end = end_at.Memory 1 })) (sym c.new-report.ensures)
-    (never g.S.Source.faults g.S.Source.name g.S.Source.gave g.S.Source.left c.args.source c.args.sets.now c.facts_of-in-Err.ensures))
+    subst (λ s. RanSource g.S.Source.seen c.args.source s c.args.sets.now c.args.sets.now (record c.new-report.result { end = end_at.Memory 1 })) (sym c.in-Err.ensures.memory)
+    (subst (λ r. RanSource g.S.Source.seen c.args.source c.args.source c.args.sets.now c.args.sets.now (record r { end = end_at.Memory 1 })) (sym c.new-report.ensures)
+    (never g.S.Source.seen c.args.source c.args.sets.now c.facts_of-in-Err.ensures))

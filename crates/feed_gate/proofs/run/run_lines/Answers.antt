@@ -8,7 +8,7 @@ use Rattle.feed_gate.proofs.run.run_lines.Goals as goal
 
 pub loop-end-init : goal.loop-end-init
 loop-end-init g c = (
-  ([], subst (λ r. RanTo g.S.Source.faults g.S.Source.name g.S.Source.gave g.S.Source.left c.args.lines.now c.args.lines.now c.args.sets.now c.args.sets.now r []) (sym c.new-report.ensures) (ran_none g.S.Source.faults g.S.Source.name g.S.Source.gave g.S.Source.left c.args.lines.now c.args.sets.now)),
+  ([], subst (λ r. RanTo g.S.Source.seen c.args.lines.now c.args.lines.now c.args.sets.now c.args.sets.now r []) (sym c.new-report.ensures) (ran_none g.S.Source.seen c.args.lines.now c.args.sets.now)),
   c.requires,
   omega (arith, ap (λ r. r.done) c.new-report.ensures),
 )
@@ -30,7 +30,7 @@ loop-end-preserved g c =
     let ran = c.loop-end.invariant.0.1 in
     let t = c.in_default.ensures.takes c.args.lines.now c.loop-end.invariant.0.0 ran.told in
     let forward = c.in_default.ensures.forward refl in (
-      (c.loop-end.invariant.0.0 ++ t.item ∷ [], ran_more g.S.Source.faults g.S.Source.name g.S.Source.gave g.S.Source.left ran t),
+      (c.loop-end.invariant.0.0 ++ t.item ∷ [], ran_more g.S.Source.seen ran t),
       subst AreApart (sym t.sets) (apart_after (t.item ∷ []) c.loop-end.sets c.loop-end.invariant.1),
       omega (arith, ap (λ r. r.done) t.report, answer_few c.loop-end.report (refusal c.loop-end.sets t.item), forward, c.loop-end.invariant.2),
     )

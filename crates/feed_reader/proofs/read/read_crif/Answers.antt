@@ -21,7 +21,7 @@ returns-in-Ok-End-clause-tells g c line full opens =
     let over = rw c.in-Ok-End.field-0-is at c.in-Ok-End.ensures.stops in
     record {
       further = e.inside;
-      lines = subst (Gave g.S.Source.faults g.S.Source.name g.S.Source.gave g.S.Source.left c.args.lines.now c.read_block.new.lines) (append-nil e.inside) e.lines;
+      lines = subst (Gave g.S.Source.seen c.args.lines.now c.read_block.new.lines) (append-nil e.inside) e.lines;
       means = cut_means c.read_block.new.lines c.args.lines.now.given c.given-first.result line c.args.set e.inside full opens e.within over c.given-first.ensures.value;
     }
 
@@ -31,6 +31,6 @@ returns-in-Err-clause-tells g c line full opens =
     let next : c.given.result + 1 ≡ c.args.lines.now.given + 1 + length e.inside = omega (arith, c.given.ensures.value, e.lines.count, length-append e.inside []) in
     record {
       further = e.inside;
-      lines = subst (Gave g.S.Source.faults g.S.Source.name g.S.Source.gave g.S.Source.left c.args.lines.now c.read_block.new.lines) (append-nil e.inside) e.lines;
+      lines = subst (Gave g.S.Source.seen c.args.lines.now c.read_block.new.lines) (append-nil e.inside) e.lines;
       means = rw c.feed_fault.ensures (fault_means c.read_block.new.lines c.in-Err.fault c.args.lines.now.given c.given-first.result (c.given.result + 1) line c.args.set e.inside full opens e.within c.in-Err.ensures.stops c.given-first.ensures.value next);
     }

@@ -10,7 +10,7 @@ returns-in-Ok-Tells-clause-tells g c =
     let is : meaning_of c.args.line.now ≡ meaning.Tells c.in-Ok-Tells.message = sym c.in-Ok-Tells.ensures ∙ c.in-Ok-Tells.field-0-is in
     record {
       further = [];
-      lines = gave_none g.S.Source.faults g.S.Source.name g.S.Source.gave g.S.Source.left c.args.lines.now;
+      lines = gave_none g.S.Source.seen c.args.lines.now;
       means = message_means c.args.lines.now c.args.lines.now.given c.given-first.result c.args.line.now c.in-Ok-Tells.message c.requires.full is c.given-first.ensures.value (rw c.given-first.ensures.value at c.given-first.ensures.few);
     }
 
@@ -19,13 +19,13 @@ returns-in-Ok-Bad-clause-tells g c =
     let is : meaning_of c.args.line.now ≡ meaning.Bad = sym c.in-Ok-Bad.ensures ∙ c.in-Ok-Bad.field-0-is in
     record {
       further = [];
-      lines = gave_none g.S.Source.faults g.S.Source.name g.S.Source.gave g.S.Source.left c.args.lines.now;
+      lines = gave_none g.S.Source.seen c.args.lines.now;
       means = bad_means c.args.lines.now c.args.lines.now.given c.given-first.result c.args.line.now c.requires.full is c.given-first.ensures.value (rw c.given-first.ensures.value at c.given-first.ensures.few);
     }
 
 pub returns-in-Err-clause-tells : goal.returns-in-Err-clause-tells
 returns-in-Err-clause-tells g c = record {
   further = [];
-  lines = gave_none g.S.Source.faults g.S.Source.name g.S.Source.gave g.S.Source.left c.args.lines.now;
+  lines = gave_none g.S.Source.seen c.args.lines.now;
   means = lost_means c.args.lines.now c.args.lines.now.given c.given-first.result c.args.line.now c.requires.full c.given-first.ensures.value;
 }

@@ -12,11 +12,11 @@ returns-in_err-outcome-clause-ends g c =
     let stops = c.in_err-outcome.ensures.stops in
     let found = c.in_ok-source.ensures.found in
     read_ends _ _ c.args.name.now c.in_err-outcome.field-0.0 c.from_residual-in_err-outcome.result stops.0 _ _ c.from_residual-in_err-outcome.ensures.1
-    (told_read _ _ _ c.args.name.now stops.0 _ _ _ _ _ _ _ c.in_ok-source.ensures.told found c.in_err-outcome.ensures.name stops.1 c.done.ensures.told)
-    (file_front _ c.args.name.now stops.0 _ _ _ _ _ found stops.1)
+    (told_read _ _ _ c.args.name.now stops.0 _ _ c.in_ok-source.ensures.told found c.in_err-outcome.ensures.name stops.1 c.done.ensures.told)
+    (file_front _ c.args.name.now stops.0 _ _ found stops.1)
     stops.2 c.in_ok-source.ensures.clean (λ e. c.in_err-outcome.ensures.failed (ap Err e))
     (omega (arith, c.done.ensures.count, c.in_ok-source.ensures.reads_stand))
-    (c.done.ensures.rises ∙ ap (λ n. added_faults n (g.F.Src.Source.faults c.read_all-outcome.new.source)) c.in_ok-source.ensures.reads_stand)
+    (c.done.ensures.rises ∙ ap (λ n. added_faults n (g.F.Src.Source.seen c.read_all-outcome.new.source).faults) c.in_ok-source.ensures.reads_stand)
 
 pub returns-clause-ends : goal.returns-clause-ends
 returns-clause-ends g c =
@@ -24,8 +24,8 @@ returns-clause-ends g c =
     let takes = c.in_ok-outcome.ensures.takes in
     record {
       bytes = c.in_ok-outcome.field-0;
-      faults = g.F.Src.Source.faults c.read_all-outcome.new.source;
-      did = told_read _ _ _ c.args.name.now c.in_ok-outcome.field-0 _ _ _ _ _ _ _ c.in_ok-source.ensures.told found c.in_ok-outcome.ensures.name takes c.done.ensures.told;
-      whole = record { whole = whole_file _ c.args.name.now c.in_ok-outcome.field-0 _ _ _ _ _ found takes c.in_ok-outcome.ensures.whole; few = c.in_ok-outcome.ensures.few };
+      faults = (g.F.Src.Source.seen c.read_all-outcome.new.source).faults;
+      did = told_read _ _ _ c.args.name.now c.in_ok-outcome.field-0 _ _ c.in_ok-source.ensures.told found c.in_ok-outcome.ensures.name takes c.done.ensures.told;
+      whole = record { whole = whole_file _ c.args.name.now c.in_ok-outcome.field-0 _ _ found takes c.in_ok-outcome.ensures.whole; few = c.in_ok-outcome.ensures.few };
       so = refl;
     }

@@ -4,7 +4,7 @@ use Rattle.margin_top.proofs.margin_of.margin_of_files.Goals as goal
 
 pub returns-in-Err-read_crif_file-clause-ends : goal.returns-in-Err-read_crif_file-clause-ends
 returns-in-Err-read_crif_file-clause-ends g c =
-    crif_failed _ _ _ c.args.params.now c.args.crif.now c.in-Ok.values _ c.in-Ok.ensures.ends c.in-Ok.ensures.finds c.in-Ok.ensures.reads c.in-Err-read_crif_file.ensures.ends
+    crif_failed _ _ _ c.args.params.now c.args.crif.now c.in-Ok.values _ c.in-Ok.ensures.ends c.in-Ok.ensures.counts.finds c.in-Ok.ensures.counts.reads c.in-Err-read_crif_file.ensures.ends
 
 pub returns-in-Ok-margin_of_batch-clause-ends : goal.returns-in-Ok-margin_of_batch-clause-ends
 returns-in-Ok-margin_of_batch-clause-ends g c = record {

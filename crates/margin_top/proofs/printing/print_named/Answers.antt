@@ -1,6 +1,7 @@
 use Rattle.std.proofs.Common.{[], ◌∷◌, ◌++◌, ◌∙◌, sym, subst}
+use Rattle.mh_io.specs.Sink.{SinkSeen}
 use Rattle.margin_text.specs.Fields.{last_field}
-use Rattle.margin_top.specs.Calc.{SinkSeen, GotLine}
+use Rattle.margin_top.specs.Calc.{GotLine}
 use Rattle.margin_top.proofs.PrintLemmas.{put_failed, put_went, got_line_after}
 use Rattle.margin_top.proofs.printing.print_named.Goals as goal
 
@@ -11,9 +12,9 @@ returns-then-is_err-clause-printed g c =
 pub returns-then-is_err-2-clause-printed : goal.returns-then-is_err-2-clause-printed
 returns-then-is_err-2-clause-printed g c =
     let name = c.as_bytes.result.now in
-    let start : SinkSeen = record { holds = g.K.Sink.holds c.args.out.now; faults = g.K.Sink.faults c.args.out.now } in
-    let middle : SinkSeen = record { holds = g.K.Sink.holds c.put_all.new.sink; faults = g.K.Sink.faults c.put_all.new.sink } in
-    let last : SinkSeen = record { holds = g.K.Sink.holds c.put_all-2.new.sink; faults = g.K.Sink.faults c.put_all-2.new.sink } in
+    let start : SinkSeen = g.K.Sink.seen c.args.out.now in
+    let middle : SinkSeen = g.K.Sink.seen c.put_all.new.sink in
+    let last : SinkSeen = g.K.Sink.seen c.put_all-2.new.sink in
     subst (λ n. GotLine start last (c.args.fields.now ++ last_field n)) c.as_bytes.ensures.value
     (got_line_after start middle last c.args.fields.now (last_field name)
     (put_went start middle c.args.fields.now c.put_all.result (sym c.is_err.ensures.value ∙ c.if-is_err.false) c.put_all.ensures.ok) c.put_all.ensures.count
@@ -22,10 +23,10 @@ returns-then-is_err-2-clause-printed g c =
 pub returns-clause-printed : goal.returns-clause-printed
 returns-clause-printed g c =
     let name = c.as_bytes.result.now in
-    let start : SinkSeen = record { holds = g.K.Sink.holds c.args.out.now; faults = g.K.Sink.faults c.args.out.now } in
-    let middle : SinkSeen = record { holds = g.K.Sink.holds c.put_all.new.sink; faults = g.K.Sink.faults c.put_all.new.sink } in
-    let named : SinkSeen = record { holds = g.K.Sink.holds c.put_all-2.new.sink; faults = g.K.Sink.faults c.put_all-2.new.sink } in
-    let last : SinkSeen = record { holds = g.K.Sink.holds c.print_front.new.out; faults = g.K.Sink.faults c.print_front.new.out } in
+    let start : SinkSeen = g.K.Sink.seen c.args.out.now in
+    let middle : SinkSeen = g.K.Sink.seen c.put_all.new.sink in
+    let named : SinkSeen = g.K.Sink.seen c.put_all-2.new.sink in
+    let last : SinkSeen = g.K.Sink.seen c.print_front.new.out in
     subst (λ n. GotLine start last (c.args.fields.now ++ last_field n)) c.as_bytes.ensures.value
     (got_line_after start middle last c.args.fields.now (last_field name)
     (put_went start middle c.args.fields.now c.put_all.result (sym c.is_err.ensures.value ∙ c.if-is_err.false) c.put_all.ensures.ok) c.put_all.ensures.count

@@ -12,15 +12,15 @@ pub returns-clause-ends : goal.returns-clause-ends
 returns-clause-ends g c =
     let found = c.in-Ok.ensures.found in
     let ran = c.run_feed-source.ensures in
-    let faults = g.F.Src.Source.faults c.run_feed-source.result.0 in
+    let faults = (g.F.Src.Source.seen c.run_feed-source.result.0).faults in
     record {
       taken = ran.taken;
       ended = ran.ended;
       faults = faults;
-      did = told_read _ _ _ c.args.name.now ran.taken faults _ _ _ _ _ _ c.in-Ok.ensures.told found ran.named ran.takes c.done.ensures.told;
+      did = told_read _ _ _ c.args.name.now ran.taken _ _ c.in-Ok.ensures.told found ran.named ran.takes c.done.ensures.told;
       few = ran.few;
-      front = file_front _ c.args.name.now ran.taken _ _ _ _ _ found ran.takes;
-      all = λ e. whole_file _ c.args.name.now ran.taken _ _ _ _ _ found ran.takes (ran.at_end e);
+      front = file_front _ c.args.name.now ran.taken _ _ found ran.takes;
+      all = λ e. whole_file _ c.args.name.now ran.taken _ _ found ran.takes (ran.at_end e);
       ran = ran.ran;
       whole = ran.whole;
       failed = λ e.

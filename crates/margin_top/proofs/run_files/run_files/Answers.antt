@@ -1,31 +1,31 @@
 use Rattle.std.proofs.Common.{◌≡◌, arith, sym, ap, ◌∙◌, subst, take, drop, length, ◌++◌, map}
+use Rattle.mh_io.specs.Folder.{FolderSeen}
 use Rattle.margin_top.specs.Run.{HasRun}
-use Rattle.margin_top.specs.Files.{FolderSeen}
 use Rattle.margin_top.proofs.RunLemmas.{inputs_read, no_terms, has_run, feed_failed, written}
 use Rattle.margin_top.proofs.run_files.run_files.Goals as goal
 
 pub returns-in-Err-read_terms_file-clause-ends : goal.returns-in-Err-read_terms_file-clause-ends
 returns-in-Err-read_terms_file-clause-ends g c =
-    no_terms _ _ _ c.args.params.now c.args.terms.now c.in-Ok.values c.in-Err-read_terms_file.fault c.in-Ok.ensures.ends c.in-Ok.ensures.finds c.in-Ok.ensures.reads c.in-Err-read_terms_file.ensures.ends
+    no_terms _ _ _ c.args.params.now c.args.terms.now c.in-Ok.values c.in-Err-read_terms_file.fault c.in-Ok.ensures.ends c.in-Ok.ensures.counts.finds c.in-Ok.ensures.counts.reads c.in-Err-read_terms_file.ensures.ends
 
 pub returns-in_default-clause-ends : goal.returns-in_default-clause-ends
 returns-in_default-clause-ends g c = record {
   p = c.in-Ok.values;
   agreements = c.in-Ok-read_terms_file.agreements;
   inputs = inputs_read _ _ _ c.args.params.now c.args.terms.now c.in-Ok.values c.in-Ok-read_terms_file.agreements c.in-Ok.ensures.ends c.in-Ok-read_terms_file.ensures.ends
-      (omega (arith, c.in-Ok.ensures.finds, c.in-Ok-read_terms_file.ensures.finds)) (omega (arith, c.in-Ok.ensures.reads, c.in-Ok-read_terms_file.ensures.reads));
+      (omega (arith, c.in-Ok.ensures.counts.finds, c.in-Ok-read_terms_file.ensures.counts.finds)) (omega (arith, c.in-Ok.ensures.counts.reads, c.in-Ok-read_terms_file.ensures.counts.reads));
 }
 
 pub returns-in-Ok-run_feed_file-clause-ends : goal.returns-in-Ok-run_feed_file-clause-ends
 returns-in-Ok-run_feed_file-clause-ends g c =
-    let old : FolderSeen = record { told = g.F.Folder.told c.args.folder.now; finds = g.F.Folder.find_faults c.args.folder.now; reads = g.F.Folder.read_faults c.args.folder.now } in
-    let new : FolderSeen = record { told = g.F.Folder.told c.run_feed_file.new.folder; finds = g.F.Folder.find_faults c.run_feed_file.new.folder; reads = g.F.Folder.read_faults c.run_feed_file.new.folder } in
+    let old : FolderSeen = g.F.Folder.seen c.args.folder.now in
+    let new : FolderSeen = g.F.Folder.seen c.run_feed_file.new.folder in
     let all : take c.in-Ok-make_sets.sets.len (c.run_feed_file.new.sets ++ drop (length c.run_feed_file.new.sets) c.in-Ok-make_sets.sets.items) ≡ c.run_feed_file.new.sets =
     written c.run_feed_file.new.sets c.in-Ok-make_sets.sets.items c.in-Ok-make_sets.sets.len (c.run_feed_file.auto.sets ∙ ap length c.deref_mut.ensures.value) (sym c.deref_mut.ensures.len ∙ ap length c.deref_mut.ensures.value) in
     subst (λ sets. HasRun c.args.params.now c.args.terms.now c.args.feed.now old new sets c.in-Ok-run_feed_file.report × (c.in-Ok-read_terms_file.agreements ≡ map (λ s. s.terms) sets)) (sym all)
     (has_run _ _ _ c.args.params.now c.args.terms.now c.args.feed.now c.in-Ok.values c.in-Ok-read_terms_file.agreements c.deref_mut.result.now c.run_feed_file.new.sets c.in-Ok-run_feed_file.report
     (inputs_read _ _ _ c.args.params.now c.args.terms.now c.in-Ok.values c.in-Ok-read_terms_file.agreements c.in-Ok.ensures.ends c.in-Ok-read_terms_file.ensures.ends
-    (omega (arith, c.in-Ok.ensures.finds, c.in-Ok-read_terms_file.ensures.finds)) (omega (arith, c.in-Ok.ensures.reads, c.in-Ok-read_terms_file.ensures.reads)))
+    (omega (arith, c.in-Ok.ensures.counts.finds, c.in-Ok-read_terms_file.ensures.counts.finds)) (omega (arith, c.in-Ok.ensures.counts.reads, c.in-Ok-read_terms_file.ensures.counts.reads)))
     (c.deref_mut.ensures.value ∙ c.in-Ok-make_sets.ensures.sets)
     c.in-Ok-run_feed_file.ensures.ends
     c.in-Ok-run_feed_file.ensures.kept)
@@ -34,5 +34,5 @@ pub returns-clause-ends : goal.returns-clause-ends
 returns-clause-ends g c =
     feed_failed _ _ _ c.args.params.now c.args.terms.now c.args.feed.now c.in-Ok.values c.in-Ok-read_terms_file.agreements c.in-Err-run_feed_file.refused
     (inputs_read _ _ _ c.args.params.now c.args.terms.now c.in-Ok.values c.in-Ok-read_terms_file.agreements c.in-Ok.ensures.ends c.in-Ok-read_terms_file.ensures.ends
-    (omega (arith, c.in-Ok.ensures.finds, c.in-Ok-read_terms_file.ensures.finds)) (omega (arith, c.in-Ok.ensures.reads, c.in-Ok-read_terms_file.ensures.reads)))
+    (omega (arith, c.in-Ok.ensures.counts.finds, c.in-Ok-read_terms_file.ensures.counts.finds)) (omega (arith, c.in-Ok.ensures.counts.reads, c.in-Ok-read_terms_file.ensures.counts.reads)))
     c.in-Err-run_feed_file.ensures.ends

@@ -5,7 +5,7 @@ use Rattle.mh_io.proofs.TakesLemmas.{nothing_taken, then_taken}
 use Rattle.mh_io.proofs.reading.read_all.Goals as goal
 
 pub loop-bytes-init : goal.loop-bytes-init
-loop-bytes-init g c = rw c.new-bytes.ensures (omega arith, c.in_ok-chunk.ensures.len, omega arith, refl, nothing_taken _ _)
+loop-bytes-init g c = rw c.new-bytes.ensures (omega arith, c.in_ok-chunk.ensures.len, omega arith, refl, nothing_taken _ _ refl refl)
 
 pub returns-in_err-take_chunk-clause-stops : goal.returns-in_err-take_chunk-clause-stops
 returns-in_err-take_chunk-clause-stops g c =

@@ -72,14 +72,14 @@ returns-in_ok-give_last-in-Last-2-clause-again g c stop is_stopped =
 pub returns-in_ok-give_line-in-Line-clause-gave : goal.returns-in_ok-give_line-in-Line-clause-gave
 returns-in_ok-give_line-in-Line-clause-gave g c =
     let begins = rw c.in-Line.is at c.in_ok-count.ensures.reached in
-    rw (c.in_ok-give_line-in-Line.ensures.ok.0, c.in_ok-give_line-in-Line.ensures.ok.1, drop-append_seam) (gave_line g.S.Source.faults g.S.Source.name g.S.Source.gave g.S.Source.left c.in-Line.count c.in_ok-count.ensures.took begins)
+    rw (c.in_ok-give_line-in-Line.ensures.ok.0, c.in_ok-give_line-in-Line.ensures.ok.1, drop-append_seam) (gave_line g.S.Source.seen c.in-Line.count c.in_ok-count.ensures.took begins)
 
 pub returns-in_ok-give_last-in-Last-2-clause-gave : goal.returns-in_ok-give_last-in-Last-2-clause-gave
 returns-in_ok-give_last-in-Last-2-clause-gave g c =
     let part = rw c.in-Last-2.is at c.in_ok-count.ensures.reached in
     let pending : c.bytes.result.now ≡ c.reach.new.self.pending = c.bytes.ensures.value ∙ ap (λ h. h.pending) c.self.view_is in
     let some : 0 < length c.reach.new.self.pending = rw (← pending) (grind (arith, nat_tests, c.is_empty.ensures, c.if-is_empty.false)) in
-    rw (c.in_ok-give_last-in-Last-2.ensures.ok.0, c.in_ok-give_last-in-Last-2.ensures.ok.1, drop-append_seam) (gave_last g.S.Source.faults g.S.Source.name g.S.Source.gave g.S.Source.left c.in_ok-count.ensures.took part.0 part.1 some)
+    rw (c.in_ok-give_last-in-Last-2.ensures.ok.0, c.in_ok-give_last-in-Last-2.ensures.ok.1, drop-append_seam) (gave_last g.S.Source.seen c.in_ok-count.ensures.took part.0 part.1 some)
 
 pub returns-in-Last-clause-comes : goal.returns-in-Last-clause-comes
 returns-in-Last-clause-comes g c =

@@ -2,7 +2,7 @@ use Rattle.std.proofs.Common.{◌≡◌, ◌-◌, ◌≤◌, length, take, refl,
 use Rattle.std.proofs.lemmas.List.{length-take}
 use Rattle.mh_io.specs.Lined.{is_ended}
 use Rattle.mh_io.specs.LinesSteps.{HasNoLf}
-use Rattle.mh_io.specs.declared.reading.TheConstants.{MOST_BYTES}
+use Rattle.mh_io.specs.Limits.{most_bytes}
 use Rattle.mh_io.proofs.LinesLooks.{line_found, none_near, near_bytes, part_found}
 use Rattle.mh_io.proofs.LinesRuns.{long_run, over_run}
 use Rattle.mh_io.proofs.lines_read.Lines.look.Goals as goal
@@ -28,9 +28,9 @@ returns-then-near-eq-LINE_BYTES-clause-shows g c =
     let few : length bytes ≤ 65536 = rw c.bytes-bytes.ensures.value c.bytes-bytes.ensures.few in
     let order : c.args.looked ≤ c.min-near.result = omega (arith, ap length pending) in
     let near : HasNoLf (take c.min-near.result bytes) = none_near held.passed c.args.looked c.min-near.result bytes c.min-near.ensures order free (sym c.find_lf.ensures ∙ c.in_default.is) in
-    let all : take c.min-near.result bytes ≡ take (MOST_BYTES - held.passed) bytes = near_bytes held.passed c.min-near.result bytes c.min-near.ensures in
-    let looks : HasNoLf (take (MOST_BYTES - held.passed) bytes) = rw (← all) near in
-    rw (← passed, ← pending) (long_run held.passed bytes (is_ended c.args.self.now.supply) looks (omega (arith, length-take (MOST_BYTES - held.passed) bytes)))
+    let all : take c.min-near.result bytes ≡ take (most_bytes - held.passed) bytes = near_bytes held.passed c.min-near.result bytes c.min-near.ensures in
+    let looks : HasNoLf (take (most_bytes - held.passed) bytes) = rw (← all) near in
+    rw (← passed, ← pending) (long_run held.passed bytes (is_ended c.args.self.now.supply) looks (omega (arith, length-take (most_bytes - held.passed) bytes)))
 
 pub returns-then-near-bytes-clause-shows : goal.returns-then-near-bytes-clause-shows
 returns-then-near-bytes-clause-shows g c =
@@ -42,9 +42,9 @@ returns-then-near-bytes-clause-shows g c =
     let few : length bytes ≤ 65536 = rw c.bytes-bytes.ensures.value c.bytes-bytes.ensures.few in
     let order : c.args.looked ≤ c.min-near.result = omega (arith, ap length pending) in
     let near : HasNoLf (take c.min-near.result bytes) = none_near held.passed c.args.looked c.min-near.result bytes c.min-near.ensures order free (sym c.find_lf.ensures ∙ c.in_default.is) in
-    let all : take c.min-near.result bytes ≡ take (MOST_BYTES - held.passed) bytes = near_bytes held.passed c.min-near.result bytes c.min-near.ensures in
-    let looks : HasNoLf (take (MOST_BYTES - held.passed) bytes) = rw (← all) near in
-    (rw (← passed, ← pending) (over_run held.passed bytes (is_ended c.args.self.now.supply) looks (omega (arith, length-take (MOST_BYTES - held.passed) bytes)) (omega arith)), refl)
+    let all : take c.min-near.result bytes ≡ take (most_bytes - held.passed) bytes = near_bytes held.passed c.min-near.result bytes c.min-near.ensures in
+    let looks : HasNoLf (take (most_bytes - held.passed) bytes) = rw (← all) near in
+    (rw (← passed, ← pending) (over_run held.passed bytes (is_ended c.args.self.now.supply) looks (omega (arith, length-take (most_bytes - held.passed) bytes)) (omega arith)), refl)
 
 pub returns-in-Open-clause-shows : goal.returns-in-Open-clause-shows
 returns-in-Open-clause-shows g c =
@@ -56,8 +56,8 @@ returns-in-Open-clause-shows g c =
     let few : length bytes ≤ 65536 = rw c.bytes-bytes.ensures.value c.bytes-bytes.ensures.few in
     let order : c.args.looked ≤ c.min-near.result = omega (arith, ap length pending) in
     let near : HasNoLf (take c.min-near.result bytes) = none_near held.passed c.args.looked c.min-near.result bytes c.min-near.ensures order free (sym c.find_lf.ensures ∙ c.in_default.is) in
-    let all : take c.min-near.result bytes ≡ take (MOST_BYTES - held.passed) bytes = near_bytes held.passed c.min-near.result bytes c.min-near.ensures in
-    let looks : HasNoLf (take (MOST_BYTES - held.passed) bytes) = rw (← all) near in
+    let all : take c.min-near.result bytes ≡ take (most_bytes - held.passed) bytes = near_bytes held.passed c.min-near.result bytes c.min-near.ensures in
+    let looks : HasNoLf (take (most_bytes - held.passed) bytes) = rw (← all) near in
     (rw (← passed, ← pending) (part_found held.passed c.min-near.result bytes (omega arith) c.min-near.ensures near (omega arith) (omega arith)), sym (ap (λ h. h.supply) c.self.view_is) ∙ c.in-Open.is)
 
 pub returns-in-Ended-clause-shows : goal.returns-in-Ended-clause-shows
@@ -70,8 +70,8 @@ returns-in-Ended-clause-shows g c =
     let few : length bytes ≤ 65536 = rw c.bytes-bytes.ensures.value c.bytes-bytes.ensures.few in
     let order : c.args.looked ≤ c.min-near.result = omega (arith, ap length pending) in
     let near : HasNoLf (take c.min-near.result bytes) = none_near held.passed c.args.looked c.min-near.result bytes c.min-near.ensures order free (sym c.find_lf.ensures ∙ c.in_default.is) in
-    let all : take c.min-near.result bytes ≡ take (MOST_BYTES - held.passed) bytes = near_bytes held.passed c.min-near.result bytes c.min-near.ensures in
-    let looks : HasNoLf (take (MOST_BYTES - held.passed) bytes) = rw (← all) near in
+    let all : take c.min-near.result bytes ≡ take (most_bytes - held.passed) bytes = near_bytes held.passed c.min-near.result bytes c.min-near.ensures in
+    let looks : HasNoLf (take (most_bytes - held.passed) bytes) = rw (← all) near in
     (rw (← passed, ← pending) (part_found held.passed c.min-near.result bytes (omega arith) c.min-near.ensures near (omega arith) (omega arith)), sym (ap (λ h. h.supply) c.self.view_is) ∙ c.in-Ended.is)
 
 pub returns-in-Failed-clause-shows : goal.returns-in-Failed-clause-shows
@@ -84,6 +84,6 @@ returns-in-Failed-clause-shows g c =
     let few : length bytes ≤ 65536 = rw c.bytes-bytes.ensures.value c.bytes-bytes.ensures.few in
     let order : c.args.looked ≤ c.min-near.result = omega (arith, ap length pending) in
     let near : HasNoLf (take c.min-near.result bytes) = none_near held.passed c.args.looked c.min-near.result bytes c.min-near.ensures order free (sym c.find_lf.ensures ∙ c.in_default.is) in
-    let all : take c.min-near.result bytes ≡ take (MOST_BYTES - held.passed) bytes = near_bytes held.passed c.min-near.result bytes c.min-near.ensures in
-    let looks : HasNoLf (take (MOST_BYTES - held.passed) bytes) = rw (← all) near in
+    let all : take c.min-near.result bytes ≡ take (most_bytes - held.passed) bytes = near_bytes held.passed c.min-near.result bytes c.min-near.ensures in
+    let looks : HasNoLf (take (most_bytes - held.passed) bytes) = rw (← all) near in
     (rw (← passed, ← pending) (part_found held.passed c.min-near.result bytes (omega arith) c.min-near.ensures near (omega arith) (omega arith)), sym (ap (λ h. h.supply) c.self.view_is) ∙ c.in-Failed.is)

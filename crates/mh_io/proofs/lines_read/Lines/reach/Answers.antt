@@ -10,7 +10,7 @@ loop-front-init g c = record {
   there = omega arith;
   near = omega arith;
   text = λ k d low. absurd (omega arith);
-  took = more_nothing g.S.Source.faults g.S.Source.name g.S.Source.gave g.S.Source.left c.args.self.now;
+  took = more_nothing g.S.Source.seen c.args.self.now;
   again = λ _ _. refl;
 }
 
@@ -27,6 +27,6 @@ loop-front-preserved g c =
       there = omega (arith, ap length pending, ap length more.pending, length-append held.pending more.taken);
       near = omega (arith, ap length pending, more.passed, part.near);
       text = rw front part.text;
-      took = then_more g.S.Source.faults g.S.Source.name g.S.Source.gave g.S.Source.left c.loop-front.invariant.took more;
+      took = then_more g.S.Source.seen c.loop-front.invariant.took more;
       again = λ stop is_stopped. absurd (not_stopped held stop part is_open (subst (λ (h : Lined g.row.S.Denot). IsStopped h stop) (sym (c.loop-front.invariant.again stop is_stopped)) is_stopped));
     }

@@ -2,15 +2,15 @@ use Rattle.std.proofs.Common.{◌≡◌, ◌-◌, ◌≤◌, length, take}
 use Rattle.mh_io.specs.Lines.{Stop}
 use Rattle.mh_io.specs.Lined.{IsStopped}
 use Rattle.mh_io.specs.LinesSteps.{HasNoLf, TookMore, turns_left}
-use Rattle.mh_io.specs.declared.reading.TheConstants.{MOST_BYTES}
+use Rattle.mh_io.specs.Limits.{most_bytes}
 use Rattle.mh_io.proofs.lines_read.Lines.reach.Given as goal
 
 abbrev pub invariant-loop-front : goal.invariant-loop-front
 invariant-loop-front g l = record {
   there : l.looked ≤ length l.self.pending;
-  near : l.looked ≤ MOST_BYTES - l.self.passed;
+  near : l.looked ≤ most_bytes - l.self.passed;
   text : HasNoLf (take l.looked l.self.pending);
-  took : TookMore g.S.Source.faults g.S.Source.name g.S.Source.gave g.S.Source.left l.initial.self l.self;
+  took : TookMore g.S.Source.seen l.initial.self l.self;
   again : (stop : Stop) → IsStopped l.initial.self stop → l.self ≡ l.initial.self;
 }
 
