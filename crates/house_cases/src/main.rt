@@ -3,6 +3,12 @@
 #![tactic(auto)]
 
 mod case_file;
+#[cfg(test)]
+mod faults;
+#[cfg(test)]
+mod memory_house;
+#[cfg(test)]
+mod sizes;
 
 use anyhow::{Context, Result};
 use case_file::words_of;

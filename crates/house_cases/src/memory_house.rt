@@ -1,0 +1,159 @@
+use crate::case_file::words_of;
+use margin_top::{Status, margin_house};
+use mh_io::{MemFolder, MemSink};
+use mh_units::Bytes;
+use std::alloc::{AllocError, Global};
+
+/// Parameters of two weights: 7.4 for regular currencies and 10 for BRL, each threshold 100,000,000 dollars.
+const PARAMS: &str = r#"calculation_currency = "USD"
+[fx]
+high = ["BRL"]
+weight = ["7.4", "10"]
+rho = ["0.5", "0.5", "0.5"]
+first = []
+second = []
+threshold = [100000000, 100000000, 100000000]
+"#;
+
+const TERMS: &str = r#"[[set]]
+name = "ALPHA"
+threshold = "5000.00"
+mta_delivery = "500.00"
+mta_return = "500.00"
+rounding = "100.00"
+notification = "13:00"
+fx_haircut = "0.08"
+haircuts = { CASH-USD = "0" }
+holidays = []
+"#;
+
+/// One row, 1,000 dollars of sensitivity to the euro.
+const CRIF: &str =
+    "TradeID,ProductClass,RiskType,Qualifier,Bucket,Label1,Label2,Amount,AmountCurrency,AmountUSD\n\
+T1,RatesFX,Risk_FX,EUR,,,,1000,USD,1000\n";
+
+/// The row in a block of four lines, and a question.
+const FEED: &str = "CRIF\tALPHA\n\
+TradeID,ProductClass,RiskType,Qualifier,Bucket,Label1,Label2,Amount,AmountCurrency,AmountUSD\n\
+T1,RatesFX,Risk_FX,EUR,,,,1000,USD,1000\n\
+END\n\
+ASK\tALPHA\n";
+
+/// The same, and a block without an end.
+const CUT: &str = "CRIF\tALPHA\n\
+TradeID,ProductClass,RiskType,Qualifier,Bucket,Label1,Label2,Amount,AmountCurrency,AmountUSD\n\
+T1,RatesFX,Risk_FX,EUR,,,,1000,USD,1000\n\
+END\n\
+ASK\tALPHA\n\
+CRIF\tALPHA\n\
+T1,RatesFX\n";
+
+const FILES: [(&str, &str); 5] = [
+    ("params", PARAMS),
+    ("terms", TERMS),
+    ("crif", CRIF),
+    ("feed", FEED),
+    ("cut", CUT),
+];
+
+/// What fails, and at which of its calls, counted from 1.
+#[derive(Clone, Copy, Debug)]
+pub enum Failing {
+    Nothing,
+    Find(u64),
+    /// Taking bytes of the file of this name.
+    Take(&'static str, u64),
+    Put(u64),
+}
+
+/// How the files are given and the text is taken.
+#[derive(Clone, Copy, Debug)]
+pub struct Setup {
+    /// The most bytes that a file gives at once.
+    pub most: usize,
+    /// The most bytes that the sink takes at once.
+    pub sink_most: usize,
+    pub failing: Failing,
+}
+
+pub const WELL: Setup = Setup {
+    most: 65_536,
+    sink_most: 65_536,
+    failing: Failing::Nothing,
+};
+
+/// The bytes that a command may print.
+const ROOM: usize = 1 << 25;
+
+/// How a command ended, and what it printed.
+#[derive(Debug, Drop)]
+pub struct Outcome {
+    pub status: Status,
+    pub text: Vec<u8>,
+}
+
+impl Outcome {
+    /// Whether it has this status, and a text of these two parts.
+    pub fn is(&self, status: Status, front: &str, end: &str) -> bool {
+        let rest = self.text.strip_prefix(front.as_bytes());
+        self.status == status && rest == Some(end.as_bytes())
+    }
+}
+
+fn one(alloc: Global, number: u64) -> Result<Vec<u64>, AllocError> {
+    Ok(vec![in alloc; number]?)
+}
+
+fn finds_that_fail(alloc: Global, failing: Failing) -> Result<Vec<u64>, AllocError> {
+    match failing {
+        Failing::Find(call) => one(alloc, call),
+        _ => Ok(Vec::new(alloc)),
+    }
+}
+
+fn takes_that_fail(alloc: Global, failing: Failing, file: &str) -> Result<Vec<u64>, AllocError> {
+    match failing {
+        Failing::Take(name, call) if name == file => one(alloc, call),
+        _ => Ok(Vec::new(alloc)),
+    }
+}
+
+fn puts_that_fail(alloc: Global, failing: Failing) -> Result<Vec<u64>, AllocError> {
+    match failing {
+        Failing::Put(call) => one(alloc, call),
+        _ => Ok(Vec::new(alloc)),
+    }
+}
+
+/// A folder with the files.
+pub fn folder(alloc: Global, setup: Setup) -> Result<MemFolder, AllocError> {
+    let mut folder = MemFolder::new(finds_that_fail(alloc, setup.failing)?);
+    for (name, text) in FILES {
+        let bytes = Bytes::from_slice(alloc, text.as_bytes())?;
+        let failing = takes_that_fail(alloc, setup.failing, name)?;
+        folder.add(alloc, name, bytes, setup.most.max(1), failing)?;
+    }
+    Ok(folder)
+}
+
+/// Runs the words of a line over a folder.
+pub fn run_over(
+    alloc: Global,
+    line: &str,
+    folder: &mut MemFolder,
+    setup: Setup,
+) -> Result<Outcome, AllocError> {
+    let words = words_of(alloc, line)?;
+    let failing = puts_that_fail(alloc, setup.failing)?;
+    let mut out = MemSink::new(alloc, ROOM, setup.sink_most, failing)?;
+    let status = margin_house(alloc, words.as_slice(), folder, &mut out);
+    Ok(Outcome {
+        status,
+        text: out.bytes().to_vec(alloc)?,
+    })
+}
+
+/// Runs the words of a line over the files.
+pub fn run(alloc: Global, line: &str, setup: Setup) -> Result<Outcome, AllocError> {
+    run_over(alloc, line, &mut folder(alloc, setup)?, setup)
+}
