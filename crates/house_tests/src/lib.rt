@@ -13,7 +13,13 @@ mod csa_calls_amounts;
 #[cfg(test)]
 mod csa_terms_calls;
 #[cfg(test)]
+mod feed_gate_calls;
+#[cfg(test)]
 mod makers;
+#[cfg(test)]
+mod margin_text_calls;
+#[cfg(test)]
+mod margin_top_calls;
 #[cfg(test)]
 mod moment_texts;
 #[cfg(test)]

@@ -1,0 +1,177 @@
+use crate::makers::{params, set_terms};
+use feed_gate::{FeedEnd, FeedReport, RefusedMessage};
+use margin_text::{journal_text, margin_lines, push_report};
+use mh_units::Text;
+use set_core::{Event, SetState};
+use simm_kinds::Listed;
+use simm_rules::Breakdown;
+use std::process::Abort;
+
+/// The journal of ALPHA after one question by this caller.
+fn asked(rt: &(impl Abort + AllocGlobal), caller: u32) -> Text {
+    let set = SetState::new(rt.alloc(), params(rt), set_terms(rt, 0));
+    let mut set = set.ok().expect(rt, "memory");
+    assert!(rt; set.apply(rt.alloc(), caller, Event::AskMargin).is_ok());
+    journal_text(rt.alloc(), &set, set.terms().name())
+        .ok()
+        .expect(rt, "memory")
+}
+
+#[test]
+fn a_journal_is_printed_with_its_callers(rt: HostRuntime) {
+    let text = asked(&rt, 7);
+    assert!(rt; text.as_slice() == "SET\tALPHA\t1\n1\t7\tASK\t=\tMARGIN\t0.00\n".as_bytes());
+}
+
+/// The text of a feed's report.
+fn printed(rt: &(impl Abort + AllocGlobal), report: &FeedReport) -> Text {
+    let sets = [set_terms(rt, 0), set_terms(rt, 1)];
+    let mut text = Text::new(rt.alloc());
+    push_report(&mut text, 7, &sets, report)
+        .ok()
+        .expect(rt, "memory");
+    text
+}
+
+/// Ends of a feed with five calls, and their lines.
+const ENDS: [(FeedEnd, &str); 6] = [
+    (FeedEnd::End, "FEED\t7\t5\t0\tEND\n"),
+    (FeedEnd::Cut { line: 6 }, "FEED\t7\t5\t0\tCUT\t6\n"),
+    (FeedEnd::LineLong { line: 7 }, "FEED\t7\t5\t0\tLONG\t7\n"),
+    (
+        FeedEnd::TooLong { taken: 33_554_433 },
+        "FEED\t7\t5\t0\tTOOLONG\t33554433\n",
+    ),
+    (FeedEnd::ReadFault, "FEED\t7\t5\t0\tREAD\n"),
+    (FeedEnd::Memory { line: 8 }, "FEED\t7\t5\t0\tMEMORY\t8\n"),
+];
+
+#[test]
+fn each_end_is_printed(rt: HostRuntime) {
+    for (end, wanted) in ENDS {
+        let refused = Listed::new(rt.alloc());
+        let report = FeedReport {
+            done: 5,
+            refused,
+            end,
+        };
+        assert!(rt; printed(&rt, &report).as_slice() == wanted.as_bytes());
+    }
+}
+
+/// Refused messages, and the report of one alone.
+const REFUSED: [(RefusedMessage, &str); 4] = [
+    (
+        RefusedMessage::BadLine { line: 1 },
+        "REFUSED\t7\t1\t1\nFEED\t7\t2\t1\tEND\n",
+    ),
+    (
+        RefusedMessage::UnknownSet { line: 2 },
+        "REFUSED\t7\t2\t2\nFEED\t7\t2\t1\tEND\n",
+    ),
+    (
+        RefusedMessage::BadBatch { line: 3 },
+        "REFUSED\t7\t3\t3\nFEED\t7\t2\t1\tEND\n",
+    ),
+    (
+        RefusedMessage::Full {
+            line: 9,
+            set: 1,
+            entries: 65_535,
+            rows: 12,
+        },
+        "REFUSED\t7\t9\t4\tBETA\t65535\t12\nFEED\t7\t2\t1\tEND\n",
+    ),
+];
+
+fn report_of(rt: &(impl Abort + AllocGlobal), message: RefusedMessage) -> FeedReport {
+    let mut refused = Listed::new(rt.alloc());
+    refused.push(message).ok().expect(rt, "memory");
+    FeedReport {
+        done: 2,
+        refused,
+        end: FeedEnd::End,
+    }
+}
+
+#[test]
+fn each_refused_message_is_printed(rt: HostRuntime) {
+    for (message, wanted) in REFUSED {
+        let report = report_of(&rt, message);
+        assert!(rt; printed(&rt, &report).as_slice() == wanted.as_bytes());
+    }
+}
+
+const NO_MARGIN: Breakdown = Breakdown {
+    classes: [0; 24],
+    products: [0; 4],
+    fixed: 0,
+    notional: 0,
+    multiplier: 0,
+    total: 0,
+};
+
+/// Margins with their lines. Classes stand by product, six for each.
+const MARGINS: [(Breakdown, &str); 4] = [
+    (NO_MARGIN, "MARGIN\t0.00\n"),
+    // Add-ons without sensitivities.
+    (
+        Breakdown {
+            fixed: 10_000,
+            notional: 5,
+            multiplier: 123_456_789,
+            total: 123_466_794,
+            ..NO_MARGIN
+        },
+        "MARGIN\t1234667.94\nFIXED\t100.00\nNOTIONAL\t0.05\nMULTIPLIER\t1234567.89\n",
+    ),
+    // Two product classes that are not neighbours, each with some of its classes, and the add-on in the middle.
+    (
+        Breakdown {
+            classes: [
+                120_000, 0, 0, 0, 0, 740_000, 0, 0, 0, 0, 0, 0, 0, 0, 0, 30_000, 0, 40_000, 0, 0,
+                0, 0, 0, 0,
+            ],
+            products: [800_000, 0, 50_000, 0],
+            notional: 1_250,
+            total: 851_250,
+            ..NO_MARGIN
+        },
+        "MARGIN\t8512.50\n\
+PRODUCT\tRatesFX\t8000.00\nCLASS\tRatesFX\tIR\t1200.00\nCLASS\tRatesFX\tFX\t7400.00\n\
+PRODUCT\tEquity\t500.00\nCLASS\tEquity\tEquity\t300.00\nCLASS\tEquity\tFX\t400.00\n\
+NOTIONAL\t12.50\n",
+    ),
+    // All product classes, all risk classes and all add-ons, each amount once.
+    (
+        Breakdown {
+            classes: [
+                1, 2, 3, 4, 5, 6, 11, 12, 13, 14, 15, 16, 21, 22, 23, 24, 25, 26, 31, 32, 33, 34,
+                35, 36,
+            ],
+            products: [107, 117, 127, 137],
+            fixed: 208,
+            notional: 209,
+            multiplier: 210,
+            total: 1_115,
+        },
+        "MARGIN\t11.15\n\
+PRODUCT\tRatesFX\t1.07\nCLASS\tRatesFX\tIR\t0.01\nCLASS\tRatesFX\tCreditQ\t0.02\nCLASS\tRatesFX\tCreditNonQ\t0.03\n\
+CLASS\tRatesFX\tEquity\t0.04\nCLASS\tRatesFX\tCommodity\t0.05\nCLASS\tRatesFX\tFX\t0.06\n\
+PRODUCT\tCredit\t1.17\nCLASS\tCredit\tIR\t0.11\nCLASS\tCredit\tCreditQ\t0.12\nCLASS\tCredit\tCreditNonQ\t0.13\n\
+CLASS\tCredit\tEquity\t0.14\nCLASS\tCredit\tCommodity\t0.15\nCLASS\tCredit\tFX\t0.16\n\
+PRODUCT\tEquity\t1.27\nCLASS\tEquity\tIR\t0.21\nCLASS\tEquity\tCreditQ\t0.22\nCLASS\tEquity\tCreditNonQ\t0.23\n\
+CLASS\tEquity\tEquity\t0.24\nCLASS\tEquity\tCommodity\t0.25\nCLASS\tEquity\tFX\t0.26\n\
+PRODUCT\tCommodity\t1.37\nCLASS\tCommodity\tIR\t0.31\nCLASS\tCommodity\tCreditQ\t0.32\nCLASS\tCommodity\tCreditNonQ\t0.33\n\
+CLASS\tCommodity\tEquity\t0.34\nCLASS\tCommodity\tCommodity\t0.35\nCLASS\tCommodity\tFX\t0.36\n\
+FIXED\t2.08\nNOTIONAL\t2.09\nMULTIPLIER\t2.10\n",
+    ),
+];
+
+#[test]
+fn a_margin_is_printed_with_each_part_that_is_not_0(rt: HostRuntime) {
+    for (margin, wanted) in MARGINS {
+        let text = margin_lines(rt.alloc(), &margin).ok().expect(&rt, "memory");
+        assert!(rt; text.as_slice() == wanted.as_bytes(), "{wanted}");
+    }
+}
