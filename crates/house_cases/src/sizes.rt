@@ -37,7 +37,7 @@ const LONG: [(&str, &str, Status, &str, Status, &str); 4] = [
         "params",
         CALC,
         Status::Params,
-        "FAULT\tPARAMS\n",
+        "FAULT\tPARAMS\t2\tcalculation_currency\n",
         Status::Params,
         "FAULT\tLONG\tparams\n",
     ),

@@ -1,5 +1,5 @@
 -- The printed text: fields parted by one tab, and LF at the end of each line.
-use Rattle.std.specs.Prelude.{ℕ, ◌==◌, List, [], ◌∷◌, ◌++◌, ℤ, unsigned_abs, Bool, if◌then◌else◌}
+use Rattle.std.specs.Prelude.{ℕ, ◌==◌, List, [], ◌∷◌, ◌++◌, ℤ, unsigned_abs, Bool, if◌then◌else◌, Option, Some, None, codes}
 use Rattle.mh_units.specs.Money.{money_text}
 
 -- a field that another follows
@@ -16,3 +16,8 @@ is_zero amount = unsigned_abs amount == 0
 -- a line with an amount, only where the amount isn't 0
 abbrev pub amount_line : List ℕ → ℤ → List ℕ
 amount_line fields amount = if is_zero amount then [] else fields ++ last_field (money_text amount)
+
+-- the line of a fault of the file that the word names, by its number; want of memory has no number, and no line
+abbrev pub fault_line : List ℕ → Option ℕ → (ℕ → List ℕ) → List ℕ
+fault_line word None fields = []
+fault_line word (Some number) fields = field (codes "FAULT") ++ field word ++ fields number

@@ -5,3 +5,4 @@ pub mod Rows
 pub mod Journal
 pub mod Feeds
 pub mod TermsLine
+pub mod ParamsLine

@@ -1,4 +1,4 @@
-//! Printed text: the lines of a margin, of a set's journal, of a feed's report and of a fault of the terms.
+//! Printed text: the lines of a margin, of a set's journal, of a feed's report and of a refused file's fault.
 #![tactic(auto)]
 
 mod breakdown_lines;
@@ -12,6 +12,6 @@ mod set_journal;
 mod trade_lines;
 
 pub use breakdown_lines::margin_lines;
-pub use fault_lines::terms_line;
+pub use fault_lines::{params_line, terms_line};
 pub use feed_lines::push_report;
 pub use set_journal::{journal_text, push_journal};

@@ -17,6 +17,7 @@ use Rattle.margin_top.specs.declared.fault.ValueFault.TheVariants as value
 use Rattle.margin_top.specs.declared.fault.CalcFault.{CalcFault}
 use Rattle.margin_top.specs.declared.fault.CalcFault.TheVariants as fault
 use Rattle.margin_top.specs.Files.{Deeds, no_deeds, with_reading, told_after, Did, IsWhole, IsTooLong, IsRead, Failed, NoValue}
+use Rattle.margin_top.specs.Grammars.{RefusesTrades}
 use Rattle.margin_top.specs.Calc.{GotLine, HasBoth, HasMargin, CrifFails, Cause, MarginPrints, status_of, fault_text, CalcEnds}
 use Rattle.margin_top.proofs.FileLemmas.{did_more, rises_earlier}
 
@@ -48,19 +49,19 @@ failed_after old mid new first bytes name faults file.Memory did finds reads h =
     h
 
 -- a file without a value after another file was read
-pub no_value_after : (old mid new : FolderSeen) (first bytes name : List ℕ) (faults : ℕ) (IsRefused : List ℕ → Type 0) (f : ValueFault) → Did old mid (with_reading no_deeds first bytes faults) → old.find_faults ≤ mid.find_faults → old.read_faults ≤ mid.read_faults → NoValue mid new no_deeds name IsRefused f → NoValue old new (with_reading no_deeds first bytes faults) name IsRefused f
-no_value_after old mid new first bytes name faults IsRefused (value.OfFile f) did finds reads h = failed_after old mid new first bytes name faults f did finds reads h
-no_value_after old mid new first bytes name faults IsRefused value.Refused did finds reads h =
+pub no_value_after : (old mid new : FolderSeen) (first bytes name : List ℕ) (faults : ℕ) (Refuses : List ℕ → List ℕ → Type 0) (f : ValueFault) → Did old mid (with_reading no_deeds first bytes faults) → old.find_faults ≤ mid.find_faults → old.read_faults ≤ mid.read_faults → NoValue mid new no_deeds name Refuses f → NoValue old new (with_reading no_deeds first bytes faults) name Refuses f
+no_value_after old mid new first bytes name faults Refuses (value.OfFile f) did finds reads h = failed_after old mid new first bytes name faults f did finds reads h
+no_value_after old mid new first bytes name faults Refuses (value.Refused line) did finds reads h =
     record { bytes = h.bytes; faults = h.faults; did = did_more old mid new first bytes faults (with_reading no_deeds name h.bytes h.faults) did h.did; whole = whole_before old mid (with_reading no_deeds first bytes faults) name h.bytes did h.whole; so = h.so }
 
 -- the parameters were read, and then the CRIF file gave no batch
-pub crif_failed : (old mid new : FolderSeen) (params_name crif_name : List ℕ) (p : Params) (f : ValueFault) → IsRead old mid no_deeds params_name (λ bytes. params_of bytes ≡ Some p) → old.find_faults ≤ mid.find_faults → old.read_faults ≤ mid.read_faults → NoValue mid new no_deeds crif_name (λ bytes. crif_of bytes ≡ None) f → CrifFails params_name crif_name old new f
+pub crif_failed : (old mid new : FolderSeen) (params_name crif_name : List ℕ) (p : Params) (f : ValueFault) → IsRead old mid no_deeds params_name (λ bytes. params_of bytes ≡ Some p) → old.find_faults ≤ mid.find_faults → old.read_faults ≤ mid.read_faults → NoValue mid new no_deeds crif_name RefusesTrades f → CrifFails params_name crif_name old new f
 crif_failed old mid new params_name crif_name p f first finds reads h = record {
   param_bytes = first.bytes;
   param_faults = first.faults;
   p = p;
   params = record { whole = first.whole; values = first.so };
-  failed = no_value_after old mid new params_name first.bytes crif_name first.faults (λ bytes. crif_of bytes ≡ None) f first.did finds reads h;
+  failed = no_value_after old mid new params_name first.bytes crif_name first.faults RefusesTrades f first.did finds reads h;
 }
 
 -- both files were read
@@ -107,11 +108,11 @@ ends_at_fault params_name crif_name old new out_old out_new f s line cause e is 
     at (fault.OfParams (value.OfFile file.Unread)) cause printed = record { f = fault.OfParams (value.OfFile file.Unread); cause = cause; status = refl; printed = printed }
     at (fault.OfParams (value.OfFile file.Long)) cause printed = record { f = fault.OfParams (value.OfFile file.Long); cause = cause; status = refl; printed = printed }
     at (fault.OfParams (value.OfFile file.Memory)) cause printed = record { f = fault.OfParams (value.OfFile file.Memory); cause = cause; status = refl; printed = printed }
-    at (fault.OfParams value.Refused) cause printed = record { f = fault.OfParams value.Refused; cause = cause; status = refl; printed = printed }
+    at (fault.OfParams (value.Refused said)) cause printed = record { f = fault.OfParams (value.Refused said); cause = cause; status = refl; printed = printed }
     at (fault.OfCrif (value.OfFile file.Missing)) cause printed = record { f = fault.OfCrif (value.OfFile file.Missing); cause = cause; status = refl; printed = printed }
     at (fault.OfCrif (value.OfFile file.Unread)) cause printed = record { f = fault.OfCrif (value.OfFile file.Unread); cause = cause; status = refl; printed = printed }
     at (fault.OfCrif (value.OfFile file.Long)) cause printed = record { f = fault.OfCrif (value.OfFile file.Long); cause = cause; status = refl; printed = printed }
     at (fault.OfCrif (value.OfFile file.Memory)) cause printed = record { f = fault.OfCrif (value.OfFile file.Memory); cause = cause; status = refl; printed = printed }
-    at (fault.OfCrif value.Refused) cause printed = record { f = fault.OfCrif value.Refused; cause = cause; status = refl; printed = printed }
+    at (fault.OfCrif (value.Refused said)) cause printed = record { f = fault.OfCrif (value.Refused said); cause = cause; status = refl; printed = printed }
     at fault.OutOfRange cause printed = record { f = fault.OutOfRange; cause = cause; status = refl; printed = printed }
     at fault.Memory cause printed = record { f = fault.Memory; cause = cause; status = refl; printed = printed }

@@ -13,9 +13,10 @@ use Rattle.margin_top.specs.declared.status.Status.TheVariants as status
 use Rattle.margin_top.specs.declared.fault.CalcFault.{CalcFault}
 use Rattle.margin_top.specs.declared.fault.CalcFault.TheVariants as fault
 use Rattle.margin_top.specs.Files.{IsWhole, no_deeds, with_reading}
+use Rattle.margin_top.specs.Grammars.{RefusesParams, RefusesTrades}
 use Rattle.margin_top.specs.Calc.{Cause, status_of, status_of_value, CalcEnds}
 use Rattle.margin_top.specs.Complete.{IsWell, EndsWell}
-use Rattle.margin_top.proofs.KnownFiles.{same_bytes, only_memory_for}
+use Rattle.margin_top.proofs.KnownFiles.{same_bytes, only_memory_for, params_taken}
 
 -- parameters that were read are those of the file
 same_params : (pn cn : List ℕ) (old new : FolderSeen) (out_old out_new : SinkSeen) (w : IsWell pn cn old new out_old out_new) (bytes : List ℕ) (p : Params) → IsWhole old pn bytes → params_of bytes ≡ Some p → p ≡ w.p
@@ -36,19 +37,15 @@ same_trades pn cn old new out_old out_new w bytes trades whole read =
 only_memory : (pn cn : List ℕ) (old new : FolderSeen) (out_old out_new : SinkSeen)
     → IsWell pn cn old new out_old out_new → (f : CalcFault) → Cause pn cn old new f → status_of f ≡ status.Memory
 only_memory pn cn old new out_old out_new w (fault.OfParams f) h =
-    let IsRefused : List ℕ → Type 0 = λ bytes. params_of bytes ≡ None in
-    let known : params_of w.param_bytes ≡ Some w.p = w.params_read in
-    let taken : IsRefused w.param_bytes → ⊥ = λ e. cc in
     ap (status_of_value status.Params)
-    (only_memory_for old new no_deeds pn w.param_bytes IsRefused w.t f w.told w.has_params w.params_fit taken
-    w.finds_stood w.reads_stood h)
+    (only_memory_for old new no_deeds pn w.param_bytes RefusesParams w.t f w.told w.has_params w.params_fit
+    (params_taken w.param_bytes w.p w.params_read) w.finds_stood w.reads_stood h)
 only_memory pn cn old new out_old out_new w (fault.OfCrif f) h =
-    let IsRefused : List ℕ → Type 0 = λ bytes. crif_of bytes ≡ None in
     let known : crif_of w.crif_bytes ≡ Some w.trades = w.crif_read in
-    let taken : IsRefused w.crif_bytes → ⊥ = λ e. cc in
+    let taken : (line : List ℕ) → RefusesTrades w.crif_bytes line → ⊥ = λ line refused. let none = refused.0 in cc in
     let before = with_reading no_deeds pn h.param_bytes h.param_faults in
     ap (status_of_value status.Terms)
-    (only_memory_for old new before cn w.crif_bytes IsRefused w.t f w.told w.has_crif w.crif_fits taken
+    (only_memory_for old new before cn w.crif_bytes RefusesTrades w.t f w.told w.has_crif w.crif_fits taken
     w.finds_stood w.reads_stood h.failed)
 only_memory pn cn old new out_old out_new w fault.OutOfRange h =
     let b = h.both in

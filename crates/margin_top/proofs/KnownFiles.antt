@@ -1,13 +1,22 @@
 -- What a folder that tells a file excludes: what was read is the file, and where it fits no fault of it comes.
-use Rattle.std.proofs.Common.{◌≡◌, ℕ, ◌≤◌, List, ◌++◌, length, Option, Some, IfSome, ap, refl, subst, length-append, arith}
+use Rattle.std.proofs.Common.{◌≡◌, ℕ, ◌≤◌, List, ◌++◌, length, Option, Some, IfSome, Result, Ok, Err, IsErrAnd, ap, refl, subst, length-append, arith}
+use Rattle.std.specs.Result.{result_ok}
 use Rattle.mh_io.specs.Faults.{Rises}
 use Rattle.mh_io.specs.Folder.{Telling, file_of, FolderSeen}
 use Rattle.mh_io.specs.Limits.{most_bytes}
+use Rattle.simm_rules.specs.Params.{Params}
+use Rattle.simm_params.specs.declared.fault.ParamFault.{ParamFault}
+use Rattle.simm_params.specs.Grammar.{params_of, params_read}
+use Rattle.csa_terms.specs.Grammar.{terms_of}
+use Rattle.csa_terms.specs.Terms.{Agreement}
+use Rattle.margin_text.specs.ParamsLine.{params_fault}
+use Rattle.margin_text.specs.TermsLine.{terms_fault}
 use Rattle.margin_top.specs.declared.fault.FileFault.{FileFault}
 use Rattle.margin_top.specs.declared.fault.FileFault.TheVariants as file
 use Rattle.margin_top.specs.declared.fault.ValueFault.{ValueFault}
 use Rattle.margin_top.specs.declared.fault.ValueFault.TheVariants as value
 use Rattle.margin_top.specs.Files.{Deeds, Failed, NoValue}
+use Rattle.margin_top.specs.Grammars.{RefusesParams, RefusesTerms}
 
 -- what was read whole of a file is the file
 pub same_bytes : (told : Option Telling) (t : Telling) (name a b : List ℕ) → told ≡ Some t
@@ -41,13 +50,26 @@ only_memory_of old new before name bytes t file.Long told has few finds reads h 
 only_memory_of old new before name bytes t file.Memory told has few finds reads h = refl
 
 -- the same of a file that isn't refused
-pub only_memory_for : (old new : FolderSeen) (before : Deeds) (name bytes : List ℕ) (IsRefused : List ℕ → Type 0)
+pub only_memory_for : (old new : FolderSeen) (before : Deeds) (name bytes : List ℕ) (Refuses : List ℕ → List ℕ → Type 0)
     (t : Telling) (f : ValueFault) → old.told ≡ Some t → file_of t.files name ≡ Some bytes
-    → length bytes ≤ most_bytes → (IsRefused bytes → ⊥)
+    → length bytes ≤ most_bytes → ((line : List ℕ) → Refuses bytes line → ⊥)
     → (Rises old.find_faults new.find_faults → ⊥) → (Rises old.read_faults new.read_faults → ⊥)
-    → NoValue old new before name IsRefused f → f ≡ value.OfFile file.Memory
-only_memory_for old new before name bytes IsRefused t (value.OfFile f) told has few so finds reads h =
+    → NoValue old new before name Refuses f → f ≡ value.OfFile file.Memory
+only_memory_for old new before name bytes Refuses t (value.OfFile f) told has few so finds reads h =
     ap value.OfFile (only_memory_of old new before name bytes t f told has few finds reads h)
-only_memory_for old new before name bytes IsRefused t value.Refused told has few so finds reads h =
+only_memory_for old new before name bytes Refuses t (value.Refused line) told has few so finds reads h =
     let same = same_bytes old.told t name h.bytes bytes told (h.whole).whole has in
-    absurd (so (subst IsRefused same h.so))
+    absurd (so line (subst (λ read. Refuses read line) same h.so))
+
+-- bytes that give parameters are not refused
+pub params_taken : (bytes : List ℕ) (p : Params) → params_of bytes ≡ Some p → (line : List ℕ) → RefusesParams bytes line → ⊥
+unfolding params_of
+params_taken bytes p known line refused = at (params_read bytes) known refused
+  where
+    at : (read : Result Params ParamFault) → result_ok read ≡ Some p → IsErrAnd read (λ e. line ≡ params_fault e) → ⊥
+    at (Ok q) known refused = absurd refused
+    at (Err e) known refused = cc
+
+-- bytes that give terms are not refused
+pub terms_taken : (bytes : List ℕ) (agreements : List Agreement) → terms_of bytes ≡ Ok agreements → (line : List ℕ) → RefusesTerms bytes line → ⊥
+terms_taken bytes agreements known line refused = subst (λ read. IsErrAnd read (λ e. line ≡ terms_fault e)) known refused

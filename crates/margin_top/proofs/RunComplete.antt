@@ -1,11 +1,9 @@
 -- A run for which all is well succeeds, or finds no memory.
-use Rattle.std.proofs.Common.{◌≡◌, ℕ, ◌≤◌, Bool, true, List, ◌++◌, length, Some, None, Ok, Err, ap, sym, refl, subst, inl, inr, ◌∙◌, length-append, arith}
+use Rattle.std.proofs.Common.{◌≡◌, ℕ, ◌≤◌, Bool, true, List, ◌++◌, length, Some, ap, sym, refl, subst, inl, inr, ◌∙◌, length-append, arith}
 use Rattle.mh_io.specs.Sink.{SinkSeen}
 use Rattle.mh_io.specs.Folder.{File, file_of, FolderSeen}
 use Rattle.mh_io.specs.declared.folder.FindRefused.TheVariants as find
 use Rattle.mh_io.specs.Limits.{most_bytes}
-use Rattle.simm_params.specs.Grammar.{params_of}
-use Rattle.csa_terms.specs.Grammar.{terms_of}
 use Rattle.feed_reader.specs.Feed as message
 use Rattle.feed_reader.specs.Feed.{Item, FeedRun, feed}
 use Rattle.set_core.specs.Set.{Set}
@@ -15,16 +13,16 @@ use Rattle.feed_gate.specs.declared.report.FeedReport.{FeedReport}
 use Rattle.feed_gate.specs.Run.{IsEnd}
 use Rattle.margin_top.specs.declared.status.Status.{Status}
 use Rattle.margin_top.specs.declared.status.Status.TheVariants as status
-use Rattle.margin_top.specs.declared.run_fault.TermsFileFault.TheVariants as terms
 use Rattle.margin_top.specs.declared.run_fault.RunFault.{RunFault}
 use Rattle.margin_top.specs.declared.run_fault.RunFault.TheVariants as fault
 use Rattle.margin_top.specs.Files.{no_deeds, with_reading}
-use Rattle.margin_top.specs.Calc.{status_of_file, status_of_value}
+use Rattle.margin_top.specs.Grammars.{RefusesParams, RefusesTerms}
+use Rattle.margin_top.specs.Calc.{status_of_value}
 use Rattle.margin_top.specs.Run.{HasRun, RunCause, RunPrints, RunEnds, status_of_end, status_of_run}
 use Rattle.margin_top.specs.Complete.{IsWellRun, EndsWell}
 use Rattle.margin_top.proofs.FileLemmas.{rises_earlier}
 use Rattle.margin_top.proofs.CalcLemmas.{files_before}
-use Rattle.margin_top.proofs.KnownFiles.{same_bytes, front_bytes, only_memory_of, only_memory_for}
+use Rattle.margin_top.proofs.KnownFiles.{same_bytes, front_bytes, only_memory_for, params_taken, terms_taken}
 use Rattle.margin_top.proofs.FeedStops.{not_cut, not_long, not_over}
 
 -- the end of a feed that is whole and fits, of which a front was taken
@@ -48,23 +46,14 @@ module _ {pn tn fn : List ℕ} {old new : FolderSeen} {out_old out_new : SinkSee
   -- no fault comes but want of memory
   only_memory : (f : RunFault) → RunCause pn tn fn old new f → status_of_run f ≡ status.Memory
   only_memory (fault.OfParams f) h =
-      let IsRefused : List ℕ → Type 0 = λ bytes. params_of bytes ≡ None in
-      let known : params_of w.param_bytes ≡ Some w.p = w.params_read in
-      let taken : IsRefused w.param_bytes → ⊥ = λ e. cc in
       ap (status_of_value status.Params)
-      (only_memory_for old new no_deeds pn w.param_bytes IsRefused w.t f w.told w.has_params w.params_fit taken
-      w.finds_stood w.reads_stood h)
-  only_memory (fault.OfTerms (terms.OfFile f)) h =
+      (only_memory_for old new no_deeds pn w.param_bytes RefusesParams w.t f w.told w.has_params w.params_fit
+      (params_taken w.param_bytes w.p w.params_read) w.finds_stood w.reads_stood h)
+  only_memory (fault.OfTerms f) h =
       let before = with_reading no_deeds pn h.param_bytes h.param_faults in
-      ap (status_of_file status.Terms)
-      (only_memory_of old new before tn w.terms_bytes w.t f w.told w.has_terms w.terms_fit
-      w.finds_stood w.reads_stood h.failed)
-  only_memory (fault.OfTerms (terms.Refused line)) h =
-      let read = h.read in
-      let same = same_bytes old.told w.t tn read.bytes w.terms_bytes w.told (read.whole).whole w.has_terms in
-      let refused : terms_of w.terms_bytes ≡ Err h.e = subst (λ b. terms_of b ≡ Err h.e) same read.so in
-      let known : terms_of w.terms_bytes ≡ Ok w.agreements = w.terms_read in
-      cc
+      ap (status_of_value status.Terms)
+      (only_memory_for old new before tn w.terms_bytes RefusesTerms w.t f w.told w.has_terms w.terms_fit
+      (terms_taken w.terms_bytes w.agreements w.terms_read) w.finds_stood w.reads_stood h.failed)
   only_memory (fault.OfFeed find.Failed) h =
       absurd (w.finds_stood (rises_earlier old.find_faults (h.mid).find_faults new.find_faults (h.inputs).finds (h.missing).rose))
   only_memory (fault.OfFeed find.Memory) h = refl

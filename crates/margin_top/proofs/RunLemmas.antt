@@ -18,14 +18,13 @@ use Rattle.feed_gate.specs.declared.report.FeedReport.{FeedReport}
 use Rattle.feed_gate.specs.Sets.{AreApart, AreKept}
 use Rattle.margin_top.specs.declared.status.Status.{Status}
 use Rattle.margin_top.specs.declared.run_fault.RunFault.{RunFault}
-use Rattle.margin_top.specs.declared.run_fault.TermsFileFault.{TermsFileFault}
-use Rattle.margin_top.specs.declared.run_fault.TermsFileFault.TheVariants as terms
-use Rattle.margin_top.specs.Files.{no_deeds, with_reading, IsRead}
+use Rattle.margin_top.specs.declared.fault.ValueFault.{ValueFault}
+use Rattle.margin_top.specs.Files.{no_deeds, with_reading, IsRead, NoValue}
+use Rattle.margin_top.specs.Grammars.{RefusesTerms}
 use Rattle.margin_top.specs.Calc.{GotLine}
-use Rattle.margin_top.specs.Run.{start, HasInputs, IsFed, HasRun, NoTerms, FindEnds, FeedFails, RunCause, RunEnds, status_of_run, run_fault_text}
-use Rattle.margin_top.specs.RunStages.{TermsEnds}
+use Rattle.margin_top.specs.Run.{start, HasInputs, IsFed, HasRun, TermsFail, FindEnds, FeedFails, RunCause, RunEnds, status_of_run, run_fault_text}
 use Rattle.margin_top.proofs.FileLemmas.{did_ask, did_nothing, did_more}
-use Rattle.margin_top.proofs.CalcLemmas.{whole_before, failed_after}
+use Rattle.margin_top.proofs.CalcLemmas.{whole_before, no_value_after}
 
 -- a feed that wasn't found
 pub find_fails : (S : Type 0) (old new : FolderSeen) (name : List ℕ) (why : FindRefused) → new.told ≡ told_after_find {S = S} (Err why) name old.told → (why ≡ find.Failed → Rises old.find_faults new.find_faults) → FindEnds old new name why
@@ -48,30 +47,14 @@ inputs_read old mid new pn tn p agreements first second finds reads = record {
 }
 
 -- the parameters were read, and then the terms file gave nothing
-pub no_terms : (old mid new : FolderSeen) (pn tn : List ℕ) (p : Params) (f : TermsFileFault) → IsRead old mid no_deeds pn (λ bytes. params_of bytes ≡ Some p) → old.find_faults ≤ mid.find_faults → old.read_faults ≤ mid.read_faults → TermsEnds mid new tn (Err f) → NoTerms pn tn old new f
-no_terms old mid new pn tn p (terms.OfFile f) first finds reads h = record {
+pub no_terms : (old mid new : FolderSeen) (pn tn : List ℕ) (p : Params) (f : ValueFault) → IsRead old mid no_deeds pn (λ bytes. params_of bytes ≡ Some p) → old.find_faults ≤ mid.find_faults → old.read_faults ≤ mid.read_faults → NoValue mid new no_deeds tn RefusesTerms f → TermsFail pn tn old new f
+no_terms old mid new pn tn p f first finds reads h = record {
   param_bytes = first.bytes;
   param_faults = first.faults;
   p = p;
   params = record { whole = first.whole; values = first.so };
-  failed = failed_after old mid new pn first.bytes tn first.faults f first.did finds reads h;
+  failed = no_value_after old mid new pn first.bytes tn first.faults RefusesTerms f first.did finds reads h;
 }
-no_terms old mid new pn tn p (terms.Refused line) first finds reads h =
-    let second = h.read in record {
-      param_bytes = first.bytes;
-      param_faults = first.faults;
-      p = p;
-      params = record { whole = first.whole; values = first.so };
-      e = h.e;
-      read = record {
-        bytes = second.bytes;
-        faults = second.faults;
-        did = did_more old mid new pn first.bytes first.faults (with_reading no_deeds tn second.bytes second.faults) first.did second.did;
-        whole = whole_before old mid (with_reading no_deeds pn first.bytes first.faults) tn second.bytes first.did second.whole;
-        so = second.so;
-      };
-      line = h.line;
-    }
 
 -- ---- the sets
 

@@ -22,8 +22,9 @@ use Rattle.margin_top.specs.declared.fault.ValueFault.TheVariants as value
 use Rattle.margin_top.specs.declared.fault.CalcFault.{CalcFault}
 use Rattle.margin_top.specs.declared.fault.CalcFault.TheVariants as fault
 use Rattle.margin_text.specs.Margins.{margin_text}
-use Rattle.margin_top.specs.Lines.{params_fault, crif_fault, refused_fault, find_fault, read_fault, long_fault}
+use Rattle.margin_top.specs.Lines.{refused_fault, find_fault, read_fault, long_fault}
 use Rattle.margin_top.specs.Files.{no_deeds, with_reading, Did, IsWhole, NoValue}
+use Rattle.margin_top.specs.Grammars.{RefusesParams, RefusesTrades}
 
 -- the sink got the whole text
 abbrev pub Got : SinkSeen → SinkSeen → List ℕ → Type 0
@@ -72,7 +73,7 @@ pub record CrifFails (params_name crif_name : List ℕ) (old new : FolderSeen) (
   pub param_faults : ℕ
   pub p : Params
   pub params : HasParams old params_name param_bytes p
-  pub failed : NoValue old new (with_reading no_deeds params_name param_bytes param_faults) crif_name (λ bytes. crif_of bytes ≡ None) f
+  pub failed : NoValue old new (with_reading no_deeds params_name param_bytes param_faults) crif_name RefusesTrades f
 
 -- both files were read, and the book is out of range
 pub record IsOutOfRange (params_name crif_name : List ℕ) (old new : FolderSeen) : Type 0 where
@@ -90,7 +91,7 @@ pub record IsStarved (params_name crif_name : List ℕ) (old new : FolderSeen) :
 
 -- what happened at each fault of a calculation
 abbrev pub Cause : List ℕ → List ℕ → FolderSeen → FolderSeen → CalcFault → Type 0
-Cause params_name crif_name old new (fault.OfParams f) = NoValue old new no_deeds params_name (λ bytes. params_of bytes ≡ None) f
+Cause params_name crif_name old new (fault.OfParams f) = NoValue old new no_deeds params_name RefusesParams f
 Cause params_name crif_name old new (fault.OfCrif f) = CrifFails params_name crif_name old new f
 Cause params_name crif_name old new fault.OutOfRange = IsOutOfRange params_name crif_name old new
 Cause params_name crif_name old new fault.Memory = IsStarved params_name crif_name old new
@@ -108,7 +109,7 @@ status_of_file too_long file.Memory = status.Memory
 
 abbrev pub status_of_value : Status → ValueFault → Status
 status_of_value refused (value.OfFile f) = status_of_file refused f
-status_of_value refused value.Refused = refused
+status_of_value refused (value.Refused line) = refused
 
 -- the status of each fault
 abbrev pub status_of : CalcFault → Status
@@ -123,14 +124,14 @@ line_of_file name file.Unread = read_fault name
 line_of_file name file.Long = long_fault name
 line_of_file name file.Memory = []
 
-abbrev pub line_of_value : List ℕ → List ℕ → ValueFault → List ℕ
-line_of_value name refused (value.OfFile f) = line_of_file name f
-line_of_value name refused value.Refused = refused
+abbrev pub line_of_value : List ℕ → ValueFault → List ℕ
+line_of_value name (value.OfFile f) = line_of_file name f
+line_of_value name (value.Refused line) = line
 
 -- the one line that is printed at each fault; for want of memory none
 abbrev pub fault_text : List ℕ → List ℕ → CalcFault → List ℕ
-fault_text params_name crif_name (fault.OfParams f) = line_of_value params_name params_fault f
-fault_text params_name crif_name (fault.OfCrif f) = line_of_value crif_name crif_fault f
+fault_text params_name crif_name (fault.OfParams f) = line_of_value params_name f
+fault_text params_name crif_name (fault.OfCrif f) = line_of_value crif_name f
 fault_text params_name crif_name fault.OutOfRange = refused_fault
 fault_text params_name crif_name fault.Memory = []
 

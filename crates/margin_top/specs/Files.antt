@@ -1,5 +1,5 @@
 -- What a command does to a folder: the names that it asks for, and the readings of files that it adds.
-use Rattle.std.specs.Prelude.{ℕ, ◌≡◌, ◌+◌, ◌<◌, ◌≤◌, List, [], ◌∷◌, ◌++◌, length, Option, Some, None, IfSome, option_map, ◌⊎◌, Result, Ok, Err}
+use Rattle.std.specs.Prelude.{ℕ, ◌≡◌, ◌+◌, ◌<◌, ◌≤◌, List, [], ◌∷◌, ◌++◌, length, Some, IfSome, option_map, ◌⊎◌, Result, Ok, Err}
 use Rattle.mh_io.specs.Faults.{Rises}
 use Rattle.mh_io.specs.Folder.{Telling, Reading, FolderSeen, file_of}
 use Rattle.mh_io.specs.Limits.{most_bytes}
@@ -95,17 +95,17 @@ Failed old new before name fault.Unread = IsUnread old new before name
 Failed old new before name fault.Long = IsLong old new before name
 Failed old new before name fault.Memory = IsCutShort old new before name
 
--- why a file gave no value, where IsRefused says which bytes have none
-abbrev pub NoValue : FolderSeen → FolderSeen → Deeds → List ℕ → (List ℕ → Type 0) → ValueFault → Type 0
-NoValue old new before name IsRefused (value.OfFile f) = Failed old new before name f
-NoValue old new before name IsRefused value.Refused = IsRead old new before name IsRefused
+-- why a file gave no value, where Refuses says which bytes have none, and the line that tells why
+abbrev pub NoValue : FolderSeen → FolderSeen → Deeds → List ℕ → (List ℕ → List ℕ → Type 0) → ValueFault → Type 0
+NoValue old new before name Refuses (value.OfFile f) = Failed old new before name f
+NoValue old new before name Refuses (value.Refused line) = IsRead old new before name (λ bytes. Refuses bytes line)
 
 -- what reading a whole file does: its bytes, or why there are none
 abbrev pub FileEnds : FolderSeen → FolderSeen → List ℕ → Result (List ℕ) FileFault → Type 0
 FileEnds old new name (Ok bytes) = IsRead old new no_deeds name (λ read. read ≡ bytes)
 FileEnds old new name (Err f) = Failed old new no_deeds name f
 
--- what reading a file by its grammar does: its value, or why there is none
-abbrev pub ValueEnds : {A : Type 0} → (List ℕ → Option A) → FolderSeen → FolderSeen → List ℕ → Result A ValueFault → Type 0
-ValueEnds grammar old new name (Ok value) = IsRead old new no_deeds name (λ bytes. grammar bytes ≡ Some value)
-ValueEnds grammar old new name (Err f) = NoValue old new no_deeds name (λ bytes. grammar bytes ≡ None) f
+-- what reading a file by its grammar does: a value that its bytes have, or why there is none
+abbrev pub ValueEnds : {A : Type 0} → (List ℕ → A → Type 0) → (List ℕ → List ℕ → Type 0) → FolderSeen → FolderSeen → List ℕ → Result A ValueFault → Type 0
+ValueEnds Has Refuses old new name (Ok value) = IsRead old new no_deeds name (λ bytes. Has bytes value)
+ValueEnds Has Refuses old new name (Err f) = NoValue old new no_deeds name Refuses f

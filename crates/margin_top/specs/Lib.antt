@@ -3,6 +3,7 @@ pub mod WordsRead
 pub mod Lines
 pub mod Faults
 pub mod Files
+pub mod Grammars
 pub mod FaultLine
 pub mod Calc
 pub mod Complete

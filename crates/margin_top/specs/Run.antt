@@ -1,5 +1,5 @@
 -- What a run of a feed does: for each status what happened, and what was printed.
-use Rattle.std.specs.Prelude.{ℕ, ◌≡◌, ◌+◌, ◌<◌, ◌≤◌, List, [], ◌++◌, length, map, Bool, true, Some, None, IfSome, Ok, Err, ◌⊎◌}
+use Rattle.std.specs.Prelude.{ℕ, ◌≡◌, ◌+◌, ◌<◌, ◌≤◌, List, [], ◌++◌, length, map, Bool, true, Some, IfSome, Ok, ◌⊎◌}
 use Rattle.std.specs.List.{AllByRecursion, flat_map}
 use Rattle.mh_io.specs.Faults.{Rises}
 use Rattle.mh_io.specs.Sink.{SinkSeen}
@@ -8,8 +8,6 @@ use Rattle.mh_io.specs.Limits.{most_bytes}
 use Rattle.mh_io.specs.declared.folder.FindRefused.{FindRefused}
 use Rattle.mh_io.specs.declared.folder.FindRefused.TheVariants as find
 use Rattle.simm_rules.specs.Params.{Params}
-use Rattle.simm_params.specs.Grammar.{params_of}
-use Rattle.csa_terms.specs.declared.fault.TermsFault.{TermsFault}
 use Rattle.csa_terms.specs.Grammar.{terms_of}
 use Rattle.csa_terms.specs.Terms.{Agreement}
 use Rattle.set_core.specs.Set.{Set, IsSet}
@@ -19,17 +17,15 @@ use Rattle.feed_gate.specs.declared.report.FeedReport.{FeedReport}
 use Rattle.feed_gate.specs.Run.{RanOver}
 use Rattle.margin_text.specs.Journal.{journal_text}
 use Rattle.margin_text.specs.Feeds.{feed_text}
-use Rattle.margin_text.specs.TermsLine.{terms_fault}
 use Rattle.margin_top.specs.declared.status.Status.{Status}
 use Rattle.margin_top.specs.declared.status.Status.TheVariants as status
-use Rattle.margin_top.specs.declared.fault.FileFault.{FileFault}
-use Rattle.margin_top.specs.declared.run_fault.TermsFileFault.{TermsFileFault}
-use Rattle.margin_top.specs.declared.run_fault.TermsFileFault.TheVariants as terms
+use Rattle.margin_top.specs.declared.fault.ValueFault.{ValueFault}
 use Rattle.margin_top.specs.declared.run_fault.RunFault.{RunFault}
 use Rattle.margin_top.specs.declared.run_fault.RunFault.TheVariants as fault
-use Rattle.margin_top.specs.Lines.{params_fault, find_fault}
-use Rattle.margin_top.specs.Files.{no_deeds, with_reading, Did, IsWhole, IsRead, IsMissing, Failed, NoValue}
-use Rattle.margin_top.specs.Calc.{Got, GotFront, GotLine, HasParams, status_of_file, status_of_value, line_of_file, line_of_value}
+use Rattle.margin_top.specs.Lines.{find_fault}
+use Rattle.margin_top.specs.Files.{no_deeds, with_reading, Did, IsWhole, IsMissing, NoValue}
+use Rattle.margin_top.specs.Grammars.{RefusesParams, RefusesTerms}
+use Rattle.margin_top.specs.Calc.{Got, GotFront, GotLine, HasParams, status_of_value, line_of_value}
 
 -- the parameter file and then the terms file were read whole, with these values, and no count of faults fell
 pub record HasInputs (params_name terms_name : List ℕ) (old new : FolderSeen) (p : Params) (agreements : List Agreement) : Type 0 where
@@ -81,23 +77,13 @@ run_text sets r =
 
 -- ---- runs that didn't reach the feed
 
--- the parameters were read, and then the terms file wasn't read whole, or memory ran out for its terms
-pub record TermsFail (params_name terms_name : List ℕ) (old new : FolderSeen) (f : FileFault) : Type 0 where
+-- the parameters were read, and then the terms file gave no terms
+pub record TermsFail (params_name terms_name : List ℕ) (old new : FolderSeen) (f : ValueFault) : Type 0 where
   pub param_bytes : List ℕ
   pub param_faults : ℕ
   pub p : Params
   pub params : HasParams old params_name param_bytes p
-  pub failed : Failed old new (with_reading no_deeds params_name param_bytes param_faults) terms_name f
-
--- the parameters were read, and then the terms file was refused with this line
-pub record TermsRefuse (params_name terms_name : List ℕ) (old new : FolderSeen) (printed : List ℕ) : Type 0 where
-  pub param_bytes : List ℕ
-  pub param_faults : ℕ
-  pub p : Params
-  pub params : HasParams old params_name param_bytes p
-  pub e : TermsFault
-  pub read : IsRead old new (with_reading no_deeds params_name param_bytes param_faults) terms_name (λ bytes. terms_of bytes ≡ Err e)
-  pub line : printed ≡ terms_fault e
+  pub failed : NoValue old new (with_reading no_deeds params_name param_bytes param_faults) terms_name RefusesTerms f
 
 -- a name was asked for, and no source of it came
 abbrev pub FindEnds : FolderSeen → FolderSeen → List ℕ → FindRefused → Type 0
@@ -112,11 +98,6 @@ pub record FeedFails (params_name terms_name feed_name : List ℕ) (old new : Fo
   pub inputs : HasInputs params_name terms_name old mid p agreements
   pub missing : FindEnds mid new feed_name why
 
--- why the terms file gave no terms
-abbrev pub NoTerms : List ℕ → List ℕ → FolderSeen → FolderSeen → TermsFileFault → Type 0
-NoTerms params_name terms_name old new (terms.OfFile f) = TermsFail params_name terms_name old new f
-NoTerms params_name terms_name old new (terms.Refused line) = TermsRefuse params_name terms_name old new line
-
 -- both files were read, and then memory ran out
 pub record RunStarves (params_name terms_name : List ℕ) (old new : FolderSeen) : Type 0 where
   pub p : Params
@@ -125,8 +106,8 @@ pub record RunStarves (params_name terms_name : List ℕ) (old new : FolderSeen)
 
 -- what happened at each fault of a run
 abbrev pub RunCause : List ℕ → List ℕ → List ℕ → FolderSeen → FolderSeen → RunFault → Type 0
-RunCause params_name terms_name feed_name old new (fault.OfParams f) = NoValue old new no_deeds params_name (λ bytes. params_of bytes ≡ None) f
-RunCause params_name terms_name feed_name old new (fault.OfTerms f) = NoTerms params_name terms_name old new f
+RunCause params_name terms_name feed_name old new (fault.OfParams f) = NoValue old new no_deeds params_name RefusesParams f
+RunCause params_name terms_name feed_name old new (fault.OfTerms f) = TermsFail params_name terms_name old new f
 RunCause params_name terms_name feed_name old new (fault.OfFeed why) = FeedFails params_name terms_name feed_name old new why
 RunCause params_name terms_name feed_name old new fault.Memory = RunStarves params_name terms_name old new
 
@@ -135,13 +116,9 @@ abbrev pub status_of_find : FindRefused → Status
 status_of_find find.Failed = status.Find
 status_of_find find.Memory = status.Memory
 
-abbrev pub status_of_terms : TermsFileFault → Status
-status_of_terms (terms.OfFile f) = status_of_file status.Terms f
-status_of_terms (terms.Refused line) = status.Terms
-
 abbrev pub status_of_run : RunFault → Status
 status_of_run (fault.OfParams f) = status_of_value status.Params f
-status_of_run (fault.OfTerms f) = status_of_terms f
+status_of_run (fault.OfTerms f) = status_of_value status.Terms f
 status_of_run (fault.OfFeed why) = status_of_find why
 status_of_run fault.Memory = status.Memory
 
@@ -150,13 +127,9 @@ abbrev pub find_line : List ℕ → FindRefused → List ℕ
 find_line name find.Failed = find_fault name
 find_line name find.Memory = []
 
-abbrev pub line_of_terms : List ℕ → TermsFileFault → List ℕ
-line_of_terms name (terms.OfFile f) = line_of_file name f
-line_of_terms name (terms.Refused line) = line
-
 abbrev pub run_fault_text : List ℕ → List ℕ → List ℕ → RunFault → List ℕ
-run_fault_text params_name terms_name feed_name (fault.OfParams f) = line_of_value params_name params_fault f
-run_fault_text params_name terms_name feed_name (fault.OfTerms f) = line_of_terms terms_name f
+run_fault_text params_name terms_name feed_name (fault.OfParams f) = line_of_value params_name f
+run_fault_text params_name terms_name feed_name (fault.OfTerms f) = line_of_value terms_name f
 run_fault_text params_name terms_name feed_name (fault.OfFeed why) = find_line feed_name why
 run_fault_text params_name terms_name feed_name fault.Memory = []
 

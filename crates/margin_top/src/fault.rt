@@ -1,9 +1,9 @@
 //! Why files gave nothing, and a calculation no margin.
 use crate::fault_line::FaultLine;
 use crate::status::Status;
-use crif_reader::CrifFault;
 use mh_io::{FindRefused, ReadAllFault};
-use simm_params::ParamFault;
+use mh_units::Text;
+use std::alloc::AllocError;
 
 /// Why a file wasn't read whole.
 #[derive(Clone, Copy, Debug, PartialEq, Eq)]
@@ -67,12 +67,12 @@ impl FileFault {
 }
 
 /// Why a file gave no value.
-#[derive(Clone, Copy, Debug, PartialEq, Eq)]
+#[derive(Debug, Drop)]
 pub enum ValueFault {
     /// It wasn't read whole, or memory ran out for its value.
     OfFile(FileFault),
-    /// Its grammar refuses it.
-    Refused,
+    /// Its grammar refuses it, with the line that tells its first fault.
+    Refused(Text),
 }
 
 impl From<FileFault> for ValueFault {
@@ -86,69 +86,38 @@ impl From<FileFault> for ValueFault {
     }
 }
 
-impl From<ParamFault> for ValueFault {
+impl From<AllocError> for ValueFault {
     ghost use Rattle.std.specs.Prelude.{◌≡◌};
-    ghost use Rattle.margin_top.specs.Faults.{fault_of_params};
+    ghost use Rattle.margin_top.specs.declared.fault.FileFault.TheVariants.{Memory};
+    ghost use Rattle.margin_top.specs.declared.fault.ValueFault.TheVariants.{OfFile};
 
-    ghost from_gives = { λ refused fault. fault ≡ fault_of_params refused };
+    ghost from_gives = { λ _ value. value ≡ OfFile Memory };
 
-    fn from(refused: ParamFault) -> ValueFault {
-        match refused {
-            ParamFault::Memory => ValueFault::OfFile(FileFault::Memory),
-            _ => ValueFault::Refused,
-        }
-    }
-}
-
-impl From<CrifFault> for ValueFault {
-    ghost use Rattle.std.specs.Prelude.{◌≡◌};
-    ghost use Rattle.margin_top.specs.Faults.{fault_of_crif};
-
-    ghost from_gives = { λ refused fault. fault ≡ fault_of_crif refused };
-
-    fn from(refused: CrifFault) -> ValueFault {
-        match refused {
-            CrifFault::Refused => ValueFault::Refused,
-            CrifFault::Memory => ValueFault::OfFile(FileFault::Memory),
-        }
+    fn from(_error: AllocError) -> ValueFault {
+        ValueFault::OfFile(FileFault::Memory)
     }
 }
 
 impl ValueFault {
     ghost use Rattle.std.specs.Prelude.{◌≡◌};
     ghost use Rattle.margin_top.specs.FaultLine.{line_text};
-    ghost use Rattle.margin_top.specs.Lines.{params_fault};
     ghost use Rattle.margin_top.specs.Calc.{status_of_value, line_of_value};
-    ghost use Rattle.margin_top.specs.declared.status.Status.TheVariants as statuses;
 
-    /// The status and the line of the fault of the file of this name, where `status` is that of one too long or refused,
-    /// and `refused` the line of one refused.
-    pub(crate) fn ending<'a>(
-        self,
-        name: &'a str,
-        refused: &'a [u8],
-        status: Status,
-    ) -> (Status, FaultLine<'a>)
-        ensures status { result.0 ≡ status_of_value status self }
-        ensures line { line_text result.1 ≡ line_of_value name.now refused.now self }
+    /// The status and the line of the fault of the file of this name, where `refused` is the status of one too long or
+    /// refused.
+    pub(crate) fn ending<'a>(&'a self, name: &'a str, refused: Status) -> (Status, FaultLine<'a>)
+        ensures status { result.0 ≡ status_of_value refused self.now }
+        ensures line { line_text result.1 ≡ line_of_value name.now self.now }
     {
         match self {
-            ValueFault::OfFile(fault) => fault.ending(name, status),
-            ValueFault::Refused => (status, FaultLine::Whole(refused)),
+            ValueFault::OfFile(fault) => fault.ending(name, refused),
+            ValueFault::Refused(line) => (refused, FaultLine::Whole(line.as_slice())),
         }
-    }
-
-    /// The status and the line of the fault of the parameter file of this name.
-    pub(crate) fn params_ending<'a>(self, name: &'a str) -> (Status, FaultLine<'a>)
-        ensures status { result.0 ≡ status_of_value statuses.Params self }
-        ensures line { line_text result.1 ≡ line_of_value name.now params_fault self }
-    {
-        self.ending(name, b"FAULT\tPARAMS\n", Status::Params)
     }
 }
 
 /// Why a calculation gave no margin.
-#[derive(Clone, Copy, Debug, PartialEq, Eq)]
+#[derive(Debug, Drop)]
 pub enum CalcFault {
     /// The parameter file gave no parameters.
     OfParams(ValueFault),
@@ -166,13 +135,13 @@ impl CalcFault {
     ghost use Rattle.margin_top.specs.Calc.{status_of, fault_text};
 
     /// The status and the line of the fault.
-    pub(crate) fn ending<'a>(self, params: &'a str, crif: &'a str) -> (Status, FaultLine<'a>)
-        ensures status { result.0 ≡ status_of self }
-        ensures line { line_text result.1 ≡ fault_text params.now crif.now self }
+    pub(crate) fn ending<'a>(&'a self, params: &'a str, crif: &'a str) -> (Status, FaultLine<'a>)
+        ensures status { result.0 ≡ status_of self.now }
+        ensures line { line_text result.1 ≡ fault_text params.now crif.now self.now }
     {
         match self {
-            CalcFault::OfParams(fault) => fault.params_ending(params),
-            CalcFault::OfCrif(fault) => fault.ending(crif, b"FAULT\tCRIF\n", Status::Terms),
+            CalcFault::OfParams(fault) => fault.ending(params, Status::Params),
+            CalcFault::OfCrif(fault) => fault.ending(crif, Status::Terms),
             CalcFault::OutOfRange => (Status::Terms, FaultLine::Whole(b"FAULT\tREFUSED\n")),
             CalcFault::Memory => (Status::Memory, FaultLine::Whole(b"")),
         }

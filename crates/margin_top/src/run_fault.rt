@@ -3,27 +3,6 @@ use crate::fault::{FileFault, ValueFault};
 use crate::fault_line::FaultLine;
 use crate::status::Status;
 use mh_io::FindRefused;
-use mh_units::Text;
-
-/// Why a terms file gave no terms.
-#[derive(Debug, Drop)]
-pub enum TermsFileFault {
-    /// It wasn't read whole, or memory ran out for its terms.
-    OfFile(FileFault),
-    /// Its grammar refuses it, with the line that tells its first fault.
-    Refused(Text),
-}
-
-impl From<FileFault> for TermsFileFault {
-    ghost use Rattle.std.specs.Prelude.{◌≡◌};
-    ghost use Rattle.margin_top.specs.declared.run_fault.TermsFileFault.TheVariants.{OfFile};
-
-    ghost from_gives = { λ fault terms. terms ≡ OfFile fault };
-
-    fn from(fault: FileFault) -> TermsFileFault {
-        TermsFileFault::OfFile(fault)
-    }
-}
 
 /// Why a run did not reach its feed.
 #[derive(Debug, Drop)]
@@ -31,7 +10,7 @@ pub enum RunFault {
     /// The parameter file gave no parameters.
     OfParams(ValueFault),
     /// The terms file gave no terms.
-    OfTerms(TermsFileFault),
+    OfTerms(ValueFault),
     /// The feed isn't there or can't be opened, or memory ran out as it was asked for.
     OfFeed(FindRefused),
     /// Memory ran out after the two files were read.
@@ -54,11 +33,8 @@ impl RunFault {
         ensures line { line_text result.1 ≡ run_fault_text params.now terms.now feed.now self.now }
     {
         match self {
-            RunFault::OfParams(fault) => fault.params_ending(params),
-            RunFault::OfTerms(TermsFileFault::OfFile(fault)) => fault.ending(terms, Status::Terms),
-            RunFault::OfTerms(TermsFileFault::Refused(line)) => {
-                (Status::Terms, FaultLine::Whole(line.as_slice()))
-            }
+            RunFault::OfParams(fault) => fault.ending(params, Status::Params),
+            RunFault::OfTerms(fault) => fault.ending(terms, Status::Terms),
             RunFault::OfFeed(refused) => FileFault::from(*refused).ending(feed, Status::Feed),
             RunFault::Memory => (Status::Memory, FaultLine::Whole(b"")),
         }

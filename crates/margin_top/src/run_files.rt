@@ -1,18 +1,14 @@
 //! The files of a run: parameters, terms, and the feed run on its sets.
 ghost use Rattle.std.specs.Prelude.{◌≡◌, map, IfOk, OnOk};
-ghost use Rattle.csa_terms.specs.Grammar.{terms_of};
 ghost use Rattle.feed_gate.specs.Sets.{AreApart, AreKept};
 ghost use Rattle.margin_top.specs.Files.{KeepsCounts};
 ghost use Rattle.margin_top.specs.Run.{start};
-ghost use Rattle.margin_top.specs.RunStages.{TermsEnds, FeedEnds, RunFilesEnd, IsTermsFault};
+ghost use Rattle.margin_top.specs.RunStages.{FeedEnds, RunFilesEnd};
 
-use crate::fault::FileFault;
-use crate::file::read_file;
-use crate::run_fault::{RunFault, TermsFileFault};
-use crate::value_files::read_param_file;
-use csa_terms::{Terms, TermsFault, read_terms};
+use crate::run_fault::RunFault;
+use crate::value_files::{read_param_file, read_terms_file};
+use csa_terms::Terms;
 use feed_gate::{FeedReport, run_feed};
-use margin_text::terms_line;
 use mh_io::{FindRefused, Folder};
 use set_core::SetState;
 use simm_params::Params;
@@ -24,32 +20,6 @@ pub(crate) struct Outcome {
     pub terms: Terms,
     pub sets: Vec<SetState>,
     pub report: FeedReport,
-}
-
-/// Reads the terms file of this name.
-fn read_terms_file<F: Folder>(
-    alloc: Global,
-    folder: &mut F,
-    name: &str,
-) -> Result<Terms, TermsFileFault>
-    ensures counts { KeepsCounts (F.seen folder.old) (F.seen folder.new) }
-    ensures ends { TermsEnds (F.seen folder.old) (F.seen folder.new) name.now result }
-{
-    let bytes = read_file(alloc, folder, name)?;
-    match read_terms(alloc, bytes.as_slice()) {
-        Ok(terms) => Ok(terms),
-        Err(fault) => Err(refused_terms(alloc, &fault)),
-    }
-}
-
-/// The fault of a file that gave no terms.
-fn refused_terms(alloc: Global, fault: &TermsFault) -> TermsFileFault
-    ensures { IsTermsFault fault.now result }
-{
-    match terms_line(alloc, fault) {
-        Ok(line) => TermsFileFault::Refused(line),
-        Err(_) => TermsFileFault::OfFile(FileFault::Memory),
-    }
 }
 
 /// A set for each of the terms, without calls.

@@ -1,12 +1,14 @@
 //! Files read whole by their grammars.
-ghost use Rattle.simm_params.specs.Grammar.{params_of};
-ghost use Rattle.crif_reader.specs.Grammar.{crif_of};
 ghost use Rattle.margin_top.specs.Files.{KeepsCounts, ValueEnds};
+ghost use Rattle.margin_top.specs.Grammars.{GivesParams, RefusesParams, GivesTrades, RefusesTrades, GivesTerms, RefusesTerms};
 
-use crate::fault::ValueFault;
+use crate::fault::{FileFault, ValueFault};
 use crate::file::read_file;
-use crif_reader::read_batch;
+use crif_reader::{CrifFault, read_batch};
+use csa_terms::{Terms, read_terms};
+use margin_text::{params_line, terms_line};
 use mh_io::Folder;
+use mh_units::Text;
 use simm_kinds::Batch;
 use simm_params::{Params, read_params};
 use std::alloc::Global;
@@ -18,10 +20,13 @@ pub(crate) fn read_param_file<F: Folder>(
     name: &str,
 ) -> Result<Params, ValueFault>
     ensures counts { KeepsCounts (F.seen folder.old) (F.seen folder.new) }
-    ensures ends { ValueEnds params_of (F.seen folder.old) (F.seen folder.new) name.now result }
+    ensures ends { ValueEnds GivesParams RefusesParams (F.seen folder.old) (F.seen folder.new) name.now result }
 {
     let bytes = read_file(alloc, folder, name)?;
-    Ok(read_params(alloc, bytes.as_slice())?)
+    match read_params(alloc, bytes.as_slice()) {
+        Ok(params) => Ok(params),
+        Err(fault) => Err(ValueFault::Refused(params_line(alloc, &fault)?)),
+    }
 }
 
 /// Reads the CRIF file of this name.
@@ -31,8 +36,30 @@ pub(crate) fn read_crif_file<F: Folder>(
     name: &str,
 ) -> Result<Batch, ValueFault>
     ensures counts { KeepsCounts (F.seen folder.old) (F.seen folder.new) }
-    ensures ends { ValueEnds crif_of (F.seen folder.old) (F.seen folder.new) name.now result }
+    ensures ends { ValueEnds GivesTrades RefusesTrades (F.seen folder.old) (F.seen folder.new) name.now result }
 {
     let bytes = read_file(alloc, folder, name)?;
-    Ok(read_batch(alloc, bytes.as_slice())?)
+    match read_batch(alloc, bytes.as_slice()) {
+        Ok(batch) => Ok(batch),
+        Err(CrifFault::Refused) => {
+            Err(ValueFault::Refused(Text::from_slice(alloc, b"FAULT\tCRIF\n")?))
+        }
+        Err(CrifFault::Memory) => Err(ValueFault::OfFile(FileFault::Memory)),
+    }
+}
+
+/// Reads the terms file of this name.
+pub(crate) fn read_terms_file<F: Folder>(
+    alloc: Global,
+    folder: &mut F,
+    name: &str,
+) -> Result<Terms, ValueFault>
+    ensures counts { KeepsCounts (F.seen folder.old) (F.seen folder.new) }
+    ensures ends { ValueEnds GivesTerms RefusesTerms (F.seen folder.old) (F.seen folder.new) name.now result }
+{
+    let bytes = read_file(alloc, folder, name)?;
+    match read_terms(alloc, bytes.as_slice()) {
+        Ok(terms) => Ok(terms),
+        Err(fault) => Err(ValueFault::Refused(terms_line(alloc, &fault)?)),
+    }
 }
