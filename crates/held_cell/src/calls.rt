@@ -7,14 +7,15 @@ use crate::cell::HeldCell;
 use crate::machine::{Halt, Machine, Outcome, TryOutcome};
 use crate::seat::Seat;
 use std::sync::Wait;
+use std::sync::atomic::Ordering;
 use std::thread;
 use std::time::Duration;
 
 // How often a call that finds its cell taken yields before it sleeps.
 const YIELDS: u32 = 16;
 
-// How long it then sleeps at most, in microseconds.
-const SLEEP: u64 = 200;
+// How long it then sleeps, in milliseconds, if nobody wakes it.
+const SLEEP: u64 = 10;
 
 // What is left of a word for a sleep on it.
 const LOW_BITS: u64 = 0xffff_ffff;
@@ -66,6 +67,7 @@ impl<M: Machine> HeldCell<M> {
             };
         }
         let (answer, entries) = self.work(&mut seat.pass, seat.first, event);
+        self.wake_sleeper();
         seat.seen_len = entries;
         TryOutcome::Did(outcome(answer, entries))
     }
@@ -102,15 +104,25 @@ impl<M: Machine> HeldCell<M> {
         unreachable!()
     }
 
-    // Lets other threads run, and after some tries sleeps while the word is as it was found.
+    // Wakes a caller that sleeps, if there is one. A caller that goes to sleep counts itself first, and this reads the count
+    // after the machine went home: so it sees the caller, or the caller sees that the word has changed.
+    fn wake_sleeper(&self) {
+        if self.sleepers.load(Ordering::SeqCst) > 0 {
+            self.table.shared.wake_one(0);
+        }
+    }
+
+    // Lets other threads run, and after some tries sleeps while the word is as it was found, until it is woken.
     fn back_off(&self, rt: &impl Wait, found: u64, tries: u32) {
         if found % 2 == 0 || tries < YIELDS {
             thread::yield_now();
         } else {
             let low = (found & LOW_BITS) as u32;
+            self.sleepers.fetch_add(1, Ordering::SeqCst);
             self.table
                 .shared
-                .park_timeout(rt, 0, low, Duration::from_micros(SLEEP));
+                .park_timeout(rt, 0, low, Duration::from_millis(SLEEP));
+            self.sleepers.fetch_sub(1, Ordering::SeqCst);
         }
     }
 }

@@ -8,6 +8,7 @@ use atomic_table::{Refused, Table, TableRule};
 use std::alloc::{AllocError, Global};
 use std::marker::{Model, PhantomData};
 use std::snapshot::Snapshot;
+use std::sync::atomic::AtomicU64;
 
 // What the table is told as it is made.
 #[derive(Drop)]
@@ -44,6 +45,8 @@ pub struct HeldCell<M: Machine> {
         OneHistory<M>,
         Global,
     >,
+    // How many callers sleep until the word changes.
+    pub(crate) sleepers: AtomicU64,
 }
 
 impl<M: Machine> Model for HeldCell<M> {
@@ -81,7 +84,10 @@ impl<M: Machine> HeldCell<M> {
         slots.push_reserved(Some(machine));
         match Table::new(alloc, &[0], slots, &start) {
             Ok((table, pass)) => Ok((
-                HeldCell { table },
+                HeldCell {
+                    table,
+                    sleepers: AtomicU64::new(0),
+                },
                 Seat {
                     first: 0,
                     count: callers,
@@ -103,7 +109,7 @@ impl<M: Machine> HeldCell<M> {
         ensures own { HasOwn seat × (seat.own ≡ seat.seen) }
         ensures legal { M.is_legal self.base seat.seen }
     {
-        let HeldCell { table } = self;
+        let HeldCell { table, sleepers: _ } = self;
         let Seat {
             first: _,
             count: _,
