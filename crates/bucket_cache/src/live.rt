@@ -100,8 +100,8 @@ impl LiveMargin {
     /// the only error.
     pub fn margin(&mut self, alloc: Global) -> Result<Breakdown, AllocError>
         ensures value { IfOk result (λ b. b ≡ simm self.old.params (rows_of self.old.book)) }
-        ensures total_from { IfOk result (λ b. pos 0 ≤ℤ b.total) }
-        ensures total_below { IfOk result (λ b. b.total <ℤ pos (10 ^ 21)) }
+        ensures total_from { IfOk result (λ b. pos 0 ≤ℤ b.total.0) }
+        ensures total_below { IfOk result (λ b. b.total.0 <ℤ pos (10 ^ 21)) }
         ensures unchanged { self.new ≡ self.old }
     {
         let lent = lend_current(alloc, &self.trades, 0)?;

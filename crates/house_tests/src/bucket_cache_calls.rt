@@ -23,7 +23,7 @@ fn withdraw(
 }
 
 fn total(rt: &(impl Abort + AllocGlobal), live: &mut LiveMargin) -> i128 {
-    live.margin(rt.alloc()).ok().expect(rt, "memory").total
+    live.margin(rt.alloc()).ok().expect(rt, "memory").total.0
 }
 
 fn is_at(live: &LiveMargin, place: u32, text: &str) -> bool {

@@ -1,10 +1,10 @@
 use crate::makers::{params, set_terms};
 use feed_gate::{FeedEnd, FeedReport, RefusedMessage};
 use margin_text::{journal_text, margin_lines, push_report};
-use mh_units::Text;
+use mh_units::{Cents, Text};
 use set_core::{Event, SetState};
 use simm_kinds::Listed;
-use simm_rules::Breakdown;
+use simm_rules::{Breakdown, ClassMargins, ProductMargin};
 use std::process::Abort;
 
 /// The journal of ALPHA after one question by this caller.
@@ -102,25 +102,41 @@ fn each_refused_message_is_printed(rt: HostRuntime) {
     }
 }
 
-const NO_MARGIN: Breakdown = Breakdown {
-    classes: [0; 24],
-    products: [0; 4],
-    fixed: 0,
-    notional: 0,
-    multiplier: 0,
-    total: 0,
+const NO_CLASSES: ClassMargins = ClassMargins {
+    ir: Cents(0),
+    credit_q: Cents(0),
+    credit_nonq: Cents(0),
+    equity: Cents(0),
+    commodity: Cents(0),
+    fx: Cents(0),
 };
 
-/// Margins with their lines. Classes stand by product, six for each.
+const NO_PART: ProductMargin = ProductMargin {
+    margin: Cents(0),
+    classes: NO_CLASSES,
+};
+
+const NO_MARGIN: Breakdown = Breakdown {
+    rates_fx: NO_PART,
+    credit: NO_PART,
+    equity: NO_PART,
+    commodity: NO_PART,
+    fixed: Cents(0),
+    notional: Cents(0),
+    multiplier: Cents(0),
+    total: Cents(0),
+};
+
+/// Margins with their lines.
 const MARGINS: [(Breakdown, &str); 4] = [
     (NO_MARGIN, "MARGIN\t0.00\n"),
     // Add-ons without sensitivities.
     (
         Breakdown {
-            fixed: 10_000,
-            notional: 5,
-            multiplier: 123_456_789,
-            total: 123_466_794,
+            fixed: Cents(10_000),
+            notional: Cents(5),
+            multiplier: Cents(123_456_789),
+            total: Cents(123_466_794),
             ..NO_MARGIN
         },
         "MARGIN\t1234667.94\nFIXED\t100.00\nNOTIONAL\t0.05\nMULTIPLIER\t1234567.89\n",
@@ -128,13 +144,24 @@ const MARGINS: [(Breakdown, &str); 4] = [
     // Two product classes that are not neighbours, each with some of its classes, and the add-on in the middle.
     (
         Breakdown {
-            classes: [
-                120_000, 0, 0, 0, 0, 740_000, 0, 0, 0, 0, 0, 0, 0, 0, 0, 30_000, 0, 40_000, 0, 0,
-                0, 0, 0, 0,
-            ],
-            products: [800_000, 0, 50_000, 0],
-            notional: 1_250,
-            total: 851_250,
+            rates_fx: ProductMargin {
+                margin: Cents(800_000),
+                classes: ClassMargins {
+                    ir: Cents(120_000),
+                    fx: Cents(740_000),
+                    ..NO_CLASSES
+                },
+            },
+            equity: ProductMargin {
+                margin: Cents(50_000),
+                classes: ClassMargins {
+                    equity: Cents(30_000),
+                    fx: Cents(40_000),
+                    ..NO_CLASSES
+                },
+            },
+            notional: Cents(1_250),
+            total: Cents(851_250),
             ..NO_MARGIN
         },
         "MARGIN\t8512.50\n\
@@ -145,15 +172,54 @@ NOTIONAL\t12.50\n",
     // All product classes, all risk classes and all add-ons, each amount once.
     (
         Breakdown {
-            classes: [
-                1, 2, 3, 4, 5, 6, 11, 12, 13, 14, 15, 16, 21, 22, 23, 24, 25, 26, 31, 32, 33, 34,
-                35, 36,
-            ],
-            products: [107, 117, 127, 137],
-            fixed: 208,
-            notional: 209,
-            multiplier: 210,
-            total: 1_115,
+            rates_fx: ProductMargin {
+                margin: Cents(107),
+                classes: ClassMargins {
+                    ir: Cents(1),
+                    credit_q: Cents(2),
+                    credit_nonq: Cents(3),
+                    equity: Cents(4),
+                    commodity: Cents(5),
+                    fx: Cents(6),
+                },
+            },
+            credit: ProductMargin {
+                margin: Cents(117),
+                classes: ClassMargins {
+                    ir: Cents(11),
+                    credit_q: Cents(12),
+                    credit_nonq: Cents(13),
+                    equity: Cents(14),
+                    commodity: Cents(15),
+                    fx: Cents(16),
+                },
+            },
+            equity: ProductMargin {
+                margin: Cents(127),
+                classes: ClassMargins {
+                    ir: Cents(21),
+                    credit_q: Cents(22),
+                    credit_nonq: Cents(23),
+                    equity: Cents(24),
+                    commodity: Cents(25),
+                    fx: Cents(26),
+                },
+            },
+            commodity: ProductMargin {
+                margin: Cents(137),
+                classes: ClassMargins {
+                    ir: Cents(31),
+                    credit_q: Cents(32),
+                    credit_nonq: Cents(33),
+                    equity: Cents(34),
+                    commodity: Cents(35),
+                    fx: Cents(36),
+                },
+            },
+            fixed: Cents(208),
+            notional: Cents(209),
+            multiplier: Cents(210),
+            total: Cents(1_115),
         },
         "MARGIN\t11.15\n\
 PRODUCT\tRatesFX\t1.07\nCLASS\tRatesFX\tIR\t0.01\nCLASS\tRatesFX\tCreditQ\t0.02\nCLASS\tRatesFX\tCreditNonQ\t0.03\n\

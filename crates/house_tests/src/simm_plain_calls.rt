@@ -34,7 +34,7 @@ fn margin_of_lent(
 {
     match range_fault(alloc, params, lent)? {
         Some(fault) => Ok(Err(fault)),
-        None => Ok(Ok(margin_in_range(alloc, params, lent)?.total)),
+        None => Ok(Ok(margin_in_range(alloc, params, lent)?.total.0)),
     }
 }
 

@@ -1,12 +1,14 @@
-ghost use Rattle.std.specs.Prelude.{◌≡◌, ◌++◌, OnOk, IfOk, length};
+ghost use Rattle.std.specs.Prelude.{◌≡◌, ◌++◌, OnOk, IfOk};
+ghost use Rattle.std.specs.List.{flat_map};
+ghost use Rattle.simm_rules.specs.Parts.{product_part};
 ghost use Rattle.simm_rules.specs.Simm.{products, classes};
 ghost use Rattle.margin_text.specs.Fields.{field, amount_line};
-ghost use Rattle.margin_text.specs.Margins.{class_fields, class_lines, product_lines, all_product_lines, part_lines, margin_text};
+ghost use Rattle.margin_text.specs.Margins.{class_line, product_lines, part_lines, margin_text};
 
 use crate::pieces::{push_field, push_last_amount};
 use mh_units::Text;
 use simm_kinds::{ProductClass, RiskClass};
-use simm_rules::Breakdown;
+use simm_rules::{Breakdown, ProductMargin};
 use std::alloc::{AllocError, Global};
 
 /// Adds the line of an add-on, where it isn't 0.
@@ -25,10 +27,11 @@ fn push_class(
     text: &mut Text,
     product: ProductClass,
     class: RiskClass,
-    cents: i128,
+    part: &ProductMargin,
 ) -> Result<(), AllocError>
-    ensures { OnOk result (text.new ≡ text.old ++ amount_line (class_fields product class) cents) }
+    ensures { OnOk result (text.new ≡ text.old ++ class_line product part.now class) }
 {
+    let cents = part.class(class).0;
     if cents == 0 {
         return Ok(());
     }
@@ -39,12 +42,15 @@ fn push_class(
 }
 
 /// Adds the lines of a product's classes.
-fn push_classes(text: &mut Text, product: ProductClass, margins: &[i128]) -> Result<(), AllocError>
-    requires { length margins.now ≡ 6 }
-    ensures { OnOk result (text.new ≡ text.old ++ class_lines product classes margins.now) }
+fn push_classes(
+    text: &mut Text,
+    product: ProductClass,
+    part: &ProductMargin,
+) -> Result<(), AllocError>
+    ensures { OnOk result (text.new ≡ text.old ++ flat_map (class_line product part.now) classes) }
 {
-    for (i, class) in RiskClass::ALL.iter().enumerate() {
-        push_class(text, product, *class, margins[i])?;
+    for class in &RiskClass::ALL {
+        push_class(text, product, *class, part)?;
     }
     Ok(())
 }
@@ -53,32 +59,25 @@ fn push_classes(text: &mut Text, product: ProductClass, margins: &[i128]) -> Res
 fn push_product(
     text: &mut Text,
     product: ProductClass,
-    cents: i128,
-    margins: &[i128],
+    part: &ProductMargin,
 ) -> Result<(), AllocError>
-    requires { length margins.now ≡ 6 }
-    ensures { OnOk result (text.new ≡ text.old ++ product_lines product cents margins.now) }
+    ensures { OnOk result (text.new ≡ text.old ++ product_lines product part.now) }
 {
-    if cents == 0 {
+    if part.margin.0 == 0 {
         return Ok(());
     }
     push_field(text, b"PRODUCT")?;
     push_field(text, product.word().as_bytes())?;
-    push_last_amount(text, cents)?;
-    push_classes(text, product, margins)
+    push_last_amount(text, part.margin.0)?;
+    push_classes(text, product, part)
 }
 
 /// Adds the lines of all products.
 fn push_products(text: &mut Text, margin: &Breakdown) -> Result<(), AllocError>
-    ensures { OnOk result (text.new ≡ text.old ++ all_product_lines products margin.now.products margin.now.classes) }
+    ensures { OnOk result (text.new ≡ text.old ++ flat_map (λ product. product_lines product (product_part margin.now product)) products) }
 {
-    for (i, product) in ProductClass::ALL.iter().enumerate() {
-        push_product(
-            text,
-            *product,
-            margin.products[i],
-            &margin.classes[6 * i..6 * i + 6],
-        )?;
+    for product in &ProductClass::ALL {
+        push_product(text, *product, margin.product(*product))?;
     }
     Ok(())
 }
@@ -89,9 +88,9 @@ pub(crate) fn push_parts(text: &mut Text, margin: &Breakdown) -> Result<(), Allo
     ensures { OnOk result (text.new ≡ text.old ++ part_lines margin.now) }
 {
     push_products(text, margin)?;
-    push_add_on(text, b"FIXED", margin.fixed)?;
-    push_add_on(text, b"NOTIONAL", margin.notional)?;
-    push_add_on(text, b"MULTIPLIER", margin.multiplier)?;
+    push_add_on(text, b"FIXED", margin.fixed.0)?;
+    push_add_on(text, b"NOTIONAL", margin.notional.0)?;
+    push_add_on(text, b"MULTIPLIER", margin.multiplier.0)?;
     Ok(())
 }
 
@@ -106,7 +105,7 @@ pub fn margin_lines(alloc: Global, margin: &Breakdown) -> Result<Text, AllocErro
 {
     let mut text = Text::new(alloc);
     push_field(&mut text, b"MARGIN")?;
-    push_last_amount(&mut text, margin.total)?;
+    push_last_amount(&mut text, margin.total.0)?;
     push_parts(&mut text, margin)?;
     Ok(text)
 }

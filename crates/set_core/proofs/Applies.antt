@@ -86,7 +86,7 @@ answer_is p t log (event.MarkLot lot value) d is =
     ∙ mark_answer (is_there log lot) (is_lot_value value) value
 answer_is p t log (event.CloseCall number) d is = close_answer (is_outstanding log number)
 answer_is p t log event.AskMargin d is = refl
-answer_is p t log (event.AskCall moment) d is = ap (λ booked. if_calling_day t (made log) (simm p (rows_of (book log))).total booked moment) (booked_is t log)
+answer_is p t log (event.AskCall moment) d is = ap (λ booked. if_calling_day t (made log) (simm p (rows_of (book log))).total.0 booked moment) (booked_is t log)
 
 -- a lot that is put is new
 put_new : (there : Bool) (rest : Reply) → is_accepted (cond there (reply.Refused refusal.LotKnown) rest) ≡ true → there ≡ false

@@ -23,7 +23,7 @@ is_found true due day h = (refl, ap (λ found. unwrap_or found due) h)
 is_found false due day h = absurd (true≢false (ap is_some h))
 
 pub demand_does : (l new : Live) (h has : Holdings) (moment : Moment) (due margin booked : ℤ) → new ≡ l
-    → is_calling_day moment.day ≡ true → due ≡ due_day moment h.terms → margin ≡ (simm l.params (rows_of l.book)).total → booked ≡ booked_of h
+    → is_calling_day moment.day ≡ true → due ≡ due_day moment h.terms → margin ≡ (simm l.params (rows_of l.book)).total.0 → booked ≡ booked_of h
     → (result : Result Reply AllocError) → IfOk result (λ r. r ≡ noted h.added due margin booked (called_for margin booked h.terms)) → IfOk result (λ r. has ≡ with_call h r)
     → IfOk result (λ r. Does l new h has (event.AskCall moment) r)
 demand_does l new h has moment due margin booked same calling due_is margin_is booked_is (Err _) value after = tt
@@ -31,8 +31,8 @@ demand_does l new h has moment due margin booked same calling due_is margin_is b
   value = value
       ∙ ap (λ d. noted h.added d margin booked (called_for margin booked h.terms)) due_is
       ∙ ap (λ m. noted h.added (due_day moment h.terms) m booked (called_for m booked h.terms)) margin_is
-      ∙ ap (λ b. noted h.added (due_day moment h.terms) (simm l.params (rows_of l.book)).total b (called_for (simm l.params (rows_of l.book)).total b h.terms)) booked_is
-      ∙ ap (λ c. cond c (noted h.added (due_day moment h.terms) (simm l.params (rows_of l.book)).total (booked_of h) (called_for (simm l.params (rows_of l.book)).total (booked_of h) h.terms)) (reply.Refused (refusal.DayRange moment.day))) (sym calling);
+      ∙ ap (λ b. noted h.added (due_day moment h.terms) (simm l.params (rows_of l.book)).total.0 b (called_for (simm l.params (rows_of l.book)).total.0 b h.terms)) booked_is
+      ∙ ap (λ c. cond c (noted h.added (due_day moment h.terms) (simm l.params (rows_of l.book)).total.0 (booked_of h) (called_for (simm l.params (rows_of l.book)).total.0 (booked_of h) h.terms)) (reply.Refused (refusal.DayRange moment.day))) (sym calling);
   live = same;
   ledger = after;
 }

@@ -105,7 +105,7 @@ answer p t log (event.MarkLot lot value) = if_marked (is_there log lot) value
 answer p t log (event.CloseCall number) = if_closed (is_outstanding log number)
 answer p t log event.AskMargin = reply.Margin (simm p (rows_of (book log)))
 answer p t log (event.AskCall moment) =
-    if_calling_day t (made log) (simm p (rows_of (book log))).total (booked t log) moment
+    if_calling_day t (made log) (simm p (rows_of (book log))).total.0 (booked t log) moment
 
 -- each entry's reply is the answer to its event after the entries before it
 abbrev pub IsLegal : Params → Agreement → List (Entry Event Reply) → Type 0

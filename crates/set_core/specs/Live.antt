@@ -24,7 +24,7 @@ live_reply l h (event.TakeLot lot) = ledger_reply (take_refusal h lot)
 live_reply l h (event.MarkLot lot value) = ledger_reply (mark_refusal h lot value)
 live_reply l h (event.CloseCall number) = ledger_reply (close_refusal h number)
 live_reply l h event.AskMargin = reply.Margin (simm l.params (rows_of l.book))
-live_reply l h (event.AskCall moment) = if_calling_day h.terms h.added (simm l.params (rows_of l.book)).total (booked_of h) moment
+live_reply l h (event.AskCall moment) = if_calling_day h.terms h.added (simm l.params (rows_of l.book)).total.0 (booked_of h) moment
 
 -- the book after the event and its reply
 abbrev pub live_book : List TradeRows → Event → Reply → List TradeRows

@@ -57,7 +57,7 @@ note_text note = call_text note ++ (codes "\t" ++ day_text note.due) ++ basis_te
 abbrev pub reply_text : Reply → List ℕ
 reply_text reply.Accepted = codes "OK"
 reply_text (reply.Refused why) = refusal_text why
-reply_text (reply.Margin b) = codes "MARGIN\t" ++ money_text b.total
+reply_text (reply.Margin b) = codes "MARGIN\t" ++ money_text b.total.0
 reply_text (reply.Called note) = note_text note
 reply_text (reply.NoCall excess margin booked) =
     codes "NOCALL\t" ++ money_text excess ++ basis_text margin booked

@@ -42,7 +42,7 @@ pub(crate) fn ask_call(
     let Some(due) = due(moment, ledger.terms()) else {
         return Ok(Reply::Refused(Refusal::DayRange(moment.day())));
     };
-    let margin = live.margin(alloc)?.total;
+    let margin = live.margin(alloc)?.total.0;
     let booked = ledger.booked();
     let demand = Demand {
         due,

@@ -7,7 +7,9 @@ use Rattle.simm_kinds.specs.declared.kinds.ProductClass.{ProductClass}
 use Rattle.simm_kinds.specs.declared.kinds.ProductClass.TheVariants as product
 use Rattle.simm_kinds.specs.declared.row.CrifRow.{CrifRow}
 use Rattle.simm_kinds.specs.Key.{Key}
+use Rattle.simm_rules.specs.declared.values.ProductMargin.{ProductMargin}
 use Rattle.simm_rules.specs.declared.values.Breakdown.{Breakdown}
+use Rattle.simm_rules.specs.Parts.{cents}
 use Rattle.simm_rules.specs.declared.values.RangeFault.{RangeFault}
 use Rattle.simm_rules.specs.Params.{Params}
 use Rattle.simm_rules.specs.Sums.{first_some}
@@ -23,7 +25,7 @@ use Rattle.simm_plain.specs.declared.sums.Sums.{Sums}
 use Rattle.simm_plain.specs.Nets.{nets_of, sums_of, nets_in}
 use Rattle.simm_plain.specs.Bucket.{factors, factor_sum, IsBucket}
 use Rattle.simm_plain.specs.Faults.{either_first, count_fault, key_fault, bucket_fault, gross_fault, nets_fault}
-use Rattle.simm_plain.specs.Parts.{breakdown_of, by_product}
+use Rattle.simm_plain.specs.Parts.{fx_alone, breakdown_of, by_product}
 use Rattle.simm_plain.proofs.Filters.{each_kept}
 use Rattle.simm_plain.proofs.Margins.{fx_margin}
 use Rattle.simm_plain.proofs.Books.{simm_is}
@@ -94,17 +96,23 @@ simm_from p rows a b c d h ea eb ec ed =
     ∙ sym (simm_is p rows h)
 
 -- the breakdown as it is written out
-abbrev pub written_out : ℤ → ℤ → ℤ → ℤ → ℤ → Breakdown
+abbrev written_out : ProductMargin → ProductMargin → ProductMargin → ProductMargin → ℤ → Breakdown
 written_out a b c d t = record {
-  classes = pos 0 ∷ pos 0 ∷ pos 0 ∷ pos 0 ∷ pos 0 ∷ a ∷ pos 0 ∷ pos 0 ∷ pos 0 ∷ pos 0 ∷ pos 0 ∷ b ∷ pos 0 ∷ pos 0 ∷ pos 0 ∷ pos 0 ∷ pos 0 ∷ c ∷ pos 0 ∷ pos 0 ∷ pos 0 ∷ pos 0 ∷ pos 0 ∷ d ∷ [];
-  products = a ∷ b ∷ c ∷ d ∷ [];
-  fixed = pos 0;
-  notional = pos 0;
-  multiplier = pos 0;
-  total = t;
+  rates_fx = a;
+  credit = b;
+  equity = c;
+  commodity = d;
+  fixed = cents (pos 0);
+  notional = cents (pos 0);
+  multiplier = cents (pos 0);
+  total = cents t;
 }
 
-pub written : (a b c d a' b' c' d' t : ℤ) → a' ≡ a → b' ≡ b → c' ≡ c → d' ≡ d → t ≡ a +ℤ b +ℤ c +ℤ d → written_out a' b' c' d' t ≡ breakdown_of (by_product a b c d)
+pub written : (a b c d : ℤ) (a' b' c' d' : ProductMargin) (t : ℤ) → a' ≡ fx_alone (cents a) → b' ≡ fx_alone (cents b) → c' ≡ fx_alone (cents c) → d' ≡ fx_alone (cents d) → t ≡ a +ℤ b +ℤ c +ℤ d → written_out a' b' c' d' t ≡ breakdown_of (by_product a b c d)
 written a b c d a' b' c' d' t ea eb ec ed et =
-    ap (λ x. written_out x b' c' d' t) ea ∙ ap (λ x. written_out a x c' d' t) eb ∙ ap (λ x. written_out a b x d' t) ec ∙ ap (λ x. written_out a b c x t) ed
-    ∙ ap (written_out a b c d) (omega (arith, ints, et))
+    let A = fx_alone (cents a) in
+    let B = fx_alone (cents b) in
+    let C = fx_alone (cents c) in
+    let D = fx_alone (cents d) in
+    ap (λ x. written_out x b' c' d' t) ea ∙ ap (λ x. written_out A x c' d' t) eb ∙ ap (λ x. written_out A B x d' t) ec ∙ ap (λ x. written_out A B C x t) ed
+    ∙ ap (written_out A B C D) (omega (arith, ints, et))

@@ -1,25 +1,39 @@
 -- A breakdown of margins of rows to currencies.
-use Rattle.std.specs.Prelude.{◌*◌, ◌^◌, ◌≤◌, List, [], ◌∷◌, map, ℤ, pos, ◌≤ℤ◌, ◌<ℤ◌, unsigned_abs}
-use Rattle.std.specs.List.{flat_map}
+use Rattle.std.specs.Prelude.{◌*◌, ◌^◌, ◌≤◌, ℤ, pos, ◌≤ℤ◌, ◌<ℤ◌, unsigned_abs}
+use Rattle.mh_units.specs.declared.quantities.Cents.{Cents}
 use Rattle.simm_kinds.specs.declared.kinds.ProductClass.{ProductClass}
 use Rattle.simm_kinds.specs.declared.kinds.ProductClass.TheVariants as product
+use Rattle.simm_rules.specs.declared.values.ProductMargin.{ProductMargin}
 use Rattle.simm_rules.specs.declared.values.Breakdown.{Breakdown}
+use Rattle.simm_rules.specs.Parts.{cents}
 use Rattle.simm_rules.specs.Sums.{total_by}
 use Rattle.simm_rules.specs.Simm.{products}
 
--- a product class's class margins, of which the last alone can be above 0
-abbrev pub class_list : ℤ → List ℤ
-class_list m = pos 0 ∷ pos 0 ∷ pos 0 ∷ pos 0 ∷ pos 0 ∷ m ∷ []
+-- the part of a product class of which foreign exchange alone can be above 0
+abbrev pub fx_alone : Cents → ProductMargin
+fx_alone fx = record {
+  margin = fx;
+  classes = record {
+    ir = cents (pos 0);
+    credit_q = cents (pos 0);
+    credit_nonq = cents (pos 0);
+    equity = cents (pos 0);
+    commodity = cents (pos 0);
+    fx = fx;
+  };
+}
 
 -- the breakdown of these margins of the product classes, without add-ons
 abbrev pub breakdown_of : (ProductClass → ℤ) → Breakdown
 breakdown_of m = record {
-  classes = flat_map (λ product. class_list (m product)) products;
-  products = map m products;
-  fixed = pos 0;
-  notional = pos 0;
-  multiplier = pos 0;
-  total = total_by m products;
+  rates_fx = fx_alone (cents (m product.RatesFX));
+  credit = fx_alone (cents (m product.Credit));
+  equity = fx_alone (cents (m product.Equity));
+  commodity = fx_alone (cents (m product.Commodity));
+  fixed = cents (pos 0);
+  notional = cents (pos 0);
+  multiplier = cents (pos 0);
+  total = cents (total_by m products);
 }
 
 -- the margin of a product class, in cents

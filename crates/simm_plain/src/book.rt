@@ -45,7 +45,7 @@ pub fn margin_in_range(
 ) -> Result<Breakdown, AllocError>
     requires { range params.now (all_rows lent.now) ≡ None }
     ensures value { IfOk result (λ b. b ≡ simm params.now (all_rows lent.now)) }
-    ensures total { IfOk result (λ b. IsTotal b.total) }
+    ensures total { IfOk result (λ b. IsTotal b.total.0) }
 {
     let nets = Nets::of_rows(alloc, lent)?;
     params.facts();
@@ -56,7 +56,7 @@ pub fn margin_in_range(
 fn nets_margin(alloc: Global, params: &Params, nets: &Nets) -> Result<Breakdown, AllocError>
     requires { (product : Product) → IsBucket params.now (factors params.now product (nets_in nets.now)) }
     ensures value { (rows : List Row) → FxRows rows → nets.now ≡ sums_of rows → IfOk result (λ b. b ≡ simm params.now rows) }
-    ensures total { IfOk result (λ b. IsTotal b.total) }
+    ensures total { IfOk result (λ b. IsTotal b.total.0) }
 {
     let rates_fx = fx_margin(alloc, params, nets, ProductClass::RatesFX)?;
     let credit = fx_margin(alloc, params, nets, ProductClass::Credit)?;

@@ -4,6 +4,7 @@ pub mod Sums
 pub mod Net
 pub mod Concentration
 pub mod Delta
+pub mod Parts
 pub mod Simm
 pub mod Range
 pub mod RangeNumber

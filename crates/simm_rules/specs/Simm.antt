@@ -1,7 +1,7 @@
 -- The margin of a book, with all of its parts.
 -- (ISDA SIMM methodology, structure: the margins of a product class by psi; additional margins.)
-use Rattle.std.specs.Prelude.{ℕ, ◌^◌, List, [], ◌∷◌, map, Option, Some, None, ℤ, pos, ◌+ℤ◌, ◌-ℤ◌, ◌*ℤ◌, unsigned_abs}
-use Rattle.std.specs.List.{filter, find, flat_map}
+use Rattle.std.specs.Prelude.{ℕ, ◌^◌, List, [], ◌∷◌, Option, Some, None, ℤ, pos, ◌+ℤ◌, ◌-ℤ◌, ◌*ℤ◌, unsigned_abs}
+use Rattle.std.specs.List.{filter, find}
 use Rattle.mh_units.specs.Rounding.{up, root}
 use Rattle.simm_kinds.specs.declared.kinds.ProductClass.{ProductClass}
 use Rattle.simm_kinds.specs.declared.kinds.ProductClass.TheVariants as product
@@ -11,7 +11,9 @@ use Rattle.simm_kinds.specs.declared.kinds.RiskType.{RiskType}
 use Rattle.simm_kinds.specs.declared.kinds.RiskType.TheVariants as kind
 use Rattle.simm_kinds.specs.declared.row.CrifRow.{CrifRow}
 use Rattle.simm_kinds.specs.Order.{same_product, same_kind, same_name}
+use Rattle.simm_rules.specs.declared.values.ProductMargin.{ProductMargin}
 use Rattle.simm_rules.specs.declared.values.Breakdown.{Breakdown}
+use Rattle.simm_rules.specs.Parts.{cents}
 use Rattle.simm_rules.specs.Params.{Params}
 use Rattle.simm_rules.specs.Lookups.{psi}
 use Rattle.simm_rules.specs.Sums.{total_by, total_by_pairs}
@@ -63,13 +65,29 @@ abbrev pub multiplier_add_on : Params → List CrifRow → ℤ
 multiplier_add_on p rows =
     total_by (λ product. up ((multiplier_of rows product -ℤ pos 10000) *ℤ product_margin p rows product) (pos 10000)) products
 
+-- the part of a product class: its margin, and those of its risk classes
+abbrev pub part_of : Params → List CrifRow → ProductClass → ProductMargin
+part_of p rows product = record {
+  margin = cents (product_margin p rows product);
+  classes = record {
+    ir = cents (class_margin p rows product class.IR);
+    credit_q = cents (class_margin p rows product class.CreditQ);
+    credit_nonq = cents (class_margin p rows product class.CreditNonQ);
+    equity = cents (class_margin p rows product class.Equity);
+    commodity = cents (class_margin p rows product class.Commodity);
+    fx = cents (class_margin p rows product class.FX);
+  };
+}
+
 -- the margin of the rows of a book
 abbrev pub simm : Params → List CrifRow → Breakdown
 simm p rows = record {
-  classes = flat_map (λ product. map (class_margin p rows product) classes) products;
-  products = map (product_margin p rows) products;
-  fixed = fixed_amounts rows;
-  notional = notional_add_on rows;
-  multiplier = multiplier_add_on p rows;
-  total = total_by (product_margin p rows) products +ℤ fixed_amounts rows +ℤ notional_add_on rows +ℤ multiplier_add_on p rows;
+  rates_fx = part_of p rows product.RatesFX;
+  credit = part_of p rows product.Credit;
+  equity = part_of p rows product.Equity;
+  commodity = part_of p rows product.Commodity;
+  fixed = cents (fixed_amounts rows);
+  notional = cents (notional_add_on rows);
+  multiplier = cents (multiplier_add_on p rows);
+  total = cents (total_by (product_margin p rows) products +ℤ fixed_amounts rows +ℤ notional_add_on rows +ℤ multiplier_add_on p rows);
 }

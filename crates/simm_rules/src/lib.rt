@@ -5,4 +5,4 @@
 
 mod values;
 
-pub use values::{Breakdown, BucketMargin, RangeFault, RangeKind};
+pub use values::{Breakdown, BucketMargin, ClassMargins, ProductMargin, RangeFault, RangeKind};

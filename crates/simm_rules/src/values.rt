@@ -1,7 +1,9 @@
 ghost use Rattle.std.specs.Prelude.{◌≡◌};
+ghost use Rattle.simm_rules.specs.Parts.{product_part, class_part};
 ghost use Rattle.simm_rules.specs.RangeNumber.{range_number};
 
-use mh_units::Corr6;
+use mh_units::{Cents, Corr6};
+use simm_kinds::{ProductClass, RiskClass};
 
 /// What one bucket gives to the margin of its class. Amounts are in cents, `q` in cents squared times 10^6.
 #[derive(Clone, Copy, Debug, PartialEq, Eq)]
@@ -20,21 +22,81 @@ pub struct BucketMargin {
     pub cr: Corr6,
 }
 
-/// A margin with all of its parts, in cents.
+/// The margins of the risk classes in one product class.
+#[derive(Clone, Copy, Debug, PartialEq, Eq)]
+pub struct ClassMargins {
+    /// Of interest rates.
+    pub ir: Cents,
+    /// Of credit that qualifies.
+    pub credit_q: Cents,
+    /// Of credit that does not qualify.
+    pub credit_nonq: Cents,
+    /// Of equity.
+    pub equity: Cents,
+    /// Of commodities.
+    pub commodity: Cents,
+    /// Of foreign exchange.
+    pub fx: Cents,
+}
+
+/// The margin of a product class, and of each risk class in it.
+#[derive(Clone, Copy, Debug, PartialEq, Eq)]
+pub struct ProductMargin {
+    /// The product class's margin.
+    pub margin: Cents,
+    /// The margins of the risk classes in it.
+    pub classes: ClassMargins,
+}
+
+impl ProductMargin {
+    /// The margin of a risk class.
+    pub fn class(&self, class: RiskClass) -> Cents
+        ensures { result ≡ class_part self.now class }
+    {
+        match class {
+            RiskClass::IR => self.classes.ir,
+            RiskClass::CreditQ => self.classes.credit_q,
+            RiskClass::CreditNonQ => self.classes.credit_nonq,
+            RiskClass::Equity => self.classes.equity,
+            RiskClass::Commodity => self.classes.commodity,
+            RiskClass::FX => self.classes.fx,
+        }
+    }
+}
+
+/// A margin with all of its parts.
 #[derive(Clone, Copy, Debug, PartialEq, Eq)]
 pub struct Breakdown {
-    /// The margin of each risk class in each product class; place `6 * product + class`.
-    pub classes: [i128; 24],
-    /// The margin of each product class.
-    pub products: [i128; 4],
+    /// The part of rates and foreign exchange.
+    pub rates_fx: ProductMargin,
+    /// The part of credit.
+    pub credit: ProductMargin,
+    /// The part of equity.
+    pub equity: ProductMargin,
+    /// The part of commodities.
+    pub commodity: ProductMargin,
     /// The add-on of fixed amounts.
-    pub fixed: i128,
+    pub fixed: Cents,
     /// The add-on of notional factors.
-    pub notional: i128,
+    pub notional: Cents,
     /// The add-on of product class multipliers.
-    pub multiplier: i128,
+    pub multiplier: Cents,
     /// The whole margin.
-    pub total: i128,
+    pub total: Cents,
+}
+
+impl Breakdown {
+    /// The part of a product class.
+    pub fn product(&self, product: ProductClass) -> &ProductMargin
+        ensures { result.now ≡ product_part self.now product }
+    {
+        match product {
+            ProductClass::RatesFX => &self.rates_fx,
+            ProductClass::Credit => &self.credit,
+            ProductClass::Equity => &self.equity,
+            ProductClass::Commodity => &self.commodity,
+        }
+    }
 }
 
 /// Which quantity of a book is out of range.

@@ -1,13 +1,11 @@
-use Rattle.std.proofs.Common.{rules, arith, get_or, pos, ◌∙◌, FitsSigned}
-use Rattle.std.proofs.lemmas.Int.{to_z-of_z}
-use Rattle.std.specs.Int.{w128}
+use Rattle.std.proofs.Common.{◌∙◌, arith}
 use Rattle.simm_kinds.specs.declared.kinds.RiskClass.TheVariants as class
 use Rattle.simm_rules.specs.Simm.{classes}
-use Rattle.margin_text.proofs.MarginLemmas.{class_step}
+use Rattle.margin_text.specs.Margins.{class_line}
+use Rattle.margin_text.proofs.MarginLemmas.{piece_step}
 use Rattle.margin_text.proofs.breakdown_lines.push_classes.Goals as goal
 
-pub loop-i-preserved : goal.loop-i-preserved
-loop-i-preserved c =
-    let fits : FitsSigned w128 (get_or c.args.margins.now c.loop-i.i (pos 0)) = search rules in
-    class_step c.args.product classes c.args.margins.now c.loop-i.i class.IR _ c.loop-i.text c.push_class.new.text (omega arith) (omega arith) (to_z-of_z w128 _ fits) c.in_ok-push_class.ensures
-    ∙ c.loop-i.invariant
+pub loop-class-preserved : goal.loop-class-preserved
+loop-class-preserved c =
+    piece_step (class_line c.args.product c.args.part.now) classes c.loop-class.class-index class.IR c.loop-class.text c.push_class.new.text (omega arith) c.in_ok-push_class.ensures
+    ∙ c.loop-class.invariant

@@ -1,10 +1,12 @@
 use Rattle.std.proofs.Common.{rules, ap, ◌∙◌, ◌++◌, FitsSigned}
 use Rattle.std.proofs.lemmas.Int.{to_z-of_z}
 use Rattle.std.specs.Int.{w128}
+use Rattle.std.specs.List.{flat_map}
 use Rattle.std.specs.Prelude.{codes}
+use Rattle.simm_rules.specs.Parts.{product_part}
 use Rattle.simm_rules.specs.Simm.{products}
 use Rattle.margin_text.specs.Fields.{field, amount_line}
-use Rattle.margin_text.specs.Margins.{part_lines, all_product_lines}
+use Rattle.margin_text.specs.Margins.{part_lines, product_lines}
 use Rattle.margin_text.proofs.MarginLemmas.{pieces}
 use Rattle.margin_text.proofs.breakdown_lines.push_parts.Goals as goal
 
@@ -12,13 +14,13 @@ pub returns : goal.returns
 unfolding part_lines
 returns c =
     let b = c.args.margin.now in
-    let fixed_fits : FitsSigned w128 b.fixed = search rules in
-    let notional_fits : FitsSigned w128 b.notional = search rules in
-    let multiplier_fits : FitsSigned w128 b.multiplier = search rules in
-    pieces (all_product_lines products b.products b.classes)
-    (amount_line (field (codes "FIXED")) b.fixed) (amount_line (field (codes "NOTIONAL")) b.notional) (amount_line (field (codes "MULTIPLIER")) b.multiplier)
+    let fixed_fits : FitsSigned w128 b.fixed.0 = search rules in
+    let notional_fits : FitsSigned w128 b.notional.0 = search rules in
+    let multiplier_fits : FitsSigned w128 b.multiplier.0 = search rules in
+    pieces (flat_map (λ product. product_lines product (product_part b product)) products)
+    (amount_line (field (codes "FIXED")) b.fixed.0) (amount_line (field (codes "NOTIONAL")) b.notional.0) (amount_line (field (codes "MULTIPLIER")) b.multiplier.0)
     c.args.text.now c.push_products.new.text c.push_add_on.new.text c.push_add_on-2.new.text c.push_add_on-3.new.text
     c.in_ok-push_products.ensures
-    (c.in_ok-push_add_on.ensures ∙ ap (λ z. c.push_products.new.text ++ amount_line (field (codes "FIXED")) z) (to_z-of_z w128 b.fixed fixed_fits))
-    (c.in_ok-push_add_on-2.ensures ∙ ap (λ z. c.push_add_on.new.text ++ amount_line (field (codes "NOTIONAL")) z) (to_z-of_z w128 b.notional notional_fits))
-    (c.in_ok-push_add_on-3.ensures ∙ ap (λ z. c.push_add_on-2.new.text ++ amount_line (field (codes "MULTIPLIER")) z) (to_z-of_z w128 b.multiplier multiplier_fits))
+    (c.in_ok-push_add_on.ensures ∙ ap (λ z. c.push_products.new.text ++ amount_line (field (codes "FIXED")) z) (to_z-of_z w128 b.fixed.0 fixed_fits))
+    (c.in_ok-push_add_on-2.ensures ∙ ap (λ z. c.push_add_on.new.text ++ amount_line (field (codes "NOTIONAL")) z) (to_z-of_z w128 b.notional.0 notional_fits))
+    (c.in_ok-push_add_on-3.ensures ∙ ap (λ z. c.push_add_on-2.new.text ++ amount_line (field (codes "MULTIPLIER")) z) (to_z-of_z w128 b.multiplier.0 multiplier_fits))

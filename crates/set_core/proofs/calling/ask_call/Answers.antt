@@ -12,12 +12,12 @@ total_is : (total : ℤ) → pos 0 ≤ℤ total → total <ℤ pos (10 ^ 21) →
 total_is total low high = same128 total (omega (arith, ints, low, high))
 
 pub call_on-requires-clause-margin_from : goal.call_on-requires-clause-margin_from
-call_on-requires-clause-margin_from c = subst (λ total. pos 0 ≤ℤ total) (sym (total_is c.in_ok-margin.field-0.total c.in_ok-margin.ensures.total_from c.in_ok-margin.ensures.total_below)) c.in_ok-margin.ensures.total_from
+call_on-requires-clause-margin_from c = subst (λ total. pos 0 ≤ℤ total) (sym (total_is c.in_ok-margin.field-0.total.0 c.in_ok-margin.ensures.total_from c.in_ok-margin.ensures.total_below)) c.in_ok-margin.ensures.total_from
 
 pub call_on-requires-clause-margin_to : goal.call_on-requires-clause-margin_to
 call_on-requires-clause-margin_to c =
-    let within : c.in_ok-margin.field-0.total ≤ℤ pos (10 ^ 21) = omega (arith, ints, c.in_ok-margin.ensures.total_below) in
-    subst (λ total. total ≤ℤ pos (10 ^ 21)) (sym (total_is c.in_ok-margin.field-0.total c.in_ok-margin.ensures.total_from c.in_ok-margin.ensures.total_below)) within
+    let within : c.in_ok-margin.field-0.total.0 ≤ℤ pos (10 ^ 21) = omega (arith, ints, c.in_ok-margin.ensures.total_below) in
+    subst (λ total. total ≤ℤ pos (10 ^ 21)) (sym (total_is c.in_ok-margin.field-0.total.0 c.in_ok-margin.ensures.total_from c.in_ok-margin.ensures.total_below)) within
 
 pub returns-clause-trades : goal.returns-clause-trades
 returns-clause-trades c = on_err c.call_on.result c.in_ok-margin.ensures.unchanged
@@ -28,10 +28,10 @@ returns-clause-does c =
     let due_fits : FitsSigned w32 c.in-Some.due = search rules in
     let booked_fits : FitsSigned w128 c.booked-booked.result = search rules in
     demand_does c.args.live.now _ c.args.ledger.now c.call_on.new.ledger c.args.moment
-    (to_z w32 (of_z w32 c.in-Some.due)) (to_z w128 (of_z w128 c.in_ok-margin.field-0.total)) (to_z w128 (of_z w128 c.booked-booked.result))
+    (to_z w32 (of_z w32 c.in-Some.due)) (to_z w128 (of_z w128 c.in_ok-margin.field-0.total.0)) (to_z w128 (of_z w128 c.booked-booked.result))
     c.in_ok-margin.ensures.unchanged
     found.0
     (to_z-of_z w32 c.in-Some.due due_fits ∙ found.1 ∙ ap (due_day c.args.moment) c.terms.ensures)
-    (total_is c.in_ok-margin.field-0.total c.in_ok-margin.ensures.total_from c.in_ok-margin.ensures.total_below ∙ ap (λ b. b.total) c.in_ok-margin.ensures.value)
+    (total_is c.in_ok-margin.field-0.total.0 c.in_ok-margin.ensures.total_from c.in_ok-margin.ensures.total_below ∙ ap (λ b. b.total.0) c.in_ok-margin.ensures.value)
     (same128 c.booked-booked.result booked_fits ∙ c.booked-booked.ensures.value)
     c.call_on.result c.call_on.ensures.value c.call_on.ensures.after

@@ -1,4 +1,4 @@
-use Rattle.std.proofs.Common.{◌≡◌, ◌∙◌, List, Result, Ok, Err, IfOk, ap}
+use Rattle.std.proofs.Common.{◌≡◌, ◌∙◌, ◌^◌, List, Result, Ok, Err, IfOk, ap, pos, ◌≤ℤ◌, ◌<ℤ◌}
 use Rattle.simm_kinds.specs.declared.row.CrifRow.{CrifRow}
 use Rattle.simm_kinds.specs.Batch.{rows_of}
 use Rattle.simm_rules.specs.declared.values.Breakdown.{Breakdown}
@@ -6,6 +6,7 @@ use Rattle.simm_rules.specs.Params.{Params}
 use Rattle.simm_rules.specs.Range.{range}
 use Rattle.simm_rules.specs.Simm.{simm}
 use Rattle.simm_plain.specs.Lent.{all_rows}
+use Rattle.simm_plain.specs.Parts.{IsTotal}
 use Rattle.bucket_cache.specs.Live.{Live}
 use Rattle.bucket_cache.specs.Entries.{trades_of}
 use Rattle.bucket_cache.proofs.Puts.{lent_rows}
@@ -24,3 +25,17 @@ returns-clause-value c =
     same_margin c.self.inside.params c.args.self.now.params _ _ c.margin_in_range.result (ap (λ (l : Live). l.params) c.self.view_is)
     (ap all_rows c.as_slice.ensures.value ∙ lent_rows c.in_ok-lent.lent.items (trades_of c.self.inside.trades.entries) c.in_ok-lent.ensures ∙ ap (λ (l : Live). rows_of l.book) c.self.view_is)
     c.margin_in_range.ensures.value
+
+total_from : {E : Type 0} (r : Result Breakdown E) → IfOk r (λ b. IsTotal b.total.0) → IfOk r (λ b. pos 0 ≤ℤ b.total.0)
+total_from (Ok b) h = h.low
+total_from (Err f) h = tt
+
+total_below : {E : Type 0} (r : Result Breakdown E) → IfOk r (λ b. IsTotal b.total.0) → IfOk r (λ b. b.total.0 <ℤ pos (10 ^ 21))
+total_below (Ok b) h = h.below
+total_below (Err f) h = tt
+
+pub returns-clause-total_from : goal.returns-clause-total_from
+returns-clause-total_from c = total_from c.margin_in_range.result c.margin_in_range.ensures.total
+
+pub returns-clause-total_below : goal.returns-clause-total_below
+returns-clause-total_below c = total_below c.margin_in_range.result c.margin_in_range.ensures.total
