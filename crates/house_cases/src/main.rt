@@ -2,7 +2,7 @@
 //! command, which runs over the files beside it. Out go the words, the status, and the text that the command printed.
 #![tactic(auto)]
 
-mod case_file;
+mod command;
 #[cfg(test)]
 mod faults;
 #[cfg(test)]
@@ -11,8 +11,7 @@ mod memory_house;
 mod sizes;
 
 use anyhow::{Context, Result};
-use case_file::words_of;
-use margin_top::margin_house;
+use command::run_line;
 use mh_io::{MemSink, RealFolder};
 use std::fs;
 use std::io::{self, BufWriter, Write};
@@ -23,11 +22,9 @@ const ROOM: usize = 1 << 20;
 /// Runs the words, and writes them with their status and their text.
 fn run_case<W: Write>(rt: HostRuntime, line: &str, out: &mut W) -> Result<()> {
     let alloc = rt.alloc();
-    let words = words_of(alloc, line)?;
     let mut folder = RealFolder::new(rt);
     let mut text = MemSink::new(alloc, ROOM, ROOM, Vec::new(alloc))?;
-    let status = margin_house(alloc, words.as_slice(), &mut folder, &mut text);
-    let code = status.code();
+    let code = run_line(alloc, line, &mut folder, &mut text)?.code();
     write!(out, "== {line}\nstatus {code}\n")?;
     out.write_all(text.bytes())?;
     Ok(())

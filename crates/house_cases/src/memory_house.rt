@@ -1,5 +1,5 @@
-use crate::case_file::words_of;
-use margin_top::{Status, margin_house};
+use crate::command::run_line;
+use margin_top::Status;
 use mh_io::{MemFolder, MemSink};
 use mh_units::Bytes;
 use std::alloc::{AllocError, Global};
@@ -143,10 +143,9 @@ pub fn run_over(
     folder: &mut MemFolder,
     setup: Setup,
 ) -> Result<Outcome, AllocError> {
-    let words = words_of(alloc, line)?;
     let failing = puts_that_fail(alloc, setup.failing)?;
     let mut out = MemSink::new(alloc, ROOM, setup.sink_most, failing)?;
-    let status = margin_house(alloc, words.as_slice(), folder, &mut out);
+    let status = run_line(alloc, line, folder, &mut out)?;
     Ok(Outcome {
         status,
         text: out.bytes().to_vec(alloc)?,

@@ -1,0 +1,27 @@
+use margin_top::{Status, margin_house};
+use mh_io::{Folder, MemSink};
+use std::alloc::{AllocError, Global};
+
+/// The words of a command: a line's pieces between single spaces, so that two spaces have an empty word between them. An
+/// empty line has none.
+fn words_of(alloc: Global, line: &str) -> Result<Vec<String>, AllocError> {
+    let mut words = Vec::new(alloc);
+    if line.is_empty() {
+        return Ok(words);
+    }
+    for word in line.split(' ') {
+        words.push(String::from_str(alloc, word)?)?;
+    }
+    Ok(words)
+}
+
+/// Runs the command of a line over a folder, into a sink. The only error is want of memory.
+pub fn run_line<F: Folder>(
+    alloc: Global,
+    line: &str,
+    folder: &mut F,
+    out: &mut MemSink,
+) -> Result<Status, AllocError> {
+    let words = words_of(alloc, line)?;
+    Ok(margin_house(alloc, words.as_slice(), folder, out))
+}
