@@ -1,17 +1,18 @@
 -- The book of a live margin stays one: after a batch that is in range, and without some of its trades.
 use Rattle.std.proofs.Common.{◌≡◌, ℕ, ◌≤◌, List, [], ◌∷◌, length, Option, Some, None, Bool, true, false, not, ◌||◌, ◌==◌, cond, if◌then◌else◌, nat_lt, refl, ap, sym, ◌∙◌, arith}
-use Rattle.std.specs.List.{list_all, list_any, filter}
+use Rattle.std.specs.List.{list_all, list_any, filter, flat_map}
 use Rattle.std.proofs.lemmas.Bool.{or_parts, and_parts, and_from, ltb-false}
 use Rattle.simm_kinds.specs.declared.fault.MakeFault.TheVariants as fault
 use Rattle.simm_kinds.specs.declared.row.CrifRow.{CrifRow}
 use Rattle.simm_kinds.specs.declared.row.TradeRows.{TradeRows}
-use Rattle.simm_kinds.specs.Batch.{rows_of, IsBatch, is_misplaced, single_params}
-use Rattle.simm_kinds.specs.Key.{is_key}
-use Rattle.simm_kinds.specs.Order.{same_name, same_key}
+use Rattle.simm_kinds.specs.declared.kinds.ProductClass.{ProductClass}
+use Rattle.simm_kinds.specs.Batch.{rows_of, IsBatch, has_repeats, is_misplaced, is_in_range, factor_names, multiplied}
+use Rattle.simm_kinds.specs.Built.{is_built_row}
+use Rattle.simm_kinds.specs.Order.{same_name, same_product}
 use Rattle.simm_kinds.specs.Repeats.{repeats}
 use Rattle.simm_rules.specs.Params.{Params}
 use Rattle.simm_rules.specs.Range.{range}
-use Rattle.simm_plain.specs.Nets.{AreRows}
+use Rattle.simm_plain.proofs.Ranges.{range_is}
 use Rattle.bucket_cache.specs.Live.{put_trades, without, IsLive}
 use Rattle.bucket_cache.specs.Entries.{names_of, trade_of, trades_of}
 use Rattle.bucket_cache.proofs.Puts.{all_rows_of, all_puts, count_puts}
@@ -29,43 +30,69 @@ none_empty p (x ∷ xs) h =
     let parts = or_parts (p x) (list_any p xs) h in
     and_from (not (p x)) (list_all (λ y. not (p y)) xs) (ap not parts.0) (none_empty p xs parts.1)
 
--- of a batch: different names, few rows, and each trade has one
+none_fails : (b : Bool) → not b ≡ false → b ≡ true
+none_fails true h = refl
+none_fails false h = absurd (cc)
+
+-- of a batch: different names, few rows, each trade has one, and each is built
 pub record BatchFacts (ts : List TradeRows) : Type 0 where
   pub once : repeats same_name (names_of ts) ≡ false
   pub few : length (rows_of ts) ≤ 100000
   pub filled : list_all (λ t. not (length t.rows == 0)) ts ≡ true
+  pub built : list_all is_built_row (rows_of ts) ≡ true
+  pub amounts : list_all is_in_range (rows_of ts) ≡ true
 
 pub batch_facts : (ts : List TradeRows) → IsBatch ts → BatchFacts ts
 batch_facts ts h =
+    let named = repeats same_name (names_of ts) in
+    let factored = repeats same_name (flat_map factor_names (rows_of ts)) in
     let some = none_else (length ts == 0) fault.Empty _ h in
-    let once = none_else (repeats same_name (names_of ts) || repeats same_key (single_params ts)) fault.Same _ some.1 in
+    let once = none_else (has_repeats ts) fault.Same _ some.1 in
     let few = none_else (nat_lt 100000 (length (rows_of ts))) fault.TooManyRows _ once.1 in
     let placed = none_else (list_any is_misplaced ts) fault.Place _ few.1 in
     let filled = none_else (list_any (λ (t : TradeRows). length t.rows == 0) ts) fault.EmptyTrade _ placed.1 in
+    let ranged = none_else (not (list_all is_in_range (rows_of ts))) fault.Amount _ filled.1 in
+    let built = none_else (not (list_all is_built_row (rows_of ts))) fault.Unbuilt None ranged.1 in
     record {
-      once = (or_parts (repeats same_name (names_of ts)) (repeats same_key (single_params ts)) once.0).0;
+      once = (or_parts named factored (or_parts (named || factored) (repeats same_product (flat_map multiplied (rows_of ts))) once.0).0).0;
       few = ltb-false 100000 (length (rows_of ts)) few.0;
       filled = none_empty (λ (t : TradeRows). length t.rows == 0) ts filled.0;
+      built = none_fails (list_all is_built_row (rows_of ts)) built.0;
+      amounts = none_fails (list_all is_in_range (rows_of ts)) ranged.0;
     }
 
 pub few_in_batch : (ts : List TradeRows) → IsBatch ts → length ts ≤ 100000
 few_in_batch ts h = let facts = batch_facts ts h in omega (arith, trades_within ts facts.filled, facts.few)
+
+-- ---- no trades
+
+pub live_none : (p : Params) → IsLive p []
+live_none p = record { built = refl; amounts = refl; filled = refl; in_range = range_is p [] tt }
 
 -- ---- after a batch
 
 pub few_after : (p : Params) (ts us : List TradeRows) → IsBatch ts → IsLive p us → length (rows_of (put_trades ts us)) ≤ 300000
 few_after p ts us batch live = omega (arith, count_puts ts us, (batch_facts ts batch).few, few_rows p (rows_of us) live.in_range)
 
-pub live_after : (p : Params) (ts us : List TradeRows) → IsBatch ts → IsLive p us → list_all (λ r. is_key r.key) (rows_of (put_trades ts us)) ≡ true → range p (rows_of (put_trades ts us)) ≡ None → IsLive p (put_trades ts us)
-live_after p ts us batch live keys none = record {
-  keys = keys;
+-- what each row of a batch and of a book passes, each row of the book afterwards passes
+all_after : (test : CrifRow → Bool) (ts us : List TradeRows) → list_all test (rows_of ts) ≡ true → list_all test (rows_of us) ≡ true → list_all test (rows_of (put_trades ts us)) ≡ true
+all_after test ts us batch live =
+    all_rows_of test (put_trades ts us)
+    ∙ all_puts (list_all test) ts us (sym (all_rows_of test ts) ∙ batch) (sym (all_rows_of test us) ∙ live)
+
+pub built_after : (p : Params) (ts us : List TradeRows) → IsBatch ts → IsLive p us → list_all is_built_row (rows_of (put_trades ts us)) ≡ true
+built_after p ts us batch live = all_after is_built_row ts us (batch_facts ts batch).built live.built
+
+pub amounts_after : (p : Params) (ts us : List TradeRows) → IsBatch ts → IsLive p us → list_all is_in_range (rows_of (put_trades ts us)) ≡ true
+amounts_after p ts us batch live = all_after is_in_range ts us (batch_facts ts batch).amounts live.amounts
+
+pub live_after : (p : Params) (ts us : List TradeRows) → IsBatch ts → IsLive p us → range p (rows_of (put_trades ts us)) ≡ None → IsLive p (put_trades ts us)
+live_after p ts us batch live none = record {
+  built = built_after p ts us batch live;
+  amounts = amounts_after p ts us batch live;
   filled = all_puts (λ rows. not (length rows == 0)) ts us (batch_facts ts batch).filled live.filled;
   in_range = none;
 }
-
-pub keys_pass : (rows : List CrifRow) → AreRows rows → list_all (λ r. is_key r.key) rows ≡ true
-keys_pass [] h = refl
-keys_pass (r ∷ rows) h = and_from (is_key r.key) (list_all (λ x. is_key x.key) rows) h.0.key (keys_pass rows h.1)
 
 -- ---- without some trades
 
@@ -78,17 +105,23 @@ all_kept test keep (x ∷ xs) h =
     at true passes rest = and_from (test x) (list_all test (filter keep xs)) passes rest
     at false passes rest = rest
 
+-- what each row of a book passes, each row of some of its trades passes
+all_among : (test : CrifRow → Bool) (keep : TradeRows → Bool) (us : List TradeRows) → list_all test (rows_of us) ≡ true → list_all test (rows_of (filter keep us)) ≡ true
+all_among test keep us h =
+    all_rows_of test (filter keep us) ∙ all_kept (λ t. list_all test t.rows) keep us (sym (all_rows_of test us) ∙ h)
+
 -- some trades of a book in range are in range
 abbrev FewerInRange : Params → Type 0
-FewerInRange p = (test : TradeRows → Bool) (ts : List TradeRows) → list_all (λ r. is_key r.key) (rows_of ts) ≡ true → range p (rows_of ts) ≡ None → range p (rows_of (filter test ts)) ≡ None
+FewerInRange p = (test : TradeRows → Bool) (ts : List TradeRows) → list_all is_built_row (rows_of ts) ≡ true → range p (rows_of ts) ≡ None → range p (rows_of (filter test ts)) ≡ None
 
 pub live_without : (p : Params) (names : List (List ℕ)) (us : List TradeRows) → FewerInRange p → IsLive p us → IsLive p (without names us)
 live_without p names us fewer live =
     let kept : TradeRows → Bool = λ t. not (list_any (same_name t.trade) names) in
     record {
-      keys = all_rows_of (λ (r : CrifRow). is_key r.key) (filter kept us) ∙ all_kept (λ t. list_all (λ r. is_key r.key) t.rows) kept us (sym (all_rows_of (λ (r : CrifRow). is_key r.key) us) ∙ live.keys);
+      built = all_among is_built_row kept us live.built;
+      amounts = all_among is_in_range kept us live.amounts;
       filled = all_kept (λ (t : TradeRows). not (length t.rows == 0)) kept us live.filled;
-      in_range = fewer kept us live.keys live.in_range;
+      in_range = fewer kept us live.built live.in_range;
     }
 
 kept_entry : (s b : Bool) (e : List ℕ × List CrifRow) (es : List (List ℕ × List CrifRow)) (us : List TradeRows) → s ≡ b → trades_of es ≡ us → trades_of (cond (not s) (e ∷ es) es) ≡ cond (not b) (trade_of e ∷ us) us

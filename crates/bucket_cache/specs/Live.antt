@@ -3,8 +3,8 @@ use Rattle.std.specs.Prelude.{◌≡◌, ℕ, ◌+◌, zero, suc, List, [], ◌�
 use Rattle.std.specs.List.{filter, list_all, list_any}
 use Rattle.simm_kinds.specs.declared.row.CrifRow.{CrifRow}
 use Rattle.simm_kinds.specs.declared.row.TradeRows.{TradeRows}
-use Rattle.simm_kinds.specs.Batch.{rows_of}
-use Rattle.simm_kinds.specs.Key.{is_key}
+use Rattle.simm_kinds.specs.Batch.{rows_of, is_in_range}
+use Rattle.simm_kinds.specs.Built.{is_built_row}
 use Rattle.simm_kinds.specs.Order.{same_name}
 use Rattle.simm_rules.specs.Params.{Params}
 use Rattle.simm_rules.specs.Range.{range}
@@ -44,8 +44,9 @@ name_at book (suc i) = slice_get (map (λ t. t.trade) book) i
 abbrev pub rows_named : List TradeRows → List ℕ → Option (List CrifRow)
 rows_named book name = option_map (λ t. t.rows) (find (λ t. same_name name t.trade) book)
 
--- Each row has the parts of its type, each trade has a row, and the book is in range.
+-- Each row is built, and its amount one that a batch can have, each trade has a row, and the book is in range.
 pub record IsLive (p : Params) (trades : List TradeRows) : Type 0 where
-  pub keys : list_all (λ r. is_key r.key) (rows_of trades) ≡ true
+  pub built : list_all is_built_row (rows_of trades) ≡ true
+  pub amounts : list_all is_in_range (rows_of trades) ≡ true
   pub filled : list_all (λ t. not (length t.rows == 0)) trades ≡ true
   pub in_range : range p (rows_of trades) ≡ None

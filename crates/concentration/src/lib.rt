@@ -7,7 +7,7 @@ ghost use Rattle.std.specs.Prelude.{◌≡◌, ◌*◌, ◌≤◌, ◌^◌, pos,
 ghost use Rattle.mh_units.specs.Rounding.{down, root, up};
 ghost use Rattle.simm_rules.specs.Concentration.{IsConcentration, one};
 ghost use Rattle.simm_rules.specs.Concentration.{cr as cr_of, ratio as ratio_of};
-ghost use Rattle.simm_rules.specs.Delta.{combined};
+ghost use Rattle.simm_rules.specs.Bucket.{combined};
 
 use mh_units::{Corr6, div_up, least_root, mul_corr};
 

@@ -1,44 +1,52 @@
 -- Filed factors: what is found of a key, in its place and in the whole list.
-use Rattle.std.proofs.Common.{◌≡◌, List, [], ◌∷◌, ◌++◌, map, Bool, true, false, cond, Option, Some, None, IsSome, IfSome, Result, Ok, Err, OnOk, OnErr, refl, sym, ap, ◌∙◌, subst}
+use Rattle.std.proofs.Common.{◌≡◌, ◌+◌, List, [], ◌∷◌, ◌++◌, map, length, Bool, true, false, cond, Option, Some, None, IsSome, IfSome, Result, Ok, Err, OnOk, OnErr, ℤ, refl, sym, ap, ◌∙◌, subst}
+use Rattle.std.specs.Prelude.{is_some, ◌≢◌}
 use Rattle.std.specs.Ordering.{is_eq}
-use Rattle.std.specs.List.{flat_map}
-use Rattle.std.specs.List.Sorted.{IsStrictlySortedBy}
+use Rattle.std.specs.Option.{unwrap_or}
+use Rattle.std.specs.List.{filter, flat_map}
+use Rattle.std.specs.List.Sorted.{IsStrictlySortedBy, IsPermutation}
 use Rattle.std.specs.Map.{lookup, keys_of}
-use Rattle.std.specs.BTreeMap.{is_at}
+use Rattle.std.specs.BTreeMap.{insert_entry, is_at}
 use Rattle.std.proofs.lemmas.Bool.{false≢true}
-use Rattle.std.proofs.lemmas.Map.Entries.{lookup_head, lookup_tail}
+use Rattle.std.proofs.lemmas.List.Elements.{filter_agree}
+use Rattle.std.proofs.lemmas.Map.Entries.{lookup_head, lookup_tail, lookup-filter-keys}
 use Rattle.std.proofs.lemmas.Map.Keys.{sorted_tail}
-use Rattle.simm_kinds.specs.declared.row.CrifRow.{CrifRow}
-use Rattle.simm_kinds.specs.Key.{Key}
+use Rattle.simm_kinds.specs.declared.key.FactorKey.{FactorKey}
 use Rattle.simm_kinds.specs.Order.{same_key, key_cmp}
-use Rattle.simm_kinds.proofs.Orders.{key_total, exact_keys}
 use Rattle.simm_rules.specs.Sums.{different, put_in}
+use Rattle.simm_rules.specs.Net.{Sensitivity}
 use Rattle.factor_book.specs.declared.place.Place.{Place}
 use Rattle.factor_book.specs.declared.holding.Holding.{Holding}
+use Rattle.factor_book.specs.contracts.place.PlaceOrd.TheImpl as place_order
 use Rattle.factor_book.specs.Place.{place_of, place_cmp}
-use Rattle.factor_book.specs.Factors.{factors_of}
-use Rattle.factor_book.specs.Filing.{found, found_in, StandAt, AreFiled, in_order, as_factor, factors_in}
-use Rattle.factor_book.proofs.Keys.{one_key}
-use Rattle.factor_book.proofs.Standing.{place_total, same_place, own_place}
-use Rattle.factor_book.proofs.Sorting.{lookup-insert_entry, keys-insert_entry, different_ascends, same_entries, past_head, some_not_none}
-use Rattle.factor_book.proofs.Held.{come_to, pairs_of, pairs_ascend, lookup-pairs_of, factors-pairs, pairs_from}
+use Rattle.factor_book.specs.Factors.{factors_in}
+use Rattle.factor_book.specs.Places.{stands_at, factors_at, places_of, by_place}
+use Rattle.factor_book.specs.declared.filing.Left.{Left}
+use Rattle.factor_book.specs.Holdings.{shrunk}
+use Rattle.factor_book.specs.Filing.{found, found_in, StandAt, FillPlace, AreFiled, in_order, gathered, Leaves, TakesAt}
+use Rattle.simm_kinds.proofs.Orders.{key_total, exact_keys}
+use Rattle.factor_book.proofs.Keys.{same_key_refl, same_key_sym, one_key}
+use Rattle.factor_book.proofs.Standing.{place_total, exact_places, one_place, own_place, tied_place, at_place, found_place, updated_place, ordered_places}
+use Rattle.factor_book.proofs.Sorting.{one_unless, lookup-insert_entry, keys-insert_entry, length-insert_entry, different_ascends, put_ascends, any_different, same_entries, past_head, some_not_none, filter_ascends, keys-graph, lookup-graph}
+use Rattle.factor_book.proofs.Grouping.{any_is, any-filter, grouped_all}
+use Rattle.factor_book.proofs.Held.{come_to, lookup-factors, factors_from}
 
 -- ---- in order
 
-pub lookup-in_order : (q : Key) (es : List (Key × Holding)) → lookup (same_key q) (in_order es) ≡ lookup (same_key q) es
+pub lookup-in_order : (q : FactorKey) (es : List (FactorKey × Holding)) → lookup (same_key q) (in_order es) ≡ lookup (same_key q) es
 lookup-in_order q [] = refl
 lookup-in_order q (e ∷ es) = lookup-insert_entry key_total q e.0 e.1 (in_order es) ∙ ap (λ z. cond (same_key q e.0) (Some e.1) z) (lookup-in_order q es)
 
-keys-in_order : (es : List (Key × Holding)) → keys_of (in_order es) ≡ different key_cmp (keys_of es)
+keys-in_order : (es : List (FactorKey × Holding)) → keys_of (in_order es) ≡ different key_cmp (keys_of es)
 keys-in_order [] = refl
 keys-in_order (e ∷ es) = keys-insert_entry key_total e.0 e.1 (in_order es) ∙ ap (put_in key_cmp e.0) (keys-in_order es)
 
-pub order_ascends : (es : List (Key × Holding)) → IsStrictlySortedBy key_cmp (keys_of (in_order es))
+pub order_ascends : (es : List (FactorKey × Holding)) → IsStrictlySortedBy key_cmp (keys_of (in_order es))
 order_ascends es = subst (IsStrictlySortedBy key_cmp) (sym (keys-in_order es)) (different_ascends key_cmp key_total (keys_of es))
 
 -- ---- from places to the whole list
 
-lookup-none_before : (test : Key → Bool) (xs ys : List (Key × Holding)) → lookup test xs ≡ None → lookup test (xs ++ ys) ≡ lookup test ys
+lookup-none_before : (test : FactorKey → Bool) (xs ys : List (FactorKey × Holding)) → lookup test xs ≡ None → lookup test (xs ++ ys) ≡ lookup test ys
 lookup-none_before test [] ys h = refl
 lookup-none_before test (x ∷ xs) ys h = by (test x.0) h (lookup-none_before test xs ys)
   where
@@ -46,29 +54,29 @@ lookup-none_before test (x ∷ xs) ys h = by (test x.0) h (lookup-none_before te
     by true e i = absurd (some_not_none x.1 e)
     by false e i = i e
 
-lookup-none_after : (test : Key → Bool) (xs ys : List (Key × Holding)) → lookup test ys ≡ None → lookup test (xs ++ ys) ≡ lookup test xs
+lookup-none_after : (test : FactorKey → Bool) (xs ys : List (FactorKey × Holding)) → lookup test ys ≡ None → lookup test (xs ++ ys) ≡ lookup test xs
 lookup-none_after test [] ys h = h
 lookup-none_after test (x ∷ xs) ys h = ap (λ z. cond (test x.0) (Some x.1) z) (lookup-none_after test xs ys h)
 
-filed_head : (e : Place × List (Key × Holding)) (es : List (Place × List (Key × Holding))) → AreFiled (e ∷ es) → StandAt e.0 e.1
-filed_head e es f = subst (λ (o : Option (List (Key × Holding))). IfSome o (StandAt e.0)) (lookup_head (is_at (place_cmp e.0)) e es (own_place e.0)) (f.placed e.0)
+filed_head : (e : Place × List (FactorKey × Holding)) (es : List (Place × List (FactorKey × Holding))) → AreFiled (e ∷ es) → FillPlace e.0 e.1
+filed_head e es f = subst (λ (o : Option (List (FactorKey × Holding))). IfSome o (FillPlace e.0)) (lookup_head (is_at (place_cmp e.0)) e es (own_place e.0)) (f.placed e.0)
 
-filed_tail : (e : Place × List (Key × Holding)) (es : List (Place × List (Key × Holding))) → AreFiled (e ∷ es) → AreFiled es
+filed_tail : (e : Place × List (FactorKey × Holding)) (es : List (Place × List (FactorKey × Holding))) → AreFiled (e ∷ es) → AreFiled es
 filed_tail e es f = record {
   ordered = sorted_tail place_cmp e.0 (keys_of es) f.ordered;
   placed = λ place. by place (is_eq (place_cmp place e.0)) refl;
 }
   where
-    by : (place : Place) (t : Bool) → is_eq (place_cmp place e.0) ≡ t → IfSome (lookup (is_at (place_cmp place)) es) (StandAt place)
-    by place true h = subst (λ (o : Option (List (Key × Holding))). IfSome o (StandAt place)) (sym (past_head place_total place e es f.ordered h)) tt
-    by place false h = subst (λ (o : Option (List (Key × Holding))). IfSome o (StandAt place)) (lookup_tail (is_at (place_cmp place)) e es h) (f.placed place)
+    by : (place : Place) (t : Bool) → is_eq (place_cmp place e.0) ≡ t → IfSome (lookup (is_at (place_cmp place)) es) (FillPlace place)
+    by place true h = subst (λ (o : Option (List (FactorKey × Holding))). IfSome o (FillPlace place)) (sym (past_head place_total place e es f.ordered h)) tt
+    by place false h = subst (λ (o : Option (List (FactorKey × Holding))). IfSome o (FillPlace place)) (lookup_tail (is_at (place_cmp place)) e es h) (f.placed place)
 
 -- a key of another place isn't there
-not_there : (k : Key) (place : Place) (factors : List (Key × Holding)) → StandAt place factors → (place_of k ≡ place → ⊥) → (o : Option Holding) → lookup (same_key k) factors ≡ o → o ≡ None
+not_there : (k : FactorKey) (place : Place) (factors : List (FactorKey × Holding)) → StandAt place factors → (place_of k ≡ place → ⊥) → (o : Option Holding) → lookup (same_key k) factors ≡ o → o ≡ None
 not_there k place factors s other None e = refl
-not_there k place factors s other (Some h) e = absurd (other (s k (subst IsSome (sym e) refl)))
+not_there k place factors s other (Some h) e = absurd (other (s.placed k (subst IsSome (sym e) refl)))
 
-pub lookup-flat : (filed : List (Place × List (Key × Holding))) (k : Key) → AreFiled filed → lookup (same_key k) (flat_map (λ e. e.1) filed) ≡ found filed k
+pub lookup-flat : (filed : List (Place × List (FactorKey × Holding))) (k : FactorKey) → AreFiled filed → lookup (same_key k) (flat_map (λ e. e.1) filed) ≡ found filed k
 lookup-flat [] k f = refl
 lookup-flat (e ∷ es) k f = by (is_eq (place_cmp (place_of k) e.0)) refl (lookup-flat es k (filed_tail e es f))
   where
@@ -78,111 +86,258 @@ lookup-flat (e ∷ es) k f = by (is_eq (place_cmp (place_of k) e.0)) refl (looku
         ∙ sym (ap (λ o. found_in o k) (lookup_head (is_at (place_cmp (place_of k))) e es h))
     by false h i =
         lookup-none_before (same_key k) e.1 (flat_map (λ x. x.1) es)
-        (not_there k e.0 e.1 (filed_head e es f) (λ same. false≢true (sym h ∙ ap (λ p. is_eq (place_cmp p e.0)) same ∙ own_place e.0)) (lookup (same_key k) e.1) refl)
+        (not_there k e.0 e.1 (filed_head e es f).stand (λ same. false≢true (sym h ∙ ap (λ p. is_eq (place_cmp p e.0)) same ∙ own_place e.0)) (lookup (same_key k) e.1) refl)
         ∙ i ∙ sym (ap (λ o. found_in o k) (lookup_tail (is_at (place_cmp (place_of k))) e es h))
 
--- ---- factors that are those of rows
+pub lookup-gathered : (filed : List (Place × List (FactorKey × Holding))) (k : FactorKey) → AreFiled filed → lookup (same_key k) (gathered filed) ≡ found filed k
+lookup-gathered filed k f = lookup-in_order k (flat_map (λ e. e.1) filed) ∙ lookup-flat filed k f
 
-pub found-from : (filed : List (Place × List (Key × Holding))) (held : List CrifRow) → AreFiled filed → factors_in filed ≡ factors_of held → (k : Key) → found filed k ≡ come_to held k
-found-from filed held f e k =
-    let pairs : in_order (flat_map (λ x. x.1) filed) ≡ pairs_of held = pairs_from (in_order (flat_map (λ x. x.1) filed)) (pairs_of held) (e ∙ sym (factors-pairs held)) in
-    sym (lookup-flat filed k f) ∙ sym (lookup-in_order k (flat_map (λ x. x.1) filed)) ∙ ap (lookup (same_key k)) pairs ∙ lookup-pairs_of held k
+-- ---- factors that are those of sensitivities
 
-pub factors-from : (filed : List (Place × List (Key × Holding))) (held : List CrifRow) → AreFiled filed → ((k : Key) → found filed k ≡ come_to held k) → factors_in filed ≡ factors_of held
-factors-from filed held f e =
-    ap (map as_factor) (same_entries key_total exact_keys (in_order (flat_map (λ x. x.1) filed)) (pairs_of held) (order_ascends (flat_map (λ x. x.1) filed)) (pairs_ascend held)
-    (λ k. lookup-in_order k (flat_map (λ x. x.1) filed) ∙ lookup-flat filed k f ∙ e k ∙ sym (lookup-pairs_of held k)))
-    ∙ factors-pairs held
+pub found-from : (filed : List (Place × List (FactorKey × Holding))) (ss : List Sensitivity) → AreFiled filed → gathered filed ≡ factors_in ss → (k : FactorKey) → found filed k ≡ come_to ss k
+found-from filed ss f e k = sym (lookup-gathered filed k f) ∙ ap (lookup (same_key k)) e ∙ lookup-factors ss k
+
+pub gathered-from : (filed : List (Place × List (FactorKey × Holding))) (ss : List Sensitivity) → AreFiled filed → ((k : FactorKey) → found filed k ≡ come_to ss k) → gathered filed ≡ factors_in ss
+gathered-from filed ss f e = factors_from (gathered filed) ss (order_ascends (flat_map (λ x. x.1) filed)) (λ k. lookup-gathered filed k f ∙ e k)
+
+-- ---- those of a place
+
+-- by the order of places
+at_places : (place : Place) (fs : List (FactorKey × Holding)) → factors_at place fs ≡ filter (λ x. is_eq (place_cmp place (place_of x.0))) fs
+at_places place fs = filter_agree (λ (x : FactorKey × Holding). stands_at place x.0) (λ x. is_eq (place_cmp place (place_of x.0))) (λ x. at_place place x.0) fs
+
+module _ (filed : List (Place × List (FactorKey × Holding))) (f : AreFiled filed) (place : Place) where
+  found-unwrapped : (o : Option (List (FactorKey × Holding))) (k : FactorKey) → lookup (same_key k) (unwrap_or o []) ≡ found_in o k
+  found-unwrapped None k = refl
+  found-unwrapped (Some factors) k = refl
+
+  ordered_none : IsStrictlySortedBy key_cmp (keys_of {K = FactorKey} {X = Holding} [])
+  unfolding IsStrictlySortedBy
+  ordered_none = tt
+
+  ordered_at : (o : Option (List (FactorKey × Holding))) → IfSome o (FillPlace place) → IsStrictlySortedBy key_cmp (keys_of (unwrap_or o []))
+  ordered_at None h = ordered_none
+  ordered_at (Some factors) h = (h.stand).ordered
+
+  other_place : (o : Option (List (FactorKey × Holding))) (k : FactorKey) → IfSome o (FillPlace place) → (place_of k ≡ place → ⊥) → None ≡ found_in o k
+  other_place None k h other = refl
+  other_place (Some factors) k h other = sym (not_there k place factors h.stand other (lookup (same_key k) factors) refl)
+
+  found_at : (k : FactorKey) (t : Bool) → stands_at place k ≡ t → cond t (found filed k) None ≡ found_in (lookup (is_at (place_cmp place)) filed) k
+  found_at k true e = ap (λ p. found_in (lookup (is_at (place_cmp p)) filed) k) (sym (one_place place (place_of k) (sym (at_place place k) ∙ e)))
+  found_at k false e =
+      other_place (lookup (is_at (place_cmp place)) filed) k (f.placed place)
+      (λ same. false≢true (sym e ∙ at_place place k ∙ ap (λ p. is_eq (place_cmp place p)) same ∙ own_place place))
+
+  -- what stands at a place are the factors of the whole list that have it
+  pub standing : factors_at place (gathered filed) ≡ unwrap_or (lookup (is_at (place_cmp place)) filed) []
+  standing =
+      same_entries key_total exact_keys (factors_at place (gathered filed)) (unwrap_or (lookup (is_at (place_cmp place)) filed) [])
+      (filter_ascends key_cmp (stands_at place) (gathered filed) (order_ascends (flat_map (λ x. x.1) filed)))
+      (ordered_at (lookup (is_at (place_cmp place)) filed) (f.placed place))
+      (λ k. lookup-filter-keys (same_key k) (stands_at place) (stands_at place k) (λ l e. ap (stands_at place) (sym (one_key k l e))) (gathered filed)
+      ∙ ap (λ o. cond (stands_at place k) o None) (lookup-gathered filed k f)
+      ∙ found_at k (stands_at place k) refl
+      ∙ sym (found-unwrapped (lookup (is_at (place_cmp place)) filed) k))
+
+  filled : (o : Option (List (FactorKey × Holding))) → IfSome o (FillPlace place) → o ≡ cond (any_is (unwrap_or o [])) (Some (unwrap_or o [])) None
+  filled None h = refl
+  filled (Some []) h = absurd (h.some refl)
+  filled (Some (x ∷ xs)) h = refl
+
+  -- a place has an entry where a factor has it
+  pub entry_at : lookup (is_at (place_cmp place)) filed ≡ lookup (is_at (place_cmp place)) (by_place (gathered filed))
+  entry_at =
+      let fs : List (FactorKey × Holding) = gathered filed in
+      filled (lookup (is_at (place_cmp place)) filed) (f.placed place)
+      ∙ ap (λ xs. cond (any_is xs) (Some xs) None) (sym standing)
+      ∙ ap (λ t. cond t (Some (factors_at place fs)) None)
+      (ap any_is (at_places place fs) ∙ sym (any_different place_cmp (is_at (place_cmp place)) (tied_place place) (map (λ x. place_of x.0) fs) ∙ any-filter (is_at (place_cmp place)) (λ x. place_of x.0) fs))
+      ∙ sym (lookup-graph (λ p. factors_at p fs) (is_at (place_cmp place)) place (one_place place) (places_of fs))
+
+places_ascend : (fs : List (FactorKey × Holding)) → IsStrictlySortedBy place_cmp (keys_of (by_place fs))
+places_ascend fs = subst (IsStrictlySortedBy place_cmp) (sym (keys-graph (λ p. factors_at p fs) (places_of fs))) (different_ascends place_cmp place_total (map (λ x. place_of x.0) fs))
+
+-- the entries are the factors by place
+pub entries_are : (filed : List (Place × List (FactorKey × Holding))) → AreFiled filed → filed ≡ by_place (gathered filed)
+entries_are filed f = same_entries place_total exact_places filed (by_place (gathered filed)) f.ordered (places_ascend (gathered filed)) (λ place. entry_at filed f place)
+
+-- each factor stands at one place
+pub all_places : (fs : List (FactorKey × Holding)) → IsPermutation fs (flat_map (λ e. e.1) (by_place fs))
+all_places fs =
+    subst (λ (es : List (Place × List (FactorKey × Holding))). IsPermutation fs (flat_map (λ e. e.1) es)) (sym (by_order (places_of fs)))
+    (grouped_all place_cmp place_total (λ x. place_of x.0) (places_of fs) fs (different_ascends place_cmp place_total (map (λ x. place_of x.0) fs))
+    (λ x. any_different place_cmp (λ q. is_eq (place_cmp q (place_of x.0))) (λ p r e. ap is_eq (place_total.congr p r (place_of x.0) e)) (map (λ y. place_of y.0) fs)))
+  where
+    by_order : (ps : List Place) → map (λ p. (p, factors_at p fs)) ps ≡ map {B = Place × List (FactorKey × Holding)} (λ p. (p, filter (λ x. is_eq (place_cmp p (place_of x.0))) fs)) ps
+    by_order [] = refl
+    by_order (p ∷ ps) = λ i. (p, at_places p fs i) ∷ by_order ps i
 
 -- ---- one place is written
 
-pub filed_update : (old new : List (Place × List (Key × Holding))) (place : Place) (w : Option (List (Key × Holding))) → AreFiled old → IsStrictlySortedBy place_cmp (keys_of new)
-    → ((q : Place) → lookup (is_at (place_cmp q)) new ≡ cond (is_at (place_cmp place) q) w (lookup (is_at (place_cmp q)) old)) → IfSome w (StandAt place) → AreFiled new
+pub filed_update : (old new : List (Place × List (FactorKey × Holding))) (place : Place) (w : Option (List (FactorKey × Holding))) → AreFiled old → IsStrictlySortedBy place_cmp (keys_of new)
+    → ((q : Place) → lookup (is_at (place_cmp q)) new ≡ cond (is_at (place_cmp place) q) w (lookup (is_at (place_cmp q)) old)) → IfSome w (FillPlace place) → AreFiled new
 filed_update old new place w f ordered update stand = record {
   ordered = ordered;
-  placed = λ q. subst (λ (o : Option (List (Key × Holding))). IfSome o (StandAt q)) (sym (update q)) (by q (is_eq (place_cmp place q)) refl);
+  placed = λ q. subst (λ (o : Option (List (FactorKey × Holding))). IfSome o (FillPlace q)) (sym (update q)) (by q (is_eq (place_cmp place q)) refl);
 }
   where
-    by : (q : Place) (t : Bool) → is_eq (place_cmp place q) ≡ t → IfSome (cond t w (lookup (is_at (place_cmp q)) old)) (StandAt q)
-    by q true e = subst (λ p. IfSome w (StandAt p)) (same_place place q e) stand
+    by : (q : Place) (t : Bool) → is_eq (place_cmp place q) ≡ t → IfSome (cond t w (lookup (is_at (place_cmp q)) old)) (FillPlace q)
+    by q true e = subst (λ p. IfSome w (FillPlace p)) (one_place place q e) stand
     by q false e = f.placed q
 
 -- v was put at the key in its place, which had these factors
-pub found_update : (old new : List (Place × List (Key × Holding))) (key : Key) (factors now : List (Key × Holding)) (v : Option Holding)
-    → ((q : Place) → lookup (is_at (place_cmp q)) new ≡ cond (is_at (place_cmp (place_of key)) q) (Some now) (lookup (is_at (place_cmp q)) old))
-    → ((k : Key) → found_in (lookup (is_at (place_cmp (place_of key))) old) k ≡ lookup (same_key k) factors)
-    → ((k : Key) → lookup (same_key k) now ≡ cond (same_key key k) v (lookup (same_key k) factors))
-    → (k : Key) → found new k ≡ cond (same_key key k) v (found old k)
-found_update old new key factors now v update had put k =
+pub found_update : (old new : List (Place × List (FactorKey × Holding))) (key : FactorKey) (now : Option (List (FactorKey × Holding))) (v : Option Holding)
+    → ((q : Place) → lookup (is_at (place_cmp q)) new ≡ cond (is_at (place_cmp (place_of key)) q) now (lookup (is_at (place_cmp q)) old))
+    → ((k : FactorKey) → found_in now k ≡ cond (same_key key k) v (found_in (lookup (is_at (place_cmp (place_of key))) old) k))
+    → (k : FactorKey) → found new k ≡ cond (same_key key k) v (found old k)
+found_update old new key now v update put k =
     ap (λ o. found_in o k) (update (place_of k)) ∙ by (is_eq (place_cmp (place_of key) (place_of k))) refl
   where
     apart : (s : Bool) → same_key key k ≡ s → is_eq (place_cmp (place_of key) (place_of k)) ≡ false → found old k ≡ cond s v (found old k)
     apart true e h = absurd (false≢true (sym h ∙ ap (λ l. is_eq (place_cmp (place_of key) (place_of l))) (sym (one_key key k e)) ∙ own_place (place_of key)))
     apart false e h = refl
 
-    by : (t : Bool) → is_eq (place_cmp (place_of key) (place_of k)) ≡ t → found_in (cond t (Some now) (lookup (is_at (place_cmp (place_of k))) old)) k ≡ cond (same_key key k) v (found old k)
+    by : (t : Bool) → is_eq (place_cmp (place_of key) (place_of k)) ≡ t → found_in (cond t now (lookup (is_at (place_cmp (place_of k))) old)) k ≡ cond (same_key key k) v (found old k)
     by true e =
-        put k ∙ ap (λ z. cond (same_key key k) v z) (sym (had k) ∙ ap (λ p. found_in (lookup (is_at (place_cmp p)) old) k) (same_place (place_of key) (place_of k) e))
+        put k ∙ ap (λ p. cond (same_key key k) v (found_in (lookup (is_at (place_cmp p)) old) k)) (one_place (place_of key) (place_of k) e)
     by false e = apart (same_key key k) refl e
 
--- the factors of a place stand in it still when one of its keys is written
-pub stand_update : (key : Key) (factors now : List (Key × Holding)) (v : Option Holding) → StandAt (place_of key) factors
-    → ((k : Key) → lookup (same_key k) now ≡ cond (same_key key k) v (lookup (same_key k) factors)) → StandAt (place_of key) now
-stand_update key factors now v s put k there = by (same_key key k) refl (subst IsSome (put k) there)
-  where
-    by : (t : Bool) → same_key key k ≡ t → IsSome (cond t v (lookup (same_key k) factors)) → place_of k ≡ place_of key
-    by true e h = ap place_of (sym (one_key key k e))
-    by false e h = s k h
+-- a list in which a key is found isn't empty
+pub some_found : (k : FactorKey) (factors : List (FactorKey × Holding)) (h : Holding) → lookup (same_key k) factors ≡ Some h → factors ≢ []
+some_found k factors h e none = some_not_none h (sym e ∙ ap (lookup (same_key k)) none)
 
-pub empty_stand : (place : Place) → StandAt place []
-empty_stand place k h = absurd (false≢true h)
+-- the factors of a place stand in it still when one of its keys is written
+pub stand_update : (key : FactorKey) (factors now : List (FactorKey × Holding)) (v : Option Holding) → StandAt (place_of key) factors → IsStrictlySortedBy key_cmp (keys_of now)
+    → ((k : FactorKey) → lookup (same_key k) now ≡ cond (same_key key k) v (lookup (same_key k) factors)) → StandAt (place_of key) now
+stand_update key factors now v s ordered put = record { ordered = ordered; placed = λ k there. by k (same_key key k) refl (subst IsSome (put k) there) }
+  where
+    by : (k : FactorKey) (t : Bool) → same_key key k ≡ t → IsSome (cond t v (lookup (same_key k) factors)) → place_of k ≡ place_of key
+    by k true e h = ap place_of (sym (one_key key k e))
+    by k false e h = s.placed k h
+
+-- a place that had factors still has one, when one of its keys is written
+pub fill_update : (key : FactorKey) (factors now : List (FactorKey × Holding)) (v : Holding) → StandAt (place_of key) factors → IsStrictlySortedBy key_cmp (keys_of now)
+    → ((k : FactorKey) → lookup (same_key k) now ≡ cond (same_key key k) (Some v) (lookup (same_key k) factors)) → FillPlace (place_of key) now
+fill_update key factors now v s ordered put = record {
+  stand = stand_update key factors now (Some v) s ordered put;
+  some = some_found key now v (put key ∙ ap (λ t. cond t (Some v) (lookup (same_key key) factors)) (same_key_refl key));
+}
+
+-- what stands at a key's place
+pub filled_at : (filed : List (Place × List (FactorKey × Holding))) (place : Place) (factors : List (FactorKey × Holding)) → AreFiled filed → Some factors ≡ lookup (is_at (place_cmp place)) filed → FillPlace place factors
+filled_at filed place factors f at = subst (λ (o : Option (List (FactorKey × Holding))). IfSome o (FillPlace place)) (sym at) (f.placed place)
+
+-- nothing was written at a place
+pub found_same : (old new : List (Place × List (FactorKey × Holding))) (place : Place) (factors now : List (FactorKey × Holding)) → Some factors ≡ lookup (is_at (place_cmp place)) old
+    → ((q : Place) → lookup (is_at (place_cmp q)) new ≡ cond (is_at (place_cmp place) q) (Some now) (lookup (is_at (place_cmp q)) old)) → now ≡ factors → (k : FactorKey) → found new k ≡ found old k
+found_same old new place factors now at update same k = ap (λ o. found_in o k) (update (place_of k) ∙ by (is_eq (place_cmp place (place_of k))) refl)
+  where
+    by : (t : Bool) → is_eq (place_cmp place (place_of k)) ≡ t → cond t (Some now) (lookup (is_at (place_cmp (place_of k))) old) ≡ lookup (is_at (place_cmp (place_of k))) old
+    by true e = ap Some same ∙ at ∙ ap (λ q. lookup (is_at (place_cmp q)) old) (one_place place (place_of k) e)
+    by false e = refl
 
 none_filed : AreFiled []
 unfolding IsStrictlySortedBy
 none_filed = record { ordered = tt; placed = λ place. tt }
 
-pub empty_filed : (filed : List (Place × List (Key × Holding))) → filed ≡ [] → AreFiled filed
+pub empty_filed : (filed : List (Place × List (FactorKey × Holding))) → filed ≡ [] → AreFiled filed
 empty_filed filed e = subst AreFiled (sym e) none_filed
 
--- ---- what a place that has factors keeps when one of its keys is written
+-- ---- a sensitivity was added or taken at its place
 
-pub found_at : (old : List (Place × List (Key × Holding))) (key : Key) (factors : List (Key × Holding)) → Some factors ≡ lookup (is_at (place_cmp (place_of key))) old → lookup (same_key key) factors ≡ found old key
-found_at old key factors at = ap (λ o. found_in o key) at
+module _ (old : List (Place × List (FactorKey × Holding))) (key : FactorKey) (had : List (FactorKey × Holding)) (at : Some had ≡ lookup (is_at (place_cmp (place_of key))) old) where
+  pub found_had : lookup (same_key key) had ≡ found old key
+  found_had = ap (λ o. found_in o key) at
 
-pub filed_written : (old new : List (Place × List (Key × Holding))) (key : Key) (factors now : List (Key × Holding)) (v : Option Holding) → AreFiled old → Some factors ≡ lookup (is_at (place_cmp (place_of key))) old → IsStrictlySortedBy place_cmp (keys_of new)
-    → ((q : Place) → lookup (is_at (place_cmp q)) new ≡ cond (is_at (place_cmp (place_of key)) q) (Some now) (lookup (is_at (place_cmp q)) old))
-    → ((k : Key) → lookup (same_key k) now ≡ cond (same_key key k) v (lookup (same_key k) factors)) → AreFiled new
-filed_written old new key factors now v f at ordered update put =
-    filed_update old new (place_of key) (Some now) f ordered update
-    (stand_update key factors now v (subst (λ (o : Option (List (Key × Holding))). IfSome o (StandAt (place_of key))) (sym at) (f.placed (place_of key))) put)
+  -- what was written over the factors of the place was written over what was found
+  pub put_had : (f : Option Holding → Option Holding) (now : List (FactorKey × Holding)) → ((k : FactorKey) → lookup (same_key k) now ≡ cond (same_key key k) (f (lookup (same_key key) had)) (lookup (same_key k) had))
+      → (k : FactorKey) → lookup (same_key k) now ≡ cond (same_key key k) (f (found old key)) (found_in (lookup (is_at (place_cmp (place_of key))) old) k)
+  put_had f now h k = h k ∙ ap (λ o. cond (same_key key k) (f (found_in o key)) (found_in o k)) at
 
-pub found_written : (old new : List (Place × List (Key × Holding))) (key : Key) (factors now : List (Key × Holding)) (v : Option Holding) → Some factors ≡ lookup (is_at (place_cmp (place_of key))) old
-    → ((q : Place) → lookup (is_at (place_cmp q)) new ≡ cond (is_at (place_cmp (place_of key)) q) (Some now) (lookup (is_at (place_cmp q)) old))
-    → ((k : Key) → lookup (same_key k) now ≡ cond (same_key key k) v (lookup (same_key k) factors)) → (k : Key) → found new k ≡ cond (same_key key k) v (found old k)
-found_written old new key factors now v at update put = found_update old new key factors now v update (λ k. ap (λ o. found_in o k) (sym at)) put
+  pub stand_had : AreFiled old → StandAt (place_of key) had
+  stand_had f = (filled_at old (place_of key) had f at).stand
 
-pub filed_same : (old new : List (Place × List (Key × Holding))) (place : Place) (factors now : List (Key × Holding)) → AreFiled old → Some factors ≡ lookup (is_at (place_cmp place)) old → IsStrictlySortedBy place_cmp (keys_of new)
-    → ((q : Place) → lookup (is_at (place_cmp q)) new ≡ cond (is_at (place_cmp place) q) (Some now) (lookup (is_at (place_cmp q)) old)) → now ≡ factors → AreFiled new
-filed_same old new place factors now f at ordered update same =
-    filed_update old new place (Some now) f ordered update
-    (subst (StandAt place) (sym same) (subst (λ (o : Option (List (Key × Holding))). IfSome o (StandAt place)) (sym at) (f.placed place)))
+-- the place had nothing
+pub put_first : (old : List (Place × List (FactorKey × Holding))) (key : FactorKey) (f : Option Holding → Option Holding) (empty now : List (FactorKey × Holding)) → None ≡ lookup (is_at (place_cmp (place_of key))) old → empty ≡ []
+    → ((k : FactorKey) → lookup (same_key k) now ≡ cond (same_key key k) (f (lookup (same_key key) empty)) (lookup (same_key k) empty))
+    → (k : FactorKey) → lookup (same_key k) now ≡ cond (same_key key k) (f (found old key)) (found_in (lookup (is_at (place_cmp (place_of key))) old) k)
+put_first old key f empty now at none h k =
+    h k ∙ ap (λ es. cond (same_key key k) (f (lookup (same_key key) es)) (lookup (same_key k) es)) none
+    ∙ ap (λ o. cond (same_key key k) (f (found_in o key)) (found_in o k)) at
 
-pub found_same : (old new : List (Place × List (Key × Holding))) (place : Place) (factors now : List (Key × Holding)) → Some factors ≡ lookup (is_at (place_cmp place)) old
-    → ((q : Place) → lookup (is_at (place_cmp q)) new ≡ cond (is_at (place_cmp place) q) (Some now) (lookup (is_at (place_cmp q)) old)) → now ≡ factors → (k : Key) → found new k ≡ found old k
-found_same old new place factors now at update same k = ap (λ o. found_in o k) (update (place_of k) ∙ by (is_eq (place_cmp place (place_of k))) refl)
-  where
-    by : (t : Bool) → is_eq (place_cmp place (place_of k)) ≡ t → cond t (Some now) (lookup (is_at (place_cmp (place_of k))) old) ≡ lookup (is_at (place_cmp (place_of k))) old
-    by true e = ap Some same ∙ at ∙ ap (λ q. lookup (is_at (place_cmp q)) old) (same_place place (place_of k) e)
-    by false e = refl
+stand_none : (place : Place) → StandAt place []
+unfolding IsStrictlySortedBy
+stand_none place = record { ordered = tt; placed = λ k h. absurd (false≢true h) }
 
--- a place without factors goes
-pub found_dropped : (old new : List (Place × List (Key × Holding))) (place : Place) → Some [] ≡ lookup (is_at (place_cmp place)) old
-    → ((q : Place) → lookup (is_at (place_cmp q)) new ≡ cond (is_at (place_cmp place) q) None (lookup (is_at (place_cmp q)) old)) → (k : Key) → found new k ≡ found old k
-found_dropped old new place at update k = ap (λ o. found_in o k) (update (place_of k)) ∙ by (is_eq (place_cmp place (place_of k))) refl
-  where
-    by : (t : Bool) → is_eq (place_cmp place (place_of k)) ≡ t → found_in (cond t None (lookup (is_at (place_cmp (place_of k))) old)) k ≡ found old k
-    by true e = ap (λ o. found_in o k) at ∙ ap (λ q. found_in (lookup (is_at (place_cmp q)) old) k) (same_place place (place_of k) e)
-    by false e = refl
+pub stand_empty : (place : Place) (empty : List (FactorKey × Holding)) → empty ≡ [] → StandAt place empty
+stand_empty place empty none = subst (StandAt place) (sym none) (stand_none place)
+
+over_cond : (t : Bool) (x y z : Option (List (FactorKey × Holding))) → cond t x (cond t y z) ≡ cond t x z
+over_cond true x y z = refl
+over_cond false x y z = refl
+
+-- a sensitivity was taken of the factors that its place had, by what the map says
+pub takes : (old new : List (Place × List (FactorKey × Holding))) (place : Place) (key : FactorKey) (amount : ℤ) (had now : List (FactorKey × Holding)) (rest : Left) → AreFiled old → place ≡ place_of key
+    → Some had ≡ lookup (is_at ((place_order.cmp-value).it place)) old → IsStrictlySortedBy (place_order.cmp-value).it (keys_of new)
+    → ((q : Place) → lookup (is_at ((place_order.cmp-value).it q)) new ≡ cond (is_at ((place_order.cmp-value).it place) q) (Some now) (lookup (is_at ((place_order.cmp-value).it q)) old))
+    → IsStrictlySortedBy key_cmp (keys_of now) → ((k : FactorKey) → lookup (same_key k) now ≡ cond (same_key key k) (shrunk (lookup (same_key key) had) amount) (lookup (same_key k) had))
+    → Leaves rest (shrunk (lookup (same_key key) had) amount) now → TakesAt old new key amount rest
+takes old new place key amount had now rest f same value ordered update ascends put leaves =
+    let at : Some had ≡ lookup (is_at (place_cmp (place_of key))) old = found_place old place (place_of key) (Some had) same value in
+    record {
+      factors = now;
+      ordered = ordered_places new ordered;
+      update = updated_place old new place (place_of key) (Some now) same update;
+      stand = stand_update key had now (shrunk (lookup (same_key key) had) amount) (stand_had old key had at f) ascends put;
+      taken = put_had old key had at (λ o. shrunk o amount) now put;
+      leaves = subst (λ (o : Option Holding). Leaves rest (shrunk o amount) now) (found_had old key had at) leaves;
+    }
+
+module _ (old mid : List (Place × List (FactorKey × Holding))) (key : FactorKey) (amount : ℤ) (rest : Left) (f : AreFiled old) (t : TakesAt old mid key amount rest) where
+  -- the place stays, as it has a factor
+  pub filed_left : t.factors ≢ [] → AreFiled mid
+  filed_left some = filed_update old mid (place_of key) (Some t.factors) f t.ordered t.update (record { stand = t.stand; some = some })
+
+  pub found_left : (k : FactorKey) → found mid k ≡ cond (same_key key k) (shrunk (found old key) amount) (found old k)
+  found_left = found_update old mid key (Some t.factors) (shrunk (found old key) amount) t.update t.taken
+
+  pub some_left : IsSome (shrunk (found old key) amount) → t.factors ≢ []
+  some_left is = by (shrunk (found old key) amount) is (t.taken key ∙ ap (λ b. cond b (shrunk (found old key) amount) (found old key)) (same_key_refl key))
+    where
+      by : (o : Option Holding) → IsSome o → lookup (same_key key) t.factors ≡ o → t.factors ≢ []
+      by None i e = absurd (false≢true i)
+      by (Some h) i e = some_found key t.factors h e
+
+  -- the place goes
+  module _ (new : List (Place × List (FactorKey × Holding)))
+      (update : (q : Place) → lookup (is_at (place_cmp q)) new ≡ cond (is_at (place_cmp (place_of key)) q) None (lookup (is_at (place_cmp q)) mid)) where
+    dropped : (q : Place) → lookup (is_at (place_cmp q)) new ≡ cond (is_at (place_cmp (place_of key)) q) None (lookup (is_at (place_cmp q)) old)
+    dropped q =
+        update q ∙ ap (λ o. cond (is_at (place_cmp (place_of key)) q) None o) (t.update q)
+        ∙ over_cond (is_at (place_cmp (place_of key)) q) None (Some t.factors) (lookup (is_at (place_cmp q)) old)
+
+    pub filed_dropped : IsStrictlySortedBy place_cmp (keys_of new) → AreFiled new
+    filed_dropped ordered = filed_update old new (place_of key) None f ordered dropped tt
+
+    pub found_dropped : t.factors ≡ [] → (k : FactorKey) → found new k ≡ cond (same_key key k) (shrunk (found old key) amount) (found old k)
+    found_dropped none = found_update old new key None (shrunk (found old key) amount) dropped (λ k. sym (ap (lookup (same_key k)) none) ∙ t.taken k)
+
+-- ---- how many keys there are
+
+-- a key was written
+pub count_written : (old new : List (Place × List (FactorKey × Holding))) (key : FactorKey) (v : Holding) → AreFiled old → AreFiled new
+    → ((k : FactorKey) → found new k ≡ cond (same_key key k) (Some v) (found old k)) → length (gathered new) ≡ length (gathered old) + one_unless (is_some (found old key))
+count_written old new key v f g put =
+    let before : List (FactorKey × Holding) = gathered old in
+    let after : List (FactorKey × Holding) = gathered new in
+    let ascends : IsStrictlySortedBy key_cmp (keys_of before) = order_ascends (flat_map (λ x. x.1) old) in
+    let ascend : IsStrictlySortedBy key_cmp (keys_of (insert_entry key_cmp before key v)) =
+    subst (IsStrictlySortedBy key_cmp) (sym (keys-insert_entry key_total key v before)) (put_ascends key_cmp key_total key (keys_of before) ascends) in
+    let same : after ≡ insert_entry key_cmp before key v =
+    same_entries key_total exact_keys after (insert_entry key_cmp before key v) (order_ascends (flat_map (λ x. x.1) new)) ascend
+    (λ k. lookup-gathered new k g ∙ put k ∙ ap (λ t. cond t (Some v) (found old k)) (same_key_sym key k) ∙ ap (λ o. cond (same_key k key) (Some v) o) (sym (lookup-gathered old k f)) ∙ sym (lookup-insert_entry key_total k key v before)) in
+    ap length same ∙ length-insert_entry key_total key v before ascends ∙ ap (λ o. length before + one_unless (is_some o)) (lookup-gathered old key f)
 
 -- what follows both from an `Ok` and from an `Err`
 pub either_way : {T E P Q X : Type 0} (r : Result T E) → OnOk r P → OnErr r Q → (P → X) → (Q → X) → X

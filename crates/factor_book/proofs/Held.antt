@@ -1,6 +1,6 @@
--- What the rows of a key come to, and that it is what the factors of the rows say.
+-- What the sensitivities to a key come to, and that it is what the factors say.
 use Rattle.std.proofs.Common.{◌≡◌, ℕ, zero, suc, ◌+◌, ◌-◌, ◌*◌, ◌^◌, ◌≤◌, List, [], ◌∷◌, ◌++◌, map, length, Bool, true, false, ◌||◌, cond, Option, Some, None, refl, sym, ap, ◌∙◌, subst, ℤ, pos, ◌+ℤ◌, ◌-ℤ◌, unsigned_abs, arith, length-append}
-use Rattle.std.specs.Prelude.{◌==◌, is_some}
+use Rattle.std.specs.Prelude.{◌==◌}
 use Rattle.std.specs.List.{filter, list_any}
 use Rattle.std.specs.List.Sorted.{IsStrictlySortedBy}
 use Rattle.std.specs.Map.{lookup, keys_of as keys_in}
@@ -8,231 +8,206 @@ use Rattle.std.proofs.lemmas.Bool.{false≢true}
 use Rattle.std.proofs.lemmas.Bool.Decides.{nat_tests}
 use Rattle.std.proofs.lemmas.Int.{ints}
 use Rattle.std.proofs.lemmas.List.Elements.{filter-append}
-use Rattle.mh_units.proofs.Integers.{unsigned_abs-add}
-use Rattle.simm_kinds.specs.declared.row.CrifRow.{CrifRow}
-use Rattle.simm_kinds.specs.Key.{Key}
+use Rattle.simm_kinds.specs.declared.key.FactorKey.{FactorKey}
 use Rattle.simm_kinds.specs.Order.{same_key, key_cmp}
-use Rattle.simm_kinds.proofs.Orders.{key_total}
 use Rattle.simm_rules.specs.Sums.{total_by}
-use Rattle.simm_rules.specs.Net.{net, keys_of}
+use Rattle.simm_rules.specs.Net.{Sensitivity, net, keys_of}
 use Rattle.factor_book.specs.declared.holding.Holding.{Holding}
-use Rattle.factor_book.specs.Factors.{Factor, factor_of, factors_of, count_of, AreAmounts}
+use Rattle.factor_book.specs.Factors.{size_of, count_of, factor_of, factors_in}
 use Rattle.factor_book.specs.Holdings.{grown, shrunk, net_in}
-use Rattle.factor_book.specs.Filing.{as_factor}
+use Rattle.factor_book.specs.Filing.{AreSmall}
+use Rattle.simm_kinds.proofs.Orders.{key_total, exact_keys}
 use Rattle.factor_book.proofs.Keys.{same_key_refl, same_key_sym, one_key, tied_test}
-use Rattle.factor_book.proofs.Sorting.{any_different, different_ascends}
+use Rattle.factor_book.proofs.Sorting.{any_different, different_ascends, keys-graph, lookup-graph, same_entries}
+use Rattle.factor_book.proofs.Sums.{total_by-append, total_by-none, total_by-size}
 
--- a net of so many rows
-abbrev pub holding : ℤ → ℕ → Option Holding
-holding n zero = None
-holding n (suc c) = Some (record { net = n; rows = suc c })
+-- a net and a size of so many
+abbrev pub holding : ℤ → ℤ → ℕ → Option Holding
+holding n s zero = None
+holding n s (suc c) = Some (record { net = n; size = s; rows = suc c })
 
--- what the rows of a key come to
-abbrev pub come_to : List CrifRow → Key → Option Holding
-come_to held k = holding (net held k) (count_of held k)
+abbrev pub size_in : Sensitivity → ℤ
+size_in s = pos (unsigned_abs s.amount)
 
--- ---- sums of rows
+-- those to a key
+abbrev pub of_key : FactorKey → List Sensitivity → List Sensitivity
+of_key k ss = filter (λ s. same_key s.key k) ss
 
-total_by-append : (xs ys : List CrifRow) → total_by (λ r. r.amount) (xs ++ ys) ≡ total_by (λ r. r.amount) xs +ℤ total_by (λ r. r.amount) ys
-total_by-append [] ys = omega (arith, ints)
-total_by-append (x ∷ xs) ys = omega (arith, ints, total_by-append xs ys)
+-- what sensitivities to one key come to
+abbrev pub summed : List Sensitivity → Option Holding
+summed ss = holding (total_by (λ s. s.amount) ss) (total_by size_in ss) (length ss)
 
-pub net-append : (xs ys : List CrifRow) (k : Key) → net (xs ++ ys) k ≡ net xs k +ℤ net ys k
-net-append xs ys k =
-    ap (total_by (λ r. r.amount)) (filter-append (λ (r : CrifRow). same_key r.key k) xs ys) ∙ total_by-append (filter (λ r. same_key r.key k) xs) (filter (λ r. same_key r.key k) ys)
+-- what those to a key come to
+abbrev pub come_to : List Sensitivity → FactorKey → Option Holding
+come_to ss k = summed (of_key k ss)
 
-pub count-append : (xs ys : List CrifRow) (k : Key) → count_of (xs ++ ys) k ≡ count_of xs k + count_of ys k
-count-append xs ys k =
-    ap length (filter-append (λ (r : CrifRow). same_key r.key k) xs ys) ∙ length-append (filter (λ r. same_key r.key k) xs) (filter (λ r. same_key r.key k) ys)
+alike : (n m s t : ℤ) (c d : ℕ) → n ≡ m → s ≡ t → c ≡ d → holding n s c ≡ holding m t d
+alike n m s t c d e f g = λ i. holding (e i) (f i) (g i)
 
--- rows in another order come to the same
-pub taken_first : (before taken after : List CrifRow) (k : Key) → come_to (before ++ taken ++ after) k ≡ come_to (taken ++ (before ++ after)) k
+pub come_to_alike : (xs ys : List Sensitivity) (k : FactorKey) → net xs k ≡ net ys k → size_of xs k ≡ size_of ys k → count_of xs k ≡ count_of ys k → come_to xs k ≡ come_to ys k
+come_to_alike xs ys k e f g = alike (net xs k) (net ys k) (size_of xs k) (size_of ys k) (count_of xs k) (count_of ys k) e f g
+
+-- ---- in another order
+
+sum-append : (f : Sensitivity → ℤ) (xs ys : List Sensitivity) (k : FactorKey) → total_by f (of_key k (xs ++ ys)) ≡ total_by f (of_key k xs) +ℤ total_by f (of_key k ys)
+sum-append f xs ys k = ap (total_by f) (filter-append (λ (s : Sensitivity). same_key s.key k) xs ys) ∙ total_by-append f (of_key k xs) (of_key k ys)
+
+count-append : (xs ys : List Sensitivity) (k : FactorKey) → count_of (xs ++ ys) k ≡ count_of xs k + count_of ys k
+count-append xs ys k = ap length (filter-append (λ (s : Sensitivity). same_key s.key k) xs ys) ∙ length-append (of_key k xs) (of_key k ys)
+
+sum-swap : (f : Sensitivity → ℤ) (xs ys : List Sensitivity) (k : FactorKey) → total_by f (of_key k (xs ++ ys)) ≡ total_by f (of_key k (ys ++ xs))
+sum-swap f xs ys k = omega (arith, ints, sum-append f xs ys k, sum-append f ys xs k)
+
+pub swapped : (xs ys : List Sensitivity) (k : FactorKey) → come_to (xs ++ ys) k ≡ come_to (ys ++ xs) k
+swapped xs ys k = come_to_alike (xs ++ ys) (ys ++ xs) k (sum-swap (λ s. s.amount) xs ys k) (sum-swap size_in xs ys k) (omega (arith, count-append xs ys k, count-append ys xs k))
+
+sum-first : (f : Sensitivity → ℤ) (before taken after : List Sensitivity) (k : FactorKey) → total_by f (of_key k (before ++ taken ++ after)) ≡ total_by f (of_key k (taken ++ (before ++ after)))
+sum-first f before taken after k =
+    omega (arith, ints, sum-append f (before ++ taken) after k, sum-append f before taken k, sum-append f taken (before ++ after) k, sum-append f before after k)
+
+pub taken_first : (before taken after : List Sensitivity) (k : FactorKey) → come_to (before ++ taken ++ after) k ≡ come_to (taken ++ (before ++ after)) k
 taken_first before taken after k =
-    let nets : net (before ++ taken ++ after) k ≡ net (taken ++ (before ++ after)) k =
-    omega (arith, ints, net-append (before ++ taken) after k, net-append before taken k, net-append taken (before ++ after) k, net-append before after k) in
-    let counts : count_of (before ++ taken ++ after) k ≡ count_of (taken ++ (before ++ after)) k =
-    omega (arith, count-append (before ++ taken) after k, count-append before taken k, count-append taken (before ++ after) k, count-append before after k) in
-    ap (λ n. holding n (count_of (before ++ taken ++ after) k)) nets ∙ ap (holding (net (taken ++ (before ++ after)) k)) counts
+    come_to_alike (before ++ taken ++ after) (taken ++ (before ++ after)) k
+    (sum-first (λ s. s.amount) before taken after k) (sum-first size_in before taken after k)
+    (omega (arith, count-append (before ++ taken) after k, count-append before taken k, count-append taken (before ++ after) k, count-append before after k))
 
-pub last_first : (held : List CrifRow) (r : CrifRow) (k : Key) → come_to (held ++ r ∷ []) k ≡ come_to (r ∷ held) k
-last_first held r k =
-    let nets : net (held ++ r ∷ []) k ≡ net (r ∷ held) k = omega (arith, ints, net-append held (r ∷ []) k, net-append (r ∷ []) held k) in
-    let counts : count_of (held ++ r ∷ []) k ≡ count_of (r ∷ held) k = omega (arith, count-append held (r ∷ []) k, count-append (r ∷ []) held k) in
-    ap (λ n. holding n (count_of (held ++ r ∷ []) k)) nets ∙ ap (holding (net (r ∷ held) k)) counts
+-- ---- of none
 
--- ---- no rows
+net_in-holding : (n s : ℤ) (c : ℕ) → (c ≡ 0 → n ≡ pos 0) → net_in (holding n s c) ≡ n
+net_in-holding n s zero f = sym (f refl)
+net_in-holding n s (suc c) f = refl
 
-none_kept : (xs : List CrifRow) → length xs ≡ 0 → total_by (λ r. r.amount) xs ≡ pos 0
-none_kept [] e = refl
-none_kept (x ∷ xs) e = absurd (omega arith)
+pub net_in-come_to : (ss : List Sensitivity) (k : FactorKey) → net_in (come_to ss k) ≡ net ss k
+net_in-come_to ss k = net_in-holding (net ss k) (size_of ss k) (count_of ss k) (total_by-none (λ s. s.amount) (of_key k ss))
 
-pub net-none : (held : List CrifRow) (k : Key) → count_of held k ≡ 0 → net held k ≡ pos 0
-net-none held k e = none_kept (filter (λ r. same_key r.key k) held) e
+-- ---- one more, one less
 
-net_in-holding : (n : ℤ) (c : ℕ) → (c ≡ 0 → n ≡ pos 0) → net_in (holding n c) ≡ n
-net_in-holding n zero f = sym (f refl)
-net_in-holding n (suc c) f = refl
+abbrev net_rows : ℤ → ℤ → ℕ → Option Holding
+net_rows n s c = Some (record { net = n; size = s; rows = c })
 
-pub net_in-come_to : (held : List CrifRow) (k : Key) → net_in (come_to held k) ≡ net held k
-net_in-come_to held k = net_in-holding (net held k) (count_of held k) (net-none held k)
-
--- ---- one row more, one row less
-
-abbrev kept : CrifRow → List CrifRow → Bool → List CrifRow
-kept r rows t = cond t (r ∷ rows) rows
-
-abbrev net_rows : ℤ → ℕ → Option Holding
-net_rows n c = Some (record { net = n; rows = c })
+three : (n m s t : ℤ) (c d : ℕ) → n ≡ m → s ≡ t → c ≡ d → net_rows n s c ≡ net_rows m t d
+three n m s t c d e f g = λ i. net_rows (e i) (f i) (g i)
 
 one_more : (c : ℕ) → (suc (suc c) == 1) ≡ false
 one_more c = grind (arith, nat_tests)
 
-grown_holding : (n a : ℤ) (c : ℕ) → (c ≡ 0 → n ≡ pos 0) → Some (grown (holding n c) a) ≡ holding (a +ℤ n) (suc c)
-grown_holding n a zero f = ap (λ z. net_rows z 1) (omega (arith, ints, f refl))
-grown_holding n a (suc c) f =
-    ap (λ z. net_rows z (suc c + 1)) (omega (arith, ints)) ∙ ap (λ m. net_rows (a +ℤ n) m) (omega arith)
+grown_holding : (n s a b : ℤ) (c : ℕ) → b ≡ pos (unsigned_abs a) → (c ≡ 0 → n ≡ pos 0) → (c ≡ 0 → s ≡ pos 0) → Some (grown (holding n s c) a) ≡ holding (a +ℤ n) (b +ℤ s) (suc c)
+grown_holding n s a b zero e f g =
+    three a (a +ℤ n) (pos (unsigned_abs a)) (b +ℤ s) 1 1 (omega (arith, ints, f refl)) (sym e ∙ omega (arith, ints, g refl)) refl
+grown_holding n s a b (suc c) e f g =
+    three (n +ℤ a) (a +ℤ n) (s +ℤ pos (unsigned_abs a)) (b +ℤ s) (suc c + 1) (suc (suc c)) (omega (arith, ints)) (ap (λ z. s +ℤ z) (sym e) ∙ omega (arith, ints)) (omega arith)
 
-shrunk_holding : (n a : ℤ) (c : ℕ) → shrunk (holding (a +ℤ n) (suc c)) a ≡ holding n c
-shrunk_holding n a zero = refl
-shrunk_holding n a (suc c) =
-    ap (λ t. cond t None (net_rows ((a +ℤ n) -ℤ a) (suc (suc c) - 1))) (one_more c) ∙
-    ap (λ z. net_rows z (suc (suc c) - 1)) (omega (arith, ints)) ∙ ap (λ m. net_rows n m) (omega arith)
+shrunk_holding : (n s a b : ℤ) (c : ℕ) → b ≡ pos (unsigned_abs a) → shrunk (holding (a +ℤ n) (b +ℤ s) (suc c)) a ≡ holding n s c
+shrunk_holding n s a b zero e = refl
+shrunk_holding n s a b (suc c) e =
+    ap (λ t. cond t None (net_rows ((a +ℤ n) -ℤ a) ((b +ℤ s) -ℤ pos (unsigned_abs a)) (suc (suc c) - 1))) (one_more c)
+    ∙ three ((a +ℤ n) -ℤ a) n ((b +ℤ s) -ℤ pos (unsigned_abs a)) s (suc (suc c) - 1) (suc c) (omega (arith, ints)) (ap (λ z. (b +ℤ s) -ℤ z) (sym e) ∙ omega (arith, ints)) (omega arith)
 
-pub come_to-same : (r : CrifRow) (rest : List CrifRow) → come_to (r ∷ rest) r.key ≡ holding (r.amount +ℤ net rest r.key) (suc (count_of rest r.key))
-come_to-same r rest = ap (λ t. holding (total_by (λ x. x.amount) (kept r (filter (λ x. same_key x.key r.key) rest) t)) (length (kept r (filter (λ x. same_key x.key r.key) rest) t))) (same_key_refl r.key)
+come_to-same : (s : Sensitivity) (rest : List Sensitivity) → come_to (s ∷ rest) s.key ≡ holding (s.amount +ℤ net rest s.key) (size_in s +ℤ size_of rest s.key) (suc (count_of rest s.key))
+come_to-same s rest = ap (λ t. summed (cond t (s ∷ of_key s.key rest) (of_key s.key rest))) (same_key_refl s.key)
 
-come_to-other : (r : CrifRow) (rest : List CrifRow) (k : Key) → same_key r.key k ≡ false → come_to (r ∷ rest) k ≡ come_to rest k
-come_to-other r rest k e = ap (λ t. holding (total_by (λ x. x.amount) (kept r (filter (λ x. same_key x.key k) rest) t)) (length (kept r (filter (λ x. same_key x.key k) rest) t))) e
+come_to-other : (s : Sensitivity) (rest : List Sensitivity) (k : FactorKey) → same_key s.key k ≡ false → come_to (s ∷ rest) k ≡ come_to rest k
+come_to-other s rest k e = ap (λ t. summed (cond t (s ∷ of_key k rest) (of_key k rest))) e
 
-pub come_to-more : (r : CrifRow) (rest : List CrifRow) (k : Key) → come_to (r ∷ rest) k ≡ cond (same_key r.key k) (Some (grown (come_to rest r.key) r.amount)) (come_to rest k)
-come_to-more r rest k = by (same_key r.key k) refl
+pub come_to-more : (s : Sensitivity) (rest : List Sensitivity) (k : FactorKey) → come_to (s ∷ rest) k ≡ cond (same_key s.key k) (Some (grown (come_to rest s.key) s.amount)) (come_to rest k)
+come_to-more s rest k = by (same_key s.key k) refl
   where
-    by : (t : Bool) → same_key r.key k ≡ t → come_to (r ∷ rest) k ≡ cond t (Some (grown (come_to rest r.key) r.amount)) (come_to rest k)
+    by : (t : Bool) → same_key s.key k ≡ t → come_to (s ∷ rest) k ≡ cond t (Some (grown (come_to rest s.key) s.amount)) (come_to rest k)
     by true e =
-        ap (come_to (r ∷ rest)) (sym (one_key r.key k e)) ∙ come_to-same r rest
-        ∙ sym (grown_holding (net rest r.key) r.amount (count_of rest r.key) (net-none rest r.key))
-    by false e = come_to-other r rest k e
+        ap (come_to (s ∷ rest)) (sym (one_key s.key k e)) ∙ come_to-same s rest
+        ∙ sym (grown_holding (net rest s.key) (size_of rest s.key) s.amount (size_in s) (count_of rest s.key) refl (total_by-none (λ x. x.amount) (of_key s.key rest)) (total_by-none size_in (of_key s.key rest)))
+    by false e = come_to-other s rest k e
 
-pub come_to-less : (r : CrifRow) (rest : List CrifRow) (k : Key) → cond (same_key r.key k) (shrunk (come_to (r ∷ rest) r.key) r.amount) (come_to (r ∷ rest) k) ≡ come_to rest k
-come_to-less r rest k = by (same_key r.key k) refl
+pub come_to-less : (s : Sensitivity) (rest : List Sensitivity) (k : FactorKey) → cond (same_key s.key k) (shrunk (come_to (s ∷ rest) s.key) s.amount) (come_to (s ∷ rest) k) ≡ come_to rest k
+come_to-less s rest k = by (same_key s.key k) refl
   where
-    by : (t : Bool) → same_key r.key k ≡ t → cond t (shrunk (come_to (r ∷ rest) r.key) r.amount) (come_to (r ∷ rest) k) ≡ come_to rest k
+    by : (t : Bool) → same_key s.key k ≡ t → cond t (shrunk (come_to (s ∷ rest) s.key) s.amount) (come_to (s ∷ rest) k) ≡ come_to rest k
     by true e =
-        ap (λ o. shrunk o r.amount) (come_to-same r rest) ∙ shrunk_holding (net rest r.key) r.amount (count_of rest r.key)
-        ∙ ap (come_to rest) (one_key r.key k e)
-    by false e = come_to-other r rest k e
+        ap (λ o. shrunk o s.amount) (come_to-same s rest) ∙ shrunk_holding (net rest s.key) (size_of rest s.key) s.amount (size_in s) (count_of rest s.key) refl
+        ∙ ap (come_to rest) (one_key s.key k e)
+    by false e = come_to-other s rest k e
+
+-- what is left of one
+pub come_to-rest : (s : Sensitivity) (rest : List Sensitivity) → shrunk (come_to (s ∷ rest) s.key) s.amount ≡ come_to rest s.key
+come_to-rest s rest = ap (λ o. shrunk o s.amount) (come_to-same s rest) ∙ shrunk_holding (net rest s.key) (size_of rest s.key) s.amount (size_in s) (count_of rest s.key) refl
 
 -- ---- sizes
 
-kept_size : (r : CrifRow) (rows : List CrifRow) (t : Bool) → unsigned_abs r.amount ≤ 2 ^ 63 → unsigned_abs (total_by (λ x. x.amount) rows) ≤ length rows * 2 ^ 63 → unsigned_abs (total_by (λ x. x.amount) (kept r rows t)) ≤ length (kept r rows t) * 2 ^ 63
-kept_size r rows true a h = omega (arith, unsigned_abs-add r.amount (total_by (λ x. x.amount) rows))
-kept_size r rows false a h = h
+small_kept : (k : FactorKey) (ss : List Sensitivity) → AreSmall ss → AreSmall (of_key k ss)
+small_kept k [] h = tt
+small_kept k (s ∷ ss) h = by (of_key k ss) (same_key s.key k) (small_kept k ss h.1)
+  where
+    by : (kept : List Sensitivity) (t : Bool) → AreSmall kept → AreSmall (cond t (s ∷ kept) kept)
+    by kept true i = (h.0, i)
+    by kept false i = i
 
-pub net_size : (held : List CrifRow) (k : Key) → AreAmounts held → unsigned_abs (net held k) ≤ count_of held k * 2 ^ 63
-net_size [] k h = omega arith
-net_size (r ∷ rest) k h = kept_size r (filter (λ x. same_key x.key k) rest) (same_key r.key k) h.0 (net_size rest k h.1)
+pub net_size : (ss : List Sensitivity) (k : FactorKey) → AreSmall ss → unsigned_abs (net ss k) ≤ count_of ss k * 10 ^ 15
+net_size ss k h = total_by-size (λ s. s.amount) (10 ^ 15) (of_key k ss) (small_kept k ss h)
 
-kept_length : (r : CrifRow) (rows : List CrifRow) (t : Bool) (n : ℕ) → length rows ≤ n → length (kept r rows t) ≤ suc n
-kept_length r rows true n h = omega arith
-kept_length r rows false n h = omega arith
+pub size_size : (ss : List Sensitivity) (k : FactorKey) → AreSmall ss → unsigned_abs (size_of ss k) ≤ count_of ss k * 10 ^ 15
+size_size ss k h = total_by-size size_in (10 ^ 15) (of_key k ss) (small_kept k ss h)
 
-pub count_below : (held : List CrifRow) (k : Key) → count_of held k ≤ length held
+pub count_below : (ss : List Sensitivity) (k : FactorKey) → count_of ss k ≤ length ss
 count_below [] k = omega arith
-count_below (r ∷ rest) k = kept_length r (filter (λ x. same_key x.key k) rest) (same_key r.key k) (length rest) (count_below rest k)
+count_below (s ∷ rest) k = by (of_key k rest) (same_key s.key k) (count_below rest k)
+  where
+    by : (kept : List Sensitivity) (t : Bool) → length kept ≤ length rest → length (cond t (s ∷ kept) kept) ≤ suc (length rest)
+    by kept true h = omega arith
+    by kept false h = omega arith
 
 -- ---- which keys there are
 
-any_kept : (r : CrifRow) (rows : List CrifRow) (t : Bool) (s : Bool) → (s ≡ true → 1 ≤ length rows) → (t || s) ≡ true → 1 ≤ length (kept r rows t)
-any_kept r rows true s f h = omega arith
-any_kept r rows false s f h = f h
+some_kept : (s : Sensitivity) (kept : List Sensitivity) (t u : Bool) → (u ≡ true → 1 ≤ length kept) → (t || u) ≡ true → 1 ≤ length (cond t (s ∷ kept) kept)
+some_kept s kept true u f h = omega arith
+some_kept s kept false u f h = f h
 
--- a key that rows have is counted
-has_some : (held : List CrifRow) (k : Key) → list_any (same_key k) (map (λ r. r.key) held) ≡ true → 1 ≤ count_of held k
+none_kept : (s : Sensitivity) (kept : List Sensitivity) (t u : Bool) → (u ≡ false → length kept ≡ 0) → (t || u) ≡ false → length (cond t (s ∷ kept) kept) ≡ 0
+none_kept s kept true u f h = absurd (false≢true (sym h))
+none_kept s kept false u f h = f h
+
+has_some : (ss : List Sensitivity) (k : FactorKey) → list_any (same_key k) (map (λ s. s.key) ss) ≡ true → 1 ≤ count_of ss k
 has_some [] k h = absurd (false≢true h)
-has_some (r ∷ rest) k h =
-    any_kept r (filter (λ x. same_key x.key k) rest) (same_key r.key k) (list_any (same_key k) (map (λ x. x.key) rest)) (has_some rest k)
-    (ap (λ t. t || list_any (same_key k) (map (λ x. x.key) rest)) (same_key_sym r.key k) ∙ h)
+has_some (s ∷ rest) k h =
+    some_kept s (of_key k rest) (same_key s.key k) (list_any (same_key k) (map (λ x. x.key) rest)) (has_some rest k)
+    (ap (λ t. t || list_any (same_key k) (map (λ x. x.key) rest)) (same_key_sym s.key k) ∙ h)
 
-none_any : (r : CrifRow) (rows : List CrifRow) (t s : Bool) → (s ≡ false → length rows ≡ 0) → (t || s) ≡ false → length (kept r rows t) ≡ 0
-none_any r rows true s f h = absurd (false≢true (sym h))
-none_any r rows false s f h = f h
-
-has_none : (held : List CrifRow) (k : Key) → list_any (same_key k) (map (λ r. r.key) held) ≡ false → count_of held k ≡ 0
+has_none : (ss : List Sensitivity) (k : FactorKey) → list_any (same_key k) (map (λ s. s.key) ss) ≡ false → count_of ss k ≡ 0
 has_none [] k h = refl
-has_none (r ∷ rest) k h =
-    none_any r (filter (λ x. same_key x.key k) rest) (same_key r.key k) (list_any (same_key k) (map (λ x. x.key) rest)) (has_none rest k)
-    (ap (λ t. t || list_any (same_key k) (map (λ x. x.key) rest)) (same_key_sym r.key k) ∙ h)
+has_none (s ∷ rest) k h =
+    none_kept s (of_key k rest) (same_key s.key k) (list_any (same_key k) (map (λ x. x.key) rest)) (has_none rest k)
+    (ap (λ t. t || list_any (same_key k) (map (λ x. x.key) rest)) (same_key_sym s.key k) ∙ h)
 
-holding_none : (n : ℤ) (c : ℕ) → c ≡ 0 → None ≡ holding n c
-holding_none n zero e = refl
-holding_none n (suc c) e = absurd (omega arith)
+holding_none : (n s : ℤ) (c : ℕ) → c ≡ 0 → None ≡ holding n s c
+holding_none n s zero e = refl
+holding_none n s (suc c) e = absurd (omega arith)
 
-holding_some : (n : ℤ) (c : ℕ) → 1 ≤ c → Some (record { net = n; rows = c }) ≡ holding n c
-holding_some n zero h = absurd (omega arith)
-holding_some n (suc c) h = refl
+holding_some : (n s : ℤ) (c : ℕ) → 1 ≤ c → net_rows n s c ≡ holding n s c
+holding_some n s zero h = absurd (omega arith)
+holding_some n s (suc c) h = refl
 
-has_come : (held : List CrifRow) (k : Key) (t : Bool) → list_any (same_key k) (map (λ r. r.key) held) ≡ t → cond t (Some (record { net = net held k; rows = count_of held k })) None ≡ come_to held k
-has_come held k true e = holding_some (net held k) (count_of held k) (has_some held k e)
-has_come held k false e = holding_none (net held k) (count_of held k) (has_none held k e)
+has_come : (ss : List Sensitivity) (k : FactorKey) (t : Bool) → list_any (same_key k) (map (λ s. s.key) ss) ≡ t → cond t (Some (factor_of ss k).1) None ≡ come_to ss k
+has_come ss k true e = holding_some (net ss k) (size_of ss k) (count_of ss k) (has_some ss k e)
+has_come ss k false e = holding_none (net ss k) (size_of ss k) (count_of ss k) (has_none ss k e)
 
-is_some_cond : {X : Type 0} (t : Bool) (x : X) → is_some (cond t (Some x) None) ≡ t
-is_some_cond true x = refl
-is_some_cond false x = refl
+-- ---- the factors
 
--- a key comes to something where rows have it
-pub is_some-come_to : (held : List CrifRow) (k : Key) → is_some (come_to held k) ≡ list_any (same_key k) (map (λ r. r.key) held)
-is_some-come_to held k =
-    ap is_some (sym (has_come held k (list_any (same_key k) (map (λ r. r.key) held)) refl))
-    ∙ is_some_cond (list_any (same_key k) (map (λ r. r.key) held)) (record { net = net held k; rows = count_of held k })
+pub factors_ascend : (ss : List Sensitivity) → IsStrictlySortedBy key_cmp (keys_in (factors_in ss))
+factors_ascend ss =
+    subst (IsStrictlySortedBy key_cmp) (sym (keys-graph (λ k. (factor_of ss k).1) (keys_of ss))) (different_ascends key_cmp key_total (map (λ s. s.key) ss))
 
--- ---- the factors of rows as pairs
+pub any_key : (ss : List Sensitivity) (k : FactorKey) → list_any (same_key k) (keys_of ss) ≡ list_any (same_key k) (map (λ s. s.key) ss)
+any_key ss k = any_different key_cmp (same_key k) (tied_test k) (map (λ s. s.key) ss)
 
-abbrev pub pair_of : List CrifRow → Key → Key × Holding
-pair_of held k = (k, record { net = net held k; rows = count_of held k })
+-- what the factors say of a key
+pub lookup-factors : (ss : List Sensitivity) (k : FactorKey) → lookup (same_key k) (factors_in ss) ≡ come_to ss k
+lookup-factors ss k =
+    lookup-graph (λ l. (factor_of ss l).1) (same_key k) k (one_key k) (keys_of ss)
+    ∙ ap (λ t. cond t (Some (factor_of ss k).1) None) (any_key ss k)
+    ∙ has_come ss k (list_any (same_key k) (map (λ s. s.key) ss)) refl
 
-abbrev pub pairs_of : List CrifRow → List (Key × Holding)
-pairs_of held = map (pair_of held) (keys_of held)
+-- entries in key order that say the same of each key are the factors
+pub factors_from : (es : List (FactorKey × Holding)) (ss : List Sensitivity) → IsStrictlySortedBy key_cmp (keys_in es) → ((k : FactorKey) → lookup (same_key k) es ≡ come_to ss k) → es ≡ factors_in ss
+factors_from es ss ascends h = same_entries key_total exact_keys es (factors_in ss) ascends (factors_ascend ss) (λ k. h k ∙ sym (lookup-factors ss k))
 
-keys_of-pairs : (held : List CrifRow) (ks : List Key) → keys_in (map (pair_of held) ks) ≡ ks
-keys_of-pairs held [] = refl
-keys_of-pairs held (k ∷ ks) = ap (λ rest. k ∷ rest) (keys_of-pairs held ks)
-
-pub pairs_ascend : (held : List CrifRow) → IsStrictlySortedBy key_cmp (keys_in (pairs_of held))
-pairs_ascend held = subst (IsStrictlySortedBy key_cmp) (sym (keys_of-pairs held (keys_of held))) (different_ascends key_cmp key_total (map (λ r. r.key) held))
-
-lookup_pairs : (held : List CrifRow) (k : Key) (ks : List Key) → lookup (same_key k) (map (pair_of held) ks) ≡ cond (list_any (same_key k) ks) (Some (record { net = net held k; rows = count_of held k })) None
-lookup_pairs held k [] = refl
-lookup_pairs held k (l ∷ ks) = by (same_key k l) refl (lookup_pairs held k ks)
-  where
-    by : (t : Bool) → same_key k l ≡ t → lookup (same_key k) (map (pair_of held) ks) ≡ cond (list_any (same_key k) ks) (Some (record { net = net held k; rows = count_of held k })) None
-        → cond t (Some (pair_of held l).1) (lookup (same_key k) (map (pair_of held) ks)) ≡ cond (t || list_any (same_key k) ks) (Some (record { net = net held k; rows = count_of held k })) None
-    by true e i = ap (λ (m : Key). Some (pair_of held m).1) (sym (one_key k l e))
-    by false e i = i
-
-pub any_key : (held : List CrifRow) (k : Key) → list_any (same_key k) (keys_of held) ≡ list_any (same_key k) (map (λ r. r.key) held)
-any_key held k = any_different key_cmp (same_key k) (tied_test k) (map (λ r. r.key) held)
-
--- what the pairs of rows say of a key
-pub lookup-pairs_of : (held : List CrifRow) (k : Key) → lookup (same_key k) (pairs_of held) ≡ come_to held k
-lookup-pairs_of held k =
-    lookup_pairs held k (keys_of held)
-    ∙ ap (λ t. cond t (Some (record { net = net held k; rows = count_of held k })) None) (any_key held k)
-    ∙ has_come held k (list_any (same_key k) (map (λ r. r.key) held)) refl
-
-factors_as : (held : List CrifRow) (ks : List Key) → map as_factor (map (pair_of held) ks) ≡ map (factor_of held) ks
-factors_as held [] = refl
-factors_as held (k ∷ ks) = ap (λ fs. factor_of held k ∷ fs) (factors_as held ks)
-
-pub factors-pairs : (held : List CrifRow) → map as_factor (pairs_of held) ≡ factors_of held
-factors-pairs held = factors_as held (keys_of held)
-
-abbrev as_pair : Factor → Key × Holding
-as_pair f = (f.key, record { net = f.net; rows = f.rows })
-
-pairs_back : (es : List (Key × Holding)) → map as_pair (map as_factor es) ≡ es
-pairs_back [] = refl
-pairs_back (e ∷ es) = ap (λ rest. e ∷ rest) (pairs_back es)
-
--- pairs are known by their factors
-pub pairs_from : (es fs : List (Key × Holding)) → map as_factor es ≡ map as_factor fs → es ≡ fs
-pairs_from es fs h = sym (pairs_back es) ∙ ap (map as_pair) h ∙ pairs_back fs
+pub same_factors : (xs ys : List Sensitivity) → ((k : FactorKey) → come_to xs k ≡ come_to ys k) → factors_in xs ≡ factors_in ys
+same_factors xs ys h = factors_from (factors_in xs) ys (factors_ascend xs) (λ k. lookup-factors xs k ∙ h k)

@@ -1,7 +1,10 @@
-pub mod Standing
 pub mod Sorting
+pub mod Grouping
+pub mod Sums
 pub mod Keys
+pub mod Standing
 pub mod Held
+pub mod Netting
 pub mod Filed
 pub mod Books
-pub mod BucketKeys
+pub mod Rows

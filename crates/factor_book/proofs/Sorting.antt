@@ -1,16 +1,18 @@
 -- Different items in order, and lists of pairs in the order of their keys.
-use Rattle.std.proofs.Common.{◌≡◌, List, [], ◌∷◌, map, Bool, true, false, ◌||◌, cond, Option, Some, None, refl, sym, ap, ◌∙◌, subst}
+use Rattle.std.proofs.Common.{◌≡◌, ℕ, suc, ◌+◌, ◌≤◌, List, [], ◌∷◌, map, length, Bool, true, false, ◌||◌, cond, Option, Some, None, refl, sym, ap, ◌∙◌, subst, arith}
+use Rattle.std.specs.Prelude.{is_some}
 use Rattle.std.specs.declared.cmp.Ordering.{Ordering}
 use Rattle.std.specs.declared.cmp.Ordering.TheVariants.{Less, Equal, Greater}
 use Rattle.std.specs.Ordering.{is_eq, ordering_reverse, match_ordering, eq_by_cmp}
 use Rattle.std.specs.Cmp.{IsTotalOrder}
-use Rattle.std.specs.List.{list_any, AllByRecursion}
+use Rattle.std.specs.List.{filter, list_any, AllByRecursion}
 use Rattle.std.specs.List.Sorted.{IsStrictlySortedBy}
 use Rattle.std.specs.Map.{lookup, keys_of}
 use Rattle.std.specs.BTreeMap.{insert_entry, is_at}
 use Rattle.std.specs.Option.{unwrap_or}
 use Rattle.std.proofs.lemmas.Bool.{false≢true}
 use Rattle.std.proofs.lemmas.Cmp.{alike_right, tied_itself, eq_by_cmp_equiv}
+use Rattle.std.proofs.lemmas.List.Kept.{IsStrictlySortedBy-filter}
 use Rattle.std.proofs.lemmas.Map.{lookup-none}
 use Rattle.std.proofs.lemmas.Map.Entries.{lookup_head, lookup_tail, none_past_head, none_below_head}
 use Rattle.std.proofs.lemmas.Map.Keys.{IsDistinct-from_sorted, sorted_tail}
@@ -27,6 +29,11 @@ some_not_none {X = X} x e = false≢true (sym (ap is_there e))
     is_there : Option X → Bool
     is_there None = false
     is_there (Some y) = true
+
+-- one more where it isn't so
+abbrev pub one_unless : Bool → ℕ
+one_unless true = 0
+one_unless false = 1
 
 or_twice : (s t : Bool) → (s || t) ≡ (s || (s || t))
 or_twice true t = refl
@@ -57,6 +64,21 @@ module _ {A : Type 0} (cmp : A → A → Ordering) where
   any_different p alike [] = refl
   any_different p alike (x ∷ xs) = any_put p alike x (different cmp xs) ∙ ap (λ t. p x || t) (any_different p alike xs)
 
+  -- ---- there are no more of them
+
+  length_placed : (o : Ordering) (x y : A) (ys deeper : List A) → length deeper ≤ suc (length ys) → length (placed o x y ys deeper) ≤ suc (suc (length ys))
+  length_placed Less x y ys deeper h = omega arith
+  length_placed Equal x y ys deeper h = omega arith
+  length_placed Greater x y ys deeper h = omega (arith, h)
+
+  length-put_in : (x : A) (ys : List A) → length (put_in cmp x ys) ≤ suc (length ys)
+  length-put_in x [] = omega arith
+  length-put_in x (y ∷ ys) = length_placed (cmp x y) x y ys (put_in cmp x ys) (length-put_in x ys)
+
+  pub length-different : (xs : List A) → length (different cmp xs) ≤ length xs
+  length-different [] = omega arith
+  length-different (x ∷ xs) = omega (arith, length-put_in x (different cmp xs), length-different xs)
+
   -- ---- they ascend
 
   placed_each : (P : A → Type 0) (o : Ordering) (x y : A) (ys deeper : List A) → P x → P y → AllByRecursion P ys → AllByRecursion P deeper → AllByRecursion P (placed o x y ys deeper)
@@ -74,7 +96,7 @@ module _ {A : Type 0} (cmp : A → A → Ordering) where
   over_put order Equal x y ys e h s t = (h, s)
   over_put order Greater x y ys e h s t = (put_each (λ z. cmp y z ≡ Less) x ys (order.antisymm y x ∙ ap ordering_reverse e) h, t)
 
-  put_ascends : IsTotalOrder cmp → (x : A) (ys : List A) → IsStrictlySortedBy cmp ys → IsStrictlySortedBy cmp (put_in cmp x ys)
+  pub put_ascends : IsTotalOrder cmp → (x : A) (ys : List A) → IsStrictlySortedBy cmp ys → IsStrictlySortedBy cmp (put_in cmp x ys)
   unfolding IsStrictlySortedBy
   put_ascends order x [] s = (tt, tt)
   put_ascends order x (y ∷ ys) s = over_put order (cmp x y) x y ys refl s.0 s.1 (put_ascends order x ys s.1)
@@ -107,6 +129,19 @@ module _ {K X : Type 0} {R : K → K → Ordering} (o : IsTotalOrder R) where
   pub lookup-insert_entry : (q k : K) (v : X) (es : List (K × X)) → lookup (is_at (R q)) (insert_entry R es k v) ≡ cond (is_at (R q) k) (Some v) (lookup (is_at (R q)) es)
   lookup-insert_entry q k v [] = refl
   lookup-insert_entry q k v (e ∷ es) = found_placed q k v e es (insert_entry R es k v) (R k e.0) refl (lookup-insert_entry q k v es)
+
+  length_inserted : (k : K) (v : X) (e : K × X) (es deeper : List (K × X)) (r : Ordering) → R k e.0 ≡ r → IsStrictlySortedBy R (keys_of (e ∷ es)) → length deeper ≡ length es + one_unless (is_some (lookup (is_at (R k)) es))
+      → length (match_ordering r ((k, v) ∷ e ∷ es) ((e.0, v) ∷ es) (e ∷ deeper)) ≡ suc (length es) + one_unless (is_some (cond (is_eq r) (Some e.1) (lookup (is_at (R k)) es)))
+  length_inserted k v e es deeper Less h s i =
+      let none : lookup (is_at (R k)) es ≡ None = lookup-none (is_at (R k)) es ((none_below_head o k e es s h).1) in
+      omega (arith, ap (λ o. one_unless (is_some o)) none)
+  length_inserted k v e es deeper Equal h s i = omega arith
+  length_inserted k v e es deeper Greater h s i = omega (arith, i)
+
+  -- how many entries there are after one is put in
+  pub length-insert_entry : (k : K) (v : X) (es : List (K × X)) → IsStrictlySortedBy R (keys_of es) → length (insert_entry R es k v) ≡ length es + one_unless (is_some (lookup (is_at (R k)) es))
+  length-insert_entry k v [] s = omega arith
+  length-insert_entry k v (e ∷ es) s = length_inserted k v e es (insert_entry R es k v) (R k e.0) refl s (length-insert_entry k v es (sorted_tail R e.0 (keys_of es) s))
 
   keys_placed : (k : K) (v : X) (e : K × X) (es deeper : List (K × X)) (r : Ordering) → keys_of deeper ≡ put_in R k (keys_of es)
       → keys_of (match_ordering r ((k, v) ∷ e ∷ es) ((e.0, v) ∷ es) (e ∷ deeper)) ≡ placed r k e.0 (keys_of es) (put_in R k (keys_of es))
@@ -146,30 +181,29 @@ module _ {K X : Type 0} {R : K → K → Ordering} (o : IsTotalOrder R) where
       let rest : xs ≡ ys = same_entries exact xs ys (sorted_tail R x.0 (keys_of xs) s) (sorted_tail R y.0 (keys_of ys) t) (λ q. tails_at q x y xs ys s t (h q) (alike_right o x.0 y.0 q tied) (is_at (R q) x.0) refl) in
       λ i. (key i, value i) ∷ rest i
 
--- ---- the same members, the same keys
+-- ---- entries that are the graph of a function, and those whose keys pass a test
 
-module _ {K : Type 0} {R : K → K → Ordering} (o : IsTotalOrder R) where
-  abbrev units : List K → List (K × Bool)
-  units ks = map (λ k. (k, true)) ks
+module _ {K X : Type 0} where
+  pub keys-graph : (f : K → X) (ks : List K) → keys_of (map (λ k. (k, f k)) ks) ≡ ks
+  keys-graph f [] = refl
+  keys-graph f (k ∷ ks) = ap (λ rest. k ∷ rest) (keys-graph f ks)
 
-  keys_units : (ks : List K) → keys_of (units ks) ≡ ks
-  keys_units [] = refl
-  keys_units (k ∷ ks) = ap (λ rest. k ∷ rest) (keys_units ks)
-
-  abbrev there : Bool → Option Bool
-  there t = cond t (Some true) None
-
-  lookup_units : (test : K → Bool) (ks : List K) → lookup test (units ks) ≡ there (list_any test ks)
-  lookup_units test [] = refl
-  lookup_units test (k ∷ ks) = ap (λ z. cond (test k) (Some true) z) (lookup_units test ks) ∙ either (test k)
+  pub lookup-graph : (f : K → X) (test : K → Bool) (q : K) → ((k : K) → test k ≡ true → q ≡ k) → (ks : List K) → lookup test (map (λ k. (k, f k)) ks) ≡ cond (list_any test ks) (Some (f q)) None
+  lookup-graph f test q one [] = refl
+  lookup-graph f test q one (k ∷ ks) = by (test k) refl (lookup-graph f test q one ks)
     where
-      either : (t : Bool) → cond t (Some true) (there (list_any test ks)) ≡ there (t || list_any test ks)
-      either true = refl
-      either false = refl
+      by : (t : Bool) → test k ≡ t → lookup test (map (λ l. (l, f l)) ks) ≡ cond (list_any test ks) (Some (f q)) None
+          → cond t (Some (f k)) (lookup test (map (λ l. (l, f l)) ks)) ≡ cond (t || list_any test ks) (Some (f q)) None
+      by true e i = ap (λ l. Some (f l)) (sym (one k e))
+      by false e i = i
 
-  pub same_members : CmpEqualImpliesEq R → (xs ys : List K) → IsStrictlySortedBy R xs → IsStrictlySortedBy R ys → ((q : K) → list_any (is_at (R q)) xs ≡ list_any (is_at (R q)) ys) → xs ≡ ys
-  same_members exact xs ys s t h =
-      sym (keys_units xs)
-      ∙ ap keys_of (same_entries o exact (units xs) (units ys) (subst (IsStrictlySortedBy R) (sym (keys_units xs)) s) (subst (IsStrictlySortedBy R) (sym (keys_units ys)) t)
-      (λ q. lookup_units (is_at (R q)) xs ∙ ap there (h q) ∙ sym (lookup_units (is_at (R q)) ys)))
-      ∙ keys_units ys
+  keys-filter : (p : K → Bool) (es : List (K × X)) → keys_of (filter (λ e. p e.0) es) ≡ filter p (keys_of es)
+  keys-filter p [] = refl
+  keys-filter p (e ∷ es) = by (p e.0) (keys-filter p es)
+    where
+      by : (t : Bool) → keys_of (filter (λ x. p x.0) es) ≡ filter p (keys_of es) → keys_of (cond t (e ∷ filter (λ x. p x.0) es) (filter (λ x. p x.0) es)) ≡ cond t (e.0 ∷ filter p (keys_of es)) (filter p (keys_of es))
+      by true i = ap (λ ks. e.0 ∷ ks) i
+      by false i = i
+
+  pub filter_ascends : (R : K → K → Ordering) (p : K → Bool) (es : List (K × X)) → IsStrictlySortedBy R (keys_of es) → IsStrictlySortedBy R (keys_of (filter (λ e. p e.0) es))
+  filter_ascends R p es s = subst (IsStrictlySortedBy R) (sym (keys-filter p es)) (IsStrictlySortedBy-filter R p (keys_of es) s)

@@ -1,45 +1,90 @@
--- The factors of a book as they are filed: by place, and there by key.
-use Rattle.std.specs.Prelude.{◌≡◌, List, [], ◌∷◌, map, Option, Some, None, IsSome, IfSome}
-use Rattle.std.specs.List.{flat_map}
+-- How the factors of a book are filed: by place, and there by key. Nobody who reads a book has to read this.
+use Rattle.std.specs.Prelude.{ℕ, ◌≡◌, ◌≢◌, ◌+◌, ◌^◌, ◌<◌, List, [], ◌∷◌, ◌++◌, length, cond, Option, Some, None, IsSome, IfSome, ℤ}
+use Rattle.std.specs.List.{flat_map, AllByRecursion}
 use Rattle.std.specs.List.Sorted.{IsStrictlySortedBy}
 use Rattle.std.specs.Map.{lookup, keys_of}
 use Rattle.std.specs.BTreeMap.{insert_entry, is_at}
-use Rattle.simm_kinds.specs.Key.{Key}
+use Rattle.simm_kinds.specs.declared.key.FactorKey.{FactorKey}
 use Rattle.simm_kinds.specs.Order.{same_key, key_cmp}
+use Rattle.simm_rules.specs.Net.{Sensitivity}
 use Rattle.factor_book.specs.declared.place.Place.{Place}
 use Rattle.factor_book.specs.declared.holding.Holding.{Holding}
+use Rattle.factor_book.specs.declared.filing.Left.{Left}
+use Rattle.factor_book.specs.declared.filing.Left.TheVariants as left
 use Rattle.factor_book.specs.Place.{place_of, place_cmp}
-use Rattle.factor_book.specs.Factors.{Factor, IsBook}
+use Rattle.factor_book.specs.Holdings.{IsSmall, shrunk}
+use Rattle.factor_book.specs.Factors.{factors_in}
 
--- what the rows of the key come to in its place
-abbrev pub found_in : Option (List (Key × Holding)) → Key → Option Holding
+-- what the sensitivities to the key come to in its place
+abbrev pub found_in : Option (List (FactorKey × Holding)) → FactorKey → Option Holding
 found_in None k = None
 found_in (Some factors) k = lookup (same_key k) factors
 
-abbrev pub found : List (Place × List (Key × Holding)) → Key → Option Holding
+abbrev pub found : List (Place × List (FactorKey × Holding)) → FactorKey → Option Holding
 found filed k = found_in (lookup (is_at (place_cmp (place_of k))) filed) k
 
--- each key of these factors has the place
-abbrev pub StandAt : Place → List (Key × Holding) → Type 0
-StandAt place factors = (k : Key) → IsSome (lookup (same_key k) factors) → place_of k ≡ place
+-- these factors are in order, and each has the place
+pub record StandAt (place : Place) (factors : List (FactorKey × Holding)) : Type 0 where
+  pub ordered : IsStrictlySortedBy key_cmp (keys_of factors)
+  pub placed : (k : FactorKey) → IsSome (lookup (same_key k) factors) → place_of k ≡ place
 
--- places are in order, and each key stands in its place
-pub record AreFiled (filed : List (Place × List (Key × Holding))) : Type 0 where
+-- and there is one at least
+pub record FillPlace (place : Place) (factors : List (FactorKey × Holding)) : Type 0 where
+  pub stand : StandAt place factors
+  pub some : factors ≢ []
+
+-- places are in order, each has a factor, and each factor stands at its place
+pub record AreFiled (filed : List (Place × List (FactorKey × Holding))) : Type 0 where
   pub ordered : IsStrictlySortedBy place_cmp (keys_of filed)
-  pub placed : (place : Place) → IfSome (lookup (is_at (place_cmp place)) filed) (StandAt place)
+  pub placed : (place : Place) → IfSome (lookup (is_at (place_cmp place)) filed) (FillPlace place)
 
 -- entries in key order
-abbrev pub in_order : List (Key × Holding) → List (Key × Holding)
+abbrev pub in_order : List (FactorKey × Holding) → List (FactorKey × Holding)
 in_order [] = []
 in_order (e ∷ es) = insert_entry key_cmp (in_order es) e.0 e.1
 
-abbrev pub as_factor : Key × Holding → Factor
-as_factor e = record { key = e.0; net = e.1.net; rows = e.1.rows }
-
 -- all factors, in key order
-abbrev pub factors_in : List (Place × List (Key × Holding)) → List Factor
-factors_in filed = map as_factor (in_order (flat_map (λ e. e.1) filed))
+abbrev pub gathered : List (Place × List (FactorKey × Holding)) → List (FactorKey × Holding)
+gathered filed = in_order (flat_map (λ e. e.1) filed)
 
-pub record IsFiledBook (filed : List (Place × List (Key × Holding))) : Type 0 where
+abbrev pub AreSmall : List Sensitivity → Type 0
+AreSmall ss = AllByRecursion (λ s. IsSmall s.amount) ss
+
+-- the factors are those of some sensitivities
+pub record AreNetted (factors : List (FactorKey × Holding)) : Type 0 where
+  pub held : List Sensitivity
+  pub are : factors ≡ factors_in held
+  pub amounts : AreSmall held
+
+pub record IsFiledBook (filed : List (Place × List (FactorKey × Holding))) (keys : ℕ) : Type 0 where
   pub filing : AreFiled filed
-  pub book : IsBook (factors_in filed)
+  pub netted : AreNetted (gathered filed)
+  pub counted : keys ≡ length (gathered filed)
+
+-- there is room for these sensitivities
+pub record HasRoomFor (more : List Sensitivity) (factors : List (FactorKey × Holding)) : Type 0 where
+  pub held : List Sensitivity
+  pub are : factors ≡ factors_in held
+  pub few : length held + length more < 2 ^ 32
+
+-- these sensitivities are among those that are held
+pub record Holds (taken : List Sensitivity) (factors : List (FactorKey × Holding)) : Type 0 where
+  pub others : List Sensitivity
+  pub are : factors ≡ factors_in (taken ++ others)
+  pub amounts : AreSmall (taken ++ others)
+
+-- What is left of what had been found of a key, and of the factors of its place
+abbrev pub Leaves : Left → Option Holding → List (FactorKey × Holding) → Type 0
+Leaves left.Key h factors = IsSome h
+Leaves left.Others h factors = (h ≡ None) × (factors ≢ [])
+Leaves left.Nothing h factors = (h ≡ None) × (factors ≡ [])
+
+-- A sensitivity was taken at its place: what stands there now, and that nothing else has changed.
+pub record TakesAt (old new : List (Place × List (FactorKey × Holding))) (key : FactorKey) (amount : ℤ) (rest : Left) : Type 0 where
+  pub factors : List (FactorKey × Holding)
+  pub ordered : IsStrictlySortedBy place_cmp (keys_of new)
+  pub update : (q : Place) → lookup (is_at (place_cmp q)) new ≡ cond (is_at (place_cmp (place_of key)) q) (Some factors) (lookup (is_at (place_cmp q)) old)
+  pub stand : StandAt (place_of key) factors
+  pub taken : (k : FactorKey) → lookup (same_key k) factors
+      ≡ cond (same_key key k) (shrunk (found old key) amount) (found_in (lookup (is_at (place_cmp (place_of key))) old) k)
+  pub leaves : Leaves rest (shrunk (found old key) amount) factors

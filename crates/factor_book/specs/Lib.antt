@@ -1,4 +1,5 @@
-pub mod Factors
 pub mod Place
+pub mod Factors
+pub mod Places
 pub mod Holdings
 pub mod Filing

@@ -1,28 +1,38 @@
--- Where a key stands in the book: keys of one product class, risk class, measure and bucket stand together.
+-- Where a factor stands in a book: those of one product class, risk class, side and bucket stand together.
 use Rattle.std.specs.Prelude.{ℕ}
 use Rattle.std.specs.Ordering.{nat_cmp, ordering_then}
 use Rattle.std.specs.declared.cmp.Ordering.{Ordering}
-use Rattle.simm_kinds.specs.declared.kinds.Measure.{Measure}
-use Rattle.simm_kinds.specs.declared.kinds.Measure.TheVariants as measure
-use Rattle.simm_kinds.specs.Kinds.{class_of}
-use Rattle.simm_kinds.specs.Key.{Key}
-use Rattle.simm_kinds.specs.Order.{product_place, class_place, place_of_part, bucket_cmp}
-use Rattle.simm_rules.specs.Net.{measure_of}
+use Rattle.simm_kinds.specs.declared.kinds.Side.{Side}
+use Rattle.simm_kinds.specs.declared.kinds.Side.TheVariants as side
+use Rattle.simm_kinds.specs.declared.key.FactorKey.{FactorKey}
+use Rattle.simm_kinds.specs.Factors.{class_of, side_of, bucket_of}
+use Rattle.simm_kinds.specs.Order.{product_place, class_place, bucket_id_cmp}
+use Rattle.factor_book.specs.declared.place.BookSide.{BookSide}
+use Rattle.factor_book.specs.declared.place.BookSide.TheVariants as book
 use Rattle.factor_book.specs.declared.place.Place.{Place}
 
-abbrev pub place_of : Key → Place
-place_of k = record { product = k.product; class = class_of k.kind; measure = measure_of k.kind; bucket = k.bucket }
+-- base correlation counts with delta
+abbrev pub book_side : Side → BookSide
+book_side side.Delta = book.Delta
+book_side side.Volatility = book.Volatility
+book_side side.BaseCorr = book.Delta
 
-abbrev pub measure_place : Measure → ℕ
-measure_place measure.Delta = 0
-measure_place measure.Vega = 1
-measure_place measure.Curvature = 2
-measure_place measure.BaseCorr = 3
+abbrev pub place_of : FactorKey → Place
+place_of k = record {
+  product = k.product;
+  class = class_of k.factor;
+  side = book_side (side_of k.factor);
+  bucket = bucket_of k.factor;
+}
+
+abbrev pub book_side_place : BookSide → ℕ
+book_side_place book.Delta = 0
+book_side_place book.Volatility = 1
 
 -- the order of places: part by part
 abbrev pub place_cmp : Place → Place → Ordering
 place_cmp p q =
     ordering_then (nat_cmp (product_place p.product) (product_place q.product))
-    (ordering_then (nat_cmp (place_of_part class_place p.class) (place_of_part class_place q.class))
-    (ordering_then (nat_cmp (place_of_part measure_place p.measure) (place_of_part measure_place q.measure))
-    (bucket_cmp p.bucket q.bucket)))
+    (ordering_then (nat_cmp (class_place p.class) (class_place q.class))
+    (ordering_then (nat_cmp (book_side_place p.side) (book_side_place q.side))
+    (bucket_id_cmp p.bucket q.bucket)))

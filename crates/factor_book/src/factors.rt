@@ -1,34 +1,49 @@
-ghost use Rattle.std.specs.Prelude.{◌≡◌, ◌≤◌, ◌^◌, ◌∷◌, ◌++◌, List, [], length, unsigned_abs, IfOk, OnOk, OnErr};
+ghost use Rattle.std.specs.Prelude.{◌≡◌, ◌≤◌, ◌∷◌, ◌++◌, List, [], length, nat_eq, true, flat_map, IsPermutation, MatchOption, OnOk, OnErr};
+ghost use Rattle.std.specs.List.{list_all};
+ghost use Rattle.std.specs.Map.Iter.{ShowsInOrder, deref_pair};
+ghost use Rattle.simm_kinds.specs.declared.key.FactorKey.{FactorKey};
 ghost use Rattle.simm_kinds.specs.declared.row.CrifRow.{CrifRow as Row};
-ghost use Rattle.simm_rules.specs.Net.{net, keys_of, rows_in, in_bucket};
-ghost use Rattle.factor_book.specs.Factors.{factors_of, AreAmounts, AreHeld, HasRoom, IsBook};
+ghost use Rattle.simm_kinds.specs.Batch.{is_in_range};
+ghost use Rattle.simm_rules.specs.Net.{Sensitivity, sensitivity, sensitivities, net};
+ghost use Rattle.factor_book.specs.declared.place.Place.{Place};
+ghost use Rattle.factor_book.specs.declared.holding.Holding.{Holding};
+ghost use Rattle.factor_book.specs.Holdings.{IsSmall};
+ghost use Rattle.factor_book.specs.Factors.{factors_in, factors_of, IsBook, HasRoom, AreHeld};
+ghost use Rattle.factor_book.specs.Places.{factors_at, by_place};
+ghost use Rattle.factor_book.specs.Filing.{AreSmall, HasRoomFor, Holds};
 
-use crate::bucket_factors::BucketFactors;
-use crate::filing::{add_row, take_row};
+use crate::filing::{add_at_place, take_at_place};
 use crate::place::Place;
-use simm_kinds::{BucketId, CrifRow, FactorKey, Measure, ProductClass, RiskClass};
+use crate::place_factors::PlaceFactors;
+use mh_units::Cents;
+use simm_kinds::{CrifRow, FactorKey};
 use std::alloc::{AllocError, Global};
 use std::collections::BTreeMap;
+use std::collections::btree_map::Iter;
 use std::marker::Model;
 
-/// The net sensitivity to each risk factor of the rows that the book holds, in cents, with how many rows make it up.
-/// Contracts see the list of factors, in key order: a book holds rows where its list is theirs. Finding a key costs
+/// The risk factors of the rows that the book holds: for each its net sensitivity, its gross size and its number of rows.
+/// Rows that are no sensitivities are of no factor. Contracts see the list of factors in key order: a book holds rows where
+/// its list is theirs. The factors are kept by place, so that those of a place are lent as they stand. Finding a key costs
 /// the logarithm of the number of keys.
 #[derive(Drop)]
 pub struct Factors {
-    by_place: BTreeMap<Place, BucketFactors>,
+    by_place: BTreeMap<Place, PlaceFactors>,
+    // how many keys all places have
+    keys: usize,
 }
 
 impl Model for Factors {
     ghost use Rattle.std.specs.Prelude.{List};
-    ghost use Rattle.factor_book.specs.Factors.{Factor};
-    ghost use Rattle.factor_book.specs.Filing.{factors_in, IsFiledBook};
+    ghost use Rattle.simm_kinds.specs.declared.key.FactorKey.{FactorKey};
+    ghost use Rattle.factor_book.specs.declared.holding.Holding.{Holding};
+    ghost use Rattle.factor_book.specs.Filing.{gathered, IsFiledBook};
 
-    ghost Value = { List Factor };
+    ghost Value = { List (FactorKey × Holding) };
 
-    ghost view = { λ f. factors_in f.by_place.entries };
+    ghost view = { λ f. gathered f.by_place.entries };
 
-    ghost invariant = { λ f. IsFiledBook f.by_place.entries };
+    ghost invariant = { λ f. IsFiledBook f.by_place.entries f.keys };
 }
 
 impl Factors {
@@ -38,6 +53,7 @@ impl Factors {
     {
         Factors {
             by_place: BTreeMap::new(alloc),
+            keys: 0,
         }
     }
 
@@ -48,17 +64,32 @@ impl Factors {
         let _filed = &self.by_place;
     }
 
-    /// Adds rows; fewer than 2^32 are held afterwards. For want of memory nothing changes.
+    /// How many factors there are, which are the different keys of the rows. It costs the same however many.
+    pub fn len(&self) -> usize
+        ensures { result ≡ length self.now }
+    {
+        self.keys
+    }
+
+    /// Whether there are none: no row held is a sensitivity.
+    pub fn is_empty(&self) -> bool
+        ensures { result ≡ nat_eq (length self.now) 0 }
+    {
+        self.keys == 0
+    }
+
+    /// Adds rows, whose amounts are those that a batch can have; fewer than 2^32 rows are held afterwards. A key is copied
+    /// where it is new. For want of memory nothing changes.
     pub fn add_rows(&mut self, alloc: Global, rows: &[CrifRow]) -> Result<(), AllocError>
-        requires { HasRoom self.old (length rows.now) }
+        requires room { HasRoom self.old (length rows.now) }
+        requires amounts { list_all is_in_range rows.now ≡ true }
         ensures ok { (held : List Row) → self.old ≡ factors_of held → OnOk result (self.new ≡ factors_of (held ++ rows.now)) }
         ensures err { OnErr result (self.new ≡ self.old) }
-        ensures amounts { OnOk result (AreAmounts rows.now) }
     {
         self.facts();
         for (index, row) in rows.iter().enumerate() {
-            if let Err(fault) = self.add(alloc, row) {
-                self.take_rows(&rows[..index]);
+            if let Err(fault) = self.add_row(alloc, row) {
+                self.take_each(&rows[..index]);
                 return Err(fault);
             }
         }
@@ -71,14 +102,12 @@ impl Factors {
         requires { AreHeld rows.now self.old }
         ensures { (before after : List Row) → self.old ≡ factors_of (before ++ rows.now ++ after) → self.new ≡ factors_of (before ++ after) }
     {
-        for row in rows {
-            self.take(row);
-        }
+        self.take_each(rows);
     }
 
     /// The net sensitivity to a key in cents, 0 where no row has it. It takes no memory.
     pub fn net(&self, key: &FactorKey) -> i128
-        ensures { (held : List Row) → self.now ≡ factors_of held → result ≡ net held key.now }
+        ensures { (held : List Row) → self.now ≡ factors_of held → result ≡ net (sensitivities held) key.now }
     {
         match self.by_place.get(&Place::of(key)) {
             Some(factors) => factors.net(key),
@@ -86,48 +115,84 @@ impl Factors {
         }
     }
 
-    /// The keys of the rows of one bucket, in order, among them that of a calculation currency. The cost is that
-    /// bucket's keys, and not the book's. Want of memory is the only error.
-    pub fn keys_of(
-        &self,
-        alloc: Global,
-        product: ProductClass,
-        class: RiskClass,
-        measure: Measure,
-        bucket: BucketId,
-    ) -> Result<Vec<FactorKey>, AllocError>
-        ensures { (held : List Row) → self.now ≡ factors_of held →
-            IfOk result (λ keys. keys.items ≡ keys_of (in_bucket bucket (rows_in product class measure held))) }
+    /// Lends the factors of a place, in key order; `None` where it has none. It takes no memory, and costs the logarithm of
+    /// the number of places.
+    pub fn at(&self, place: &Place) -> Option<&PlaceFactors>
+        ensures { MatchOption result (factors_at place.now self.now ≡ []) (λ lent. lent.now ≡ factors_at place.now self.now) }
     {
-        let place = Place {
-            product,
-            class: Some(class),
-            measure: Some(measure),
-            bucket,
-        };
-        match self.by_place.get(&place) {
-            Some(factors) => factors.keys(alloc),
-            None => Ok(Vec::new(alloc)),
+        self.by_place.get(place)
+    }
+
+    /// Lends each place that has a factor, in the order of places, with its factors in key order. All factors are among
+    /// them, each once. It takes no memory.
+    pub fn places(&self) -> Iter<'_, Place, PlaceFactors>
+        ensures rest { result ≡ by_place self.now }
+        ensures runs { ShowsInOrder (deref_pair {K = Place} {X = List (FactorKey × Holding)}) }
+        ensures all { IsPermutation self.now (flat_map (λ e. e.1) (by_place self.now)) }
+    {
+        self.by_place.iter()
+    }
+
+    /// Takes rows that are held.
+    fn take_each(&mut self, rows: &[CrifRow])
+        requires { Holds (sensitivities rows.now) self.old }
+        ensures { (rest : List Sensitivity) → self.old ≡ factors_in (sensitivities rows.now ++ rest) → self.new ≡ factors_in rest }
+    {
+        for row in rows {
+            self.take_row(row);
         }
     }
 
-    // Adds a row. For want of memory nothing changes.
-    fn add(&mut self, alloc: Global, row: &CrifRow) -> Result<(), AllocError>
-        requires { HasRoom self.old 1 }
-        ensures ok { (held : List Row) → self.old ≡ factors_of held → OnOk result (self.new ≡ factors_of (held ++ row.now ∷ [])) }
+    /// Adds a row. For want of memory nothing changes.
+    fn add_row(&mut self, alloc: Global, row: &CrifRow) -> Result<(), AllocError>
+        requires room { HasRoomFor (sensitivity row.now) self.old }
+        requires amounts { AreSmall (sensitivity row.now) }
+        ensures ok { (ss : List Sensitivity) → self.old ≡ factors_in ss → OnOk result (self.new ≡ factors_in (ss ++ sensitivity row.now)) }
         ensures err { OnErr result (self.new ≡ self.old) }
-        ensures amount { unsigned_abs row.now.amount ≤ 2 ^ 63 }
     {
-        // read, so that it is known to have 64 bits
-        let _amount = row.amount;
-        add_row(&mut self.by_place, alloc, row)
+        match row {
+            CrifRow::Sensitivity { key, amount } => self.add(alloc, key, *amount),
+            CrifRow::Notional { .. }
+            | CrifRow::FixedAmount(_)
+            | CrifRow::NotionalFactor { .. }
+            | CrifRow::Multiplier { .. } => Ok(()),
+        }
     }
 
-    // Takes a row that is held.
-    fn take(&mut self, row: &CrifRow)
-        requires { AreHeld (row.now ∷ []) self.old }
-        ensures { (rest : List Row) → self.old ≡ factors_of (row.now ∷ rest) → self.new ≡ factors_of rest }
+    /// Takes a row that is held.
+    fn take_row(&mut self, row: &CrifRow)
+        requires { Holds (sensitivity row.now) self.old }
+        ensures { (rest : List Sensitivity) → self.old ≡ factors_in (sensitivity row.now ++ rest) → self.new ≡ factors_in rest }
     {
-        take_row(&mut self.by_place, row);
+        match row {
+            CrifRow::Sensitivity { key, amount } => self.take(key, *amount),
+            CrifRow::Notional { .. }
+            | CrifRow::FixedAmount(_)
+            | CrifRow::NotionalFactor { .. }
+            | CrifRow::Multiplier { .. } => {}
+        }
+    }
+
+    /// Adds a sensitivity. For want of memory nothing changes.
+    fn add(&mut self, alloc: Global, key: &FactorKey, amount: Cents) -> Result<(), AllocError>
+        requires room { HasRoomFor (record { key = key.now; amount = amount.0 } ∷ []) self.old }
+        requires amount { IsSmall amount.0 }
+        ensures ok { (ss : List Sensitivity) → self.old ≡ factors_in ss → OnOk result (self.new ≡ factors_in (ss ++ record { key = key.now; amount = amount.0 } ∷ [])) }
+        ensures err { OnErr result (self.new ≡ self.old) }
+    {
+        if add_at_place(&mut self.by_place, alloc, key, amount)? {
+            self.keys += 1;
+        }
+        Ok(())
+    }
+
+    /// Takes a sensitivity that is held.
+    fn take(&mut self, key: &FactorKey, amount: Cents)
+        requires { Holds (record { key = key.now; amount = amount.0 } ∷ []) self.old }
+        ensures { (rest : List Sensitivity) → self.old ≡ factors_in (record { key = key.now; amount = amount.0 } ∷ rest) → self.new ≡ factors_in rest }
+    {
+        if take_at_place(&mut self.by_place, key, amount) {
+            self.keys -= 1;
+        }
     }
 }

@@ -1,69 +1,97 @@
-//! Rows go into the factors of their place, and out of them.
-ghost use Rattle.std.specs.Prelude.{◌≡◌, [], cond, Some, IfSome, IsSomeAnd, IsTrue, OnOk, OnErr};
-ghost use Rattle.std.specs.Map.{lookup};
-ghost use Rattle.std.specs.BTreeMap.{is_at};
-ghost use Rattle.simm_kinds.specs.Key.{Key};
+//! Sensitivities go into the factors of their place, and out of them.
+ghost use Rattle.std.specs.Prelude.{◌≡◌, [], cond, is_none, true, false, Some, IfSome, IsSomeAnd, IfOk, OnOk, OnErr};
+ghost use Rattle.simm_kinds.specs.declared.key.FactorKey.{FactorKey};
 ghost use Rattle.simm_kinds.specs.Order.{same_key};
-ghost use Rattle.factor_book.specs.Holdings.{CanGrow, CanShrink, grown, shrunk};
-ghost use Rattle.factor_book.specs.Place.{place_of, place_cmp};
-ghost use Rattle.factor_book.specs.Filing.{AreFiled, found};
+ghost use Rattle.factor_book.specs.Holdings.{CanGrow, CanShrink, IsSmall, grown, shrunk};
+ghost use Rattle.factor_book.specs.Filing.{AreFiled, TakesAt, found};
 
-use crate::bucket_factors::BucketFactors;
 use crate::place::Place;
-use simm_kinds::CrifRow;
+use crate::place_factors::PlaceFactors;
+use mh_units::Cents;
+use simm_kinds::FactorKey;
 use std::alloc::{AllocError, Global};
 use std::collections::BTreeMap;
 
-/// Adds a row. For want of memory each key keeps what it had.
-pub fn add_row(
-    filed: &mut BTreeMap<Place, BucketFactors>,
+/// What is left at a place after a sensitivity was taken there.
+#[derive(Clone, Copy, Debug, PartialEq, Eq)]
+pub enum Left {
+    /// More of its key.
+    Key,
+    /// Other keys alone.
+    Others,
+    /// Nothing.
+    Nothing,
+}
+
+/// Adds a sensitivity, and tells whether its key is new. For want of memory each key keeps what it had.
+pub fn add_at_place(
+    filed: &mut BTreeMap<Place, PlaceFactors>,
     alloc: Global,
-    row: &CrifRow,
-) -> Result<(), AllocError>
+    key: &FactorKey,
+    amount: Cents,
+) -> Result<bool, AllocError>
     requires filing { AreFiled filed.old.entries }
-    requires room { IfSome (found filed.old.entries row.now.key) CanGrow }
+    requires room { IfSome (found filed.old.entries key.now) CanGrow }
+    requires amount { IsSmall amount.0 }
     ensures filing { AreFiled filed.new.entries }
-    ensures ok { OnOk result ((k : Key) → found filed.new.entries k
-        ≡ cond (same_key row.now.key k) (Some (grown (found filed.old.entries row.now.key) row.now.amount)) (found filed.old.entries k)) }
-    ensures err { OnErr result ((k : Key) → found filed.new.entries k ≡ found filed.old.entries k) }
+    ensures ok { OnOk result ((k : FactorKey) → found filed.new.entries k
+        ≡ cond (same_key key.now k) (Some (grown (found filed.old.entries key.now) amount.0)) (found filed.old.entries k)) }
+    ensures new { IfOk result (λ is_new. is_new ≡ is_none (found filed.old.entries key.now)) }
+    ensures err { OnErr result ((k : FactorKey) → found filed.new.entries k ≡ found filed.old.entries k) }
 {
-    let place = Place::of(&row.key);
+    let place = Place::of(key);
     match filed.get_mut(&place) {
-        Some(factors) => factors.add(alloc, row),
+        Some(factors) => factors.add(alloc, key, amount),
         None => {
-            let mut factors = BucketFactors::new(alloc);
-            factors.add(alloc, row)?;
+            let mut factors = PlaceFactors::new(alloc);
+            factors.add(alloc, key, amount)?;
             filed.insert(place, factors)?;
-            Ok(())
+            Ok(true)
         }
     }
 }
 
-/// Takes a row of a key that is there. It takes no memory.
-pub fn take_row(filed: &mut BTreeMap<Place, BucketFactors>, row: &CrifRow)
+/// Takes a sensitivity of a key that is there, and tells whether the key went with it. A place goes with its last key. It
+/// takes no memory.
+pub fn take_at_place(
+    filed: &mut BTreeMap<Place, PlaceFactors>,
+    key: &FactorKey,
+    amount: Cents,
+) -> bool
     requires filing { AreFiled filed.old.entries }
-    requires held { IsSomeAnd (found filed.old.entries row.now.key) CanShrink }
+    requires held { IsSomeAnd (found filed.old.entries key.now) CanShrink }
+    requires amount { IsSmall amount.0 }
     ensures filing { AreFiled filed.new.entries }
-    ensures taken { (k : Key) → found filed.new.entries k
-        ≡ cond (same_key row.now.key k) (shrunk (found filed.old.entries row.now.key) row.now.amount) (found filed.old.entries k) }
+    ensures taken { (k : FactorKey) → found filed.new.entries k
+        ≡ cond (same_key key.now k) (shrunk (found filed.old.entries key.now) amount.0) (found filed.old.entries k) }
+    ensures gone { result ≡ is_none (shrunk (found filed.old.entries key.now) amount.0) }
 {
-    if take_filed(filed, row) {
-        filed.remove(&Place::of(&row.key));
+    match take_filed(filed, key, amount) {
+        Left::Key => false,
+        Left::Others => true,
+        Left::Nothing => {
+            filed.remove(&Place::of(key));
+            true
+        }
     }
 }
 
-/// Takes a row of a key that is there, and tells whether its place is left without factors; the place stays.
-fn take_filed(filed: &mut BTreeMap<Place, BucketFactors>, row: &CrifRow) -> bool
+/// Takes a sensitivity of a key that is there; its place stays, whatever is left there.
+fn take_filed(filed: &mut BTreeMap<Place, PlaceFactors>, key: &FactorKey, amount: Cents) -> Left
     requires filing { AreFiled filed.old.entries }
-    requires held { IsSomeAnd (found filed.old.entries row.now.key) CanShrink }
-    ensures filing { AreFiled filed.new.entries }
-    ensures taken { (k : Key) → found filed.new.entries k
-        ≡ cond (same_key row.now.key k) (shrunk (found filed.old.entries row.now.key) row.now.amount) (found filed.old.entries k) }
-    ensures emptied { IsTrue result → lookup (is_at (place_cmp (place_of row.now.key))) filed.new.entries ≡ Some [] }
+    requires held { IsSomeAnd (found filed.old.entries key.now) CanShrink }
+    requires amount { IsSmall amount.0 }
+    ensures { TakesAt filed.old.entries filed.new.entries key.now amount.0 result }
 {
-    let Some(factors) = filed.get_mut(&Place::of(&row.key)) else {
-        return false;
+    let Some(factors) = filed.get_mut(&Place::of(key)) else {
+        return Left::Key;
     };
-    factors.take(row);
-    factors.is_empty()
+    if !factors.take(key, amount) {
+        return Left::Key;
+    }
+    if factors.is_empty() {
+        Left::Nothing
+    } else {
+        Left::Others
+    }
 }

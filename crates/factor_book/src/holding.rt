@@ -1,49 +1,66 @@
-ghost use Rattle.std.specs.Prelude.{◌≡◌, Some};
-ghost use Rattle.factor_book.specs.Holdings.{CanGrow, CanShrink, first, grown, shrunk};
+ghost use Rattle.std.specs.Prelude.{◌≡◌, Some, pos, unsigned_abs};
+ghost use Rattle.factor_book.specs.Holdings.{CanGrow, CanShrink, IsSmall, first, grown, shrunk};
 
-/// What the held rows of one key come to.
+use mh_units::Cents;
+
+/// What the sensitivities of one key come to.
 #[derive(Clone, Copy, Debug, PartialEq, Eq)]
 pub struct Holding {
     /// The sum of their amounts, in cents.
     pub net: i128,
+    /// The sum of the sizes of their amounts, in cents: what they are gross.
+    pub size: i128,
     /// How many there are, at least 1.
     pub rows: u32,
 }
 
 impl Holding {
-    /// One row of this amount.
-    pub fn first(amount: i64) -> Holding
-        ensures { result ≡ first amount }
+    /// One sensitivity of this amount.
+    pub(crate) fn first(amount: Cents) -> Holding
+        requires { IsSmall amount.0 }
+        ensures { result ≡ first amount.0 }
     {
         Holding {
-            net: i128::from(amount),
+            net: amount.0,
+            size: size(amount),
             rows: 1,
         }
     }
 
-    /// These rows and one of this amount.
-    pub fn grown(self, amount: i64) -> Holding
-        requires { CanGrow self }
-        ensures { result ≡ grown (Some self) amount }
+    /// These and one of this amount.
+    pub(crate) fn grown(self, amount: Cents) -> Holding
+        requires room { CanGrow self }
+        requires amount { IsSmall amount.0 }
+        ensures { result ≡ grown (Some self) amount.0 }
     {
         Holding {
-            net: self.net + i128::from(amount),
+            net: self.net + amount.0,
+            size: self.size + size(amount),
             rows: self.rows + 1,
         }
     }
 
-    /// These rows without one of this amount; `None` where it was the last.
-    pub fn shrunk(self, amount: i64) -> Option<Holding>
-        requires { CanShrink self }
-        ensures { result ≡ shrunk (Some self) amount }
+    /// These without one of this amount; `None` where it was the last.
+    pub(crate) fn shrunk(self, amount: Cents) -> Option<Holding>
+        requires some { CanShrink self }
+        requires amount { IsSmall amount.0 }
+        ensures { result ≡ shrunk (Some self) amount.0 }
     {
         if self.rows == 1 {
             None
         } else {
             Some(Holding {
-                net: self.net - i128::from(amount),
+                net: self.net - amount.0,
+                size: self.size - size(amount),
                 rows: self.rows - 1,
             })
         }
     }
+}
+
+fn size(amount: Cents) -> i128
+    requires { IsSmall amount.0 }
+    ensures { result ≡ pos (unsigned_abs amount.0) }
+{
+    amount.0.abs()
 }

@@ -1,15 +1,18 @@
-//! The factor book: the net sensitivity to each risk factor of the rows that it holds, kept as rows come and go. The
-//! factors of one bucket stand together, so that a margin of one bucket costs that bucket's factors.
+//! The factor book: the one place where rows net. It keeps, as rows come and go, the net sensitivity to each risk factor of
+//! the rows that it holds, their gross size and their number, and lends them place by place.
 #![tactic(auto)]
 
 mod at;
-mod bucket_factors;
 mod factors;
 mod filing;
 mod holding;
 mod laws;
 mod place;
+mod place_factors;
 
 pub use at::{BucketAt, ClassAt};
 pub use factors::Factors;
-pub use laws::order_is_free;
+pub use holding::Holding;
+pub use laws::{factors_are_netted, order_is_free};
+pub use place::{BookSide, Place};
+pub use place_factors::PlaceFactors;

@@ -1,16 +1,36 @@
 ghost use Rattle.std.specs.Prelude.{◌≡◌};
-ghost use Rattle.simm_rules.specs.Net.{measure_of};
-ghost use Rattle.factor_book.specs.Place.{place_of};
+ghost use Rattle.factor_book.specs.Place.{book_side, place_of};
 
-use simm_kinds::{BucketId, FactorKey, Measure, ProductClass, RiskClass, RiskType};
+use simm_kinds::{BucketId, FactorKey, ProductClass, RiskClass, Side};
 
-/// Where a key stands: the keys of one product class, risk class, measure and bucket stand together. An add-on has
-/// neither class nor measure.
+/// A side of a risk class, whose sensitivities are counted and sized together.
+#[derive(Clone, Copy, Debug, PartialEq, Eq, PartialOrd, Ord)]
+pub enum BookSide {
+    /// Delta, with base correlation.
+    Delta,
+    /// Volatility, from which vega and curvature come.
+    Volatility,
+}
+
+impl BookSide {
+    /// The side of a book that a side of a class belongs to.
+    pub fn of(side: Side) -> BookSide
+        ensures { result ≡ book_side side }
+    {
+        match side {
+            Side::Delta | Side::BaseCorr => BookSide::Delta,
+            Side::Volatility => BookSide::Volatility,
+        }
+    }
+}
+
+/// Where a factor stands in a book: the factors of one product class, risk class, side and bucket stand together. Places
+/// are ordered by these parts. Base correlations stand in the bucket `Single` of the delta side of `CreditQ`.
 #[derive(Clone, Copy, Debug, PartialEq, Eq, PartialOrd, Ord)]
 pub struct Place {
     pub product: ProductClass,
-    pub class: Option<RiskClass>,
-    pub measure: Option<Measure>,
+    pub class: RiskClass,
+    pub side: BookSide,
     pub bucket: BucketId,
 }
 
@@ -20,39 +40,10 @@ impl Place {
         ensures { result ≡ place_of key.now }
     {
         Place {
-            product: key.product(),
-            class: key.kind().class(),
-            measure: measure_of(key.kind()),
+            product: key.product,
+            class: key.class(),
+            side: BookSide::of(key.side()),
             bucket: key.bucket(),
         }
-    }
-}
-
-/// The measure that the rows of a risk type are sensitivities of; add-ons and present values have none.
-fn measure_of(kind: RiskType) -> Option<Measure>
-    ensures { result ≡ measure_of kind }
-{
-    match kind {
-        RiskType::IrCurve
-        | RiskType::Inflation
-        | RiskType::XccyBasis
-        | RiskType::CreditQ
-        | RiskType::CreditNonQ
-        | RiskType::Equity
-        | RiskType::Commodity
-        | RiskType::Fx => Some(Measure::Delta),
-        RiskType::IrVol
-        | RiskType::InflationVol
-        | RiskType::CreditVol
-        | RiskType::CreditVolNonQ
-        | RiskType::EquityVol
-        | RiskType::CommodityVol
-        | RiskType::FxVol => Some(Measure::Vega),
-        RiskType::BaseCorr => Some(Measure::BaseCorr),
-        RiskType::Notional
-        | RiskType::AddOnNotionalFactor
-        | RiskType::AddOnFixedAmount
-        | RiskType::ProductClassMultiplier
-        | RiskType::Pv => None,
     }
 }

@@ -5,7 +5,7 @@ use Rattle.std.specs.Int.{w128}
 use Rattle.mh_units.specs.Rounding.{up, root}
 use Rattle.mh_units.proofs.Roundings.{up_is, root_is, IsRoot_unique}
 use Rattle.simm_rules.specs.Concentration.{one}
-use Rattle.simm_rules.specs.Delta.{root_of}
+use Rattle.simm_rules.specs.Bucket.{root_of}
 
 pub root_none : (z : ℤ) → z ≤ℤ pos 0 → pos 0 ≡ root z
 root_none z h =

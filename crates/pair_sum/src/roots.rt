@@ -1,6 +1,6 @@
 ghost use Rattle.std.specs.Prelude.{◌≡◌, ℕ, ◌*◌, ◌^◌, ◌<◌, ◌≤◌, All, length, sum_by, pos, ◌≤ℤ◌, ◌*ℤ◌, unsigned_abs};
 ghost use Rattle.simm_rules.specs.Concentration.{one};
-ghost use Rattle.simm_rules.specs.Delta.{root_of};
+ghost use Rattle.simm_rules.specs.Bucket.{root_of};
 ghost use Rattle.pair_sum.specs.PairTotal.{at_place, margins, outer_total};
 
 use crate::correlation::Correlation;

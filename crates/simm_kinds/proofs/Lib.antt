@@ -1,4 +1,6 @@
 pub mod Names
 pub mod Repeated
+pub mod Variants
 pub mod Orders
 pub mod Rows
+pub mod FxRows

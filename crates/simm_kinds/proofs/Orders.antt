@@ -1,23 +1,24 @@
 -- The derived orders are those of specs/: total, and equal only at equal values.
-use Rattle.std.proofs.Common.{◌≡◌, ℕ, zero, suc, true, ◌↔◌, List, [], ◌∷◌, Option, Some, None, inl, inr, refl, sym, ap, ◌∙◌, Ordering, Less, Equal, Greater, add-one, arith}
+use Rattle.std.proofs.Common.{◌≡◌, ℕ, ◌==◌, true, ◌↔◌, List, [], ◌∷◌, refl, sym, ap, ◌∙◌, Ordering, Less, Equal, Greater, arith}
 use Rattle.std.specs.Ordering.{nat_cmp, ordering_then, is_eq}
-use Rattle.std.specs.Option.{option_cmp}
 use Rattle.std.specs.Cmp.{IsTotalOrder}
-use Rattle.std.specs.Cmp.Derive.{of_values, points}
+use Rattle.std.specs.Cmp.Lexicographic.{slice_cmp, lists_total}
+use Rattle.std.specs.Cmp.Derive.{of_values}
 use Rattle.std.proofs.lemmas.Bool.Decides.{nat_tests}
 use Rattle.std.proofs.lemmas.Cmp.{nat_cmp_total, nat_list_cmp_total, on_total, then_total, tied_itself}
-use Rattle.std.proofs.lemmas.Map.Lookups.{CmpEqualImpliesEq, exact_unsigned, exact_bytes}
-use denote.Struct.Field.{Field}
-use denote.Enum.Enum.{tag}
-use denote.Enum.Bare.{Bare, tag_one}
-use denote.Enum.Compared.{by}
-use denote.Enum.Declared.{Record, Choice, declared, tag_of, rowss, intoss}
+use Rattle.std.proofs.lemmas.Map.Lookups.{CmpEqualImpliesEq, exact_unsigned, exact_bytes, exact_pairs}
+use denote.Enum.Compared.{Each}
+use denote.Enum.Declared.{declared, tag_of, values_one}
+use Rattle.simm_kinds.proofs.Variants.{by_variant, by_variant-place, one_variant, then_Equal, then_assoc, both_Equal, is_eq-Equal, ◌▸◌, parts_end, parts_more, exact_end, EachParts, parts_at, ByParts, Exacts, by_parts, by_exact}
 use Rattle.simm_kinds.specs.contracts.kinds.ProductClass as product_type
 use Rattle.simm_kinds.specs.contracts.kinds.RiskClass as class_type
 use Rattle.simm_kinds.specs.contracts.kinds.RiskType as kind_type
 use Rattle.simm_kinds.specs.contracts.kinds.Tenor as tenor_type
 use Rattle.simm_kinds.specs.contracts.kinds.SubCurve as sub_type
-use Rattle.simm_kinds.specs.contracts.kinds.BucketId as bucket_type
+use Rattle.simm_kinds.specs.contracts.kinds.BucketId as id_type
+use Rattle.simm_kinds.specs.contracts.credit_tenor.CreditTenor as credit_type
+use Rattle.simm_kinds.specs.contracts.bucket.Bucket as bucket_type
+use Rattle.simm_kinds.specs.contracts.factor.Factor as factor_type
 use Rattle.simm_kinds.specs.declared.kinds.ProductClass.{ProductClass}
 use Rattle.simm_kinds.specs.declared.kinds.ProductClass.TheVariants as product
 use Rattle.simm_kinds.specs.declared.kinds.RiskClass.{RiskClass}
@@ -29,38 +30,17 @@ use Rattle.simm_kinds.specs.declared.kinds.Tenor.TheVariants as tenor
 use Rattle.simm_kinds.specs.declared.kinds.SubCurve.{SubCurve}
 use Rattle.simm_kinds.specs.declared.kinds.SubCurve.TheVariants as sub
 use Rattle.simm_kinds.specs.declared.kinds.BucketId.{BucketId}
-use Rattle.simm_kinds.specs.declared.kinds.BucketId.TheVariants as bucket
-use Rattle.simm_kinds.specs.Key.{Key}
-use Rattle.simm_kinds.specs.Order.{product_place, class_place, kind_place, tenor_place, sub_place, place_of_part, bucket_place, bucket_number, bucket_currency, name_cmp, bucket_cmp, key_cmp, same_key}
+use Rattle.simm_kinds.specs.declared.kinds.BucketId.TheVariants as id
+use Rattle.simm_kinds.specs.declared.credit_tenor.CreditTenor.{CreditTenor}
+use Rattle.simm_kinds.specs.declared.credit_tenor.CreditTenor.TheVariants as credit
+use Rattle.simm_kinds.specs.declared.bucket.Bucket.{Bucket}
+use Rattle.simm_kinds.specs.declared.bucket.Bucket.TheVariants as bucket
+use Rattle.simm_kinds.specs.declared.factor.Factor.{Factor}
+use Rattle.simm_kinds.specs.declared.factor.Factor.TheVariants as factor
+use Rattle.simm_kinds.specs.declared.key.FactorKey.{FactorKey}
+use Rattle.simm_kinds.specs.Order.{product_place, class_place, kind_place, tenor_place, sub_place, credit_tenor_place, bucket_numbers, name_cmp, bucket_cmp, bucket_id_cmp, pair_cmp, factor_place, parts_of, factor_cmp, key_cmp, same_product, same_factor, same_key}
 
--- ---- enums whose variants have no fields: by the variants' places
-
-nat_cmp-suc : (m n : ℕ) → nat_cmp (suc m) (suc n) ≡ nat_cmp m n
-nat_cmp-suc m n = grind (arith, nat_tests)
-
-first_place : (n : ℕ) → nat_cmp zero (suc n) ≡ Less
-first_place n = grind (arith, nat_tests)
-
-later_place : (n : ℕ) → nat_cmp (suc n) zero ≡ Greater
-later_place n = grind (arith, nat_tests)
-
-by_places : (Fss : List (List Field)) (c d : Choice Fss) → by Less Greater Fss (points Equal Fss) c d ≡ nat_cmp (tag (rowss Fss) (intoss Fss c)) (tag (rowss Fss) (intoss Fss d))
-by_places [] c d = absurd c
-by_places (Fs ∷ Fss) (inl x) (inl y) = refl
-by_places (Fs ∷ Fss) (inl x) (inr y) = sym (first_place (tag (rowss Fss) (intoss Fss y)))
-by_places (Fs ∷ Fss) (inr x) (inl y) = sym (later_place (tag (rowss Fss) (intoss Fss x)))
-by_places (Fs ∷ Fss) (inr x) (inr y) = by_places Fss x y ∙ sym (nat_cmp-suc (tag (rowss Fss) (intoss Fss x)) (tag (rowss Fss) (intoss Fss y)))
-
--- the derived order
-abbrev pub by_variant : (N : Record) → N.D → N.D → Ordering
-by_variant N a b = of_values N Less Greater (points Equal N.parts) a b
-
-by_variant-place : (N : Record) (place : N.D → ℕ) → ((a : N.D) → tag_of (declared N) a ≡ place a) → (a b : N.D) → by_variant N a b ≡ nat_cmp (place a) (place b)
-by_variant-place N place at a b = by_places N.parts (N.as_values a) (N.as_values b) ∙ ap (λ n. nat_cmp n (tag_of (declared N) b)) (at a) ∙ ap (nat_cmp (place a)) (at b)
-
--- one place, one variant
-one_variant : (N : Record) → Bare N.parts → (place : N.D → ℕ) → ((a : N.D) → tag_of (declared N) a ≡ place a) → (a b : N.D) → place a ≡ place b → a ≡ b
-one_variant N bare place at a b e = tag_one (declared N) bare a b (at a ∙ e ∙ sym (at b))
+-- ---- enums whose variants have no parts
 
 product_tag : (a : ProductClass) → tag_of (declared product_type.enum) a ≡ product_place a
 product_tag product.RatesFX = refl
@@ -73,6 +53,13 @@ product_cmp = by_variant-place product_type.enum product_place product_tag
 
 pub one_product : (a b : ProductClass) → product_place a ≡ product_place b → a ≡ b
 one_product = one_variant product_type.enum tt product_place product_tag
+
+nat_cmp-eq : (m n : ℕ) → is_eq (nat_cmp m n) ≡ (m == n)
+nat_cmp-eq m n = grind (arith, nat_tests)
+
+-- the equality that the derived order tells is the test
+pub derived_same_product : (λ (a b : ProductClass). is_eq (by_variant product_type.enum a b)) ≡ same_product
+derived_same_product = λ i a b. (ap is_eq (product_cmp a b) ∙ nat_cmp-eq (product_place a) (product_place b)) i
 
 class_tag : (a : RiskClass) → tag_of (declared class_type.enum) a ≡ class_place a
 class_tag class.IR = refl
@@ -152,148 +139,250 @@ sub_cmp = by_variant-place sub_type.enum sub_place sub_tag
 pub one_sub : (a b : SubCurve) → sub_place a ≡ sub_place b → a ≡ b
 one_sub = one_variant sub_type.enum tt sub_place sub_tag
 
--- ---- parts that may be missing
+credit_tag : (a : CreditTenor) → tag_of (declared credit_type.enum) a ≡ credit_tenor_place a
+credit_tag credit.Y1 = refl
+credit_tag credit.Y2 = refl
+credit_tag credit.Y3 = refl
+credit_tag credit.Y5 = refl
+credit_tag credit.Y10 = refl
 
-part_cmp : {A : Type 0} (cmp : A → A → Ordering) (place : A → ℕ) → ((a b : A) → cmp a b ≡ nat_cmp (place a) (place b)) → (a b : Option A) → option_cmp cmp a b ≡ nat_cmp (place_of_part place a) (place_of_part place b)
-part_cmp cmp place at None None = refl
-part_cmp cmp place at None (Some b) = sym (rw add-one (first_place (place b)))
-part_cmp cmp place at (Some a) None = sym (rw add-one (later_place (place a)))
-part_cmp cmp place at (Some a) (Some b) = at a b ∙ sym (simp add-one (nat_cmp-suc (place a) (place b)))
+pub credit_cmp : (a b : CreditTenor) → by_variant credit_type.enum a b ≡ nat_cmp (credit_tenor_place a) (credit_tenor_place b)
+credit_cmp = by_variant-place credit_type.enum credit_tenor_place credit_tag
 
-one_part : {A : Type 0} (place : A → ℕ) → ((a b : A) → place a ≡ place b → a ≡ b) → (a b : Option A) → place_of_part place a ≡ place_of_part place b → a ≡ b
-one_part place one None None e = refl
-one_part place one None (Some b) e = absurd (omega arith)
-one_part place one (Some a) None e = absurd (omega arith)
-one_part place one (Some a) (Some b) e = ap Some (one a b (omega arith))
+pub one_credit : (a b : CreditTenor) → credit_tenor_place a ≡ credit_tenor_place b → a ≡ b
+one_credit = one_variant credit_type.enum tt credit_tenor_place credit_tag
 
 -- ---- buckets
 
+-- the derived order of credit and equity buckets
+abbrev pub derived_bucket_cmp : Bucket → Bucket → Ordering
+derived_bucket_cmp a b = of_values bucket_type.enum Less Greater ((λ x y. nat_cmp x.0 y.0) ▸ (λ x y. Equal) ▸ tt) a b
+
+pub bucket_part : (a b : Bucket) → derived_bucket_cmp a b ≡ bucket_cmp a b
+bucket_part (bucket.Number m) (bucket.Number n) = then_Equal (nat_cmp m n)
+bucket_part (bucket.Number m) bucket.Residual = refl
+bucket_part bucket.Residual (bucket.Number n) = refl
+bucket_part bucket.Residual bucket.Residual = refl
+
+exact_bucket : CmpEqualImpliesEq derived_bucket_cmp
+exact_bucket (bucket.Number m) (bucket.Number n) e = ap bucket.Number (exact_unsigned m n e)
+exact_bucket (bucket.Number m) bucket.Residual e = absurd (cc)
+exact_bucket bucket.Residual (bucket.Number n) e = absurd (cc)
+exact_bucket bucket.Residual bucket.Residual e = refl
+
+-- the derived order of the buckets of sums
+abbrev pub derived_id_cmp : BucketId → BucketId → Ordering
+derived_id_cmp a b = of_values id_type.enum Less Greater ((λ x y. nat_cmp x.0 y.0) ▸ (λ x y. Equal) ▸ (λ x y. name_cmp x.0 y.0) ▸ (λ x y. Equal) ▸ tt) a b
+
+pub bucket_id_cmp_is : (a b : BucketId) → derived_id_cmp a b ≡ bucket_id_cmp a b
+bucket_id_cmp_is (id.Number m) (id.Number n) = then_Equal (nat_cmp m n)
+bucket_id_cmp_is (id.Number m) id.Residual = refl
+bucket_id_cmp_is (id.Number m) (id.Currency d) = refl
+bucket_id_cmp_is (id.Number m) id.Single = refl
+bucket_id_cmp_is id.Residual (id.Number n) = refl
+bucket_id_cmp_is id.Residual id.Residual = refl
+bucket_id_cmp_is id.Residual (id.Currency d) = refl
+bucket_id_cmp_is id.Residual id.Single = refl
+bucket_id_cmp_is (id.Currency c) (id.Number n) = refl
+bucket_id_cmp_is (id.Currency c) id.Residual = refl
+bucket_id_cmp_is (id.Currency c) (id.Currency d) = refl
+bucket_id_cmp_is (id.Currency c) id.Single = refl
+bucket_id_cmp_is id.Single (id.Number n) = refl
+bucket_id_cmp_is id.Single id.Residual = refl
+bucket_id_cmp_is id.Single (id.Currency d) = refl
+bucket_id_cmp_is id.Single id.Single = refl
+
+-- ---- parts of a factor, by their numbers
+
+exact_pair : CmpEqualImpliesEq pair_cmp
+exact_pair p q e =
+    let both = both_Equal _ _ e in
+    let first = exact_bytes p.first q.first both.0 in
+    let second = exact_bytes p.second q.second both.1 in
+    λ i. record { first = first i; second = second i }
+
+exact_tenor : CmpEqualImpliesEq (by_variant tenor_type.enum)
+exact_tenor a b e = one_tenor a b (exact_unsigned _ _ (sym (tenor_cmp a b) ∙ e))
+
+exact_sub : CmpEqualImpliesEq (by_variant sub_type.enum)
+exact_sub a b e = one_sub a b (exact_unsigned _ _ (sym (sub_cmp a b) ∙ e))
+
+exact_credit : CmpEqualImpliesEq (by_variant credit_type.enum)
+exact_credit a b e = one_credit a b (exact_unsigned _ _ (sym (credit_cmp a b) ∙ e))
+
+name_part : (a b : List ℕ) → name_cmp a b ≡ name_cmp a b
+name_part a b = refl
+
+number_part : (a b : ℕ) → nat_cmp a b ≡ name_cmp (a ∷ []) (b ∷ [])
+number_part a b = then_Equal (nat_cmp a b)
+
+tenor_part : (a b : Tenor) → by_variant tenor_type.enum a b ≡ name_cmp (tenor_place a ∷ []) (tenor_place b ∷ [])
+tenor_part a b = tenor_cmp a b ∙ then_Equal _
+
+sub_part : (a b : SubCurve) → by_variant sub_type.enum a b ≡ name_cmp (sub_place a ∷ []) (sub_place b ∷ [])
+sub_part a b = sub_cmp a b ∙ then_Equal _
+
+credit_part : (a b : CreditTenor) → by_variant credit_type.enum a b ≡ name_cmp (credit_tenor_place a ∷ []) (credit_tenor_place b ∷ [])
+credit_part a b = credit_cmp a b ∙ then_Equal _
+
+-- ---- factors
+
+-- the derived order of each variant's values
+abbrev factor_orders : Each Ordering factor_type.enum.parts
+factor_orders =
+    (λ x y. ordering_then (name_cmp x.0 y.0) (ordering_then (by_variant tenor_type.enum x.1.0 y.1.0) (by_variant sub_type.enum x.1.1.0 y.1.1.0)))
+    ▸ (λ x y. name_cmp x.0 y.0)
+    ▸ (λ x y. name_cmp x.0 y.0)
+    ▸ (λ x y. ordering_then (name_cmp x.0 y.0) (by_variant tenor_type.enum x.1.0 y.1.0))
+    ▸ (λ x y. ordering_then (name_cmp x.0 y.0) (by_variant tenor_type.enum x.1.0 y.1.0))
+    ▸ (λ x y. ordering_then (name_cmp x.0 y.0) (ordering_then (derived_bucket_cmp x.1.0 y.1.0) (ordering_then (by_variant credit_type.enum x.1.1.0 y.1.1.0) (name_cmp x.1.1.1.0 y.1.1.1.0))))
+    ▸ (λ x y. ordering_then (name_cmp x.0 y.0) (ordering_then (derived_bucket_cmp x.1.0 y.1.0) (ordering_then (by_variant credit_type.enum x.1.1.0 y.1.1.0) (name_cmp x.1.1.1.0 y.1.1.1.0))))
+    ▸ (λ x y. ordering_then (name_cmp x.0 y.0) (ordering_then (derived_bucket_cmp x.1.0 y.1.0) (ordering_then (by_variant credit_type.enum x.1.1.0 y.1.1.0) (name_cmp x.1.1.1.0 y.1.1.1.0))))
+    ▸ (λ x y. ordering_then (name_cmp x.0 y.0) (ordering_then (derived_bucket_cmp x.1.0 y.1.0) (ordering_then (by_variant credit_type.enum x.1.1.0 y.1.1.0) (name_cmp x.1.1.1.0 y.1.1.1.0))))
+    ▸ (λ x y. name_cmp x.0 y.0)
+    ▸ (λ x y. ordering_then (name_cmp x.0 y.0) (derived_bucket_cmp x.1.0 y.1.0))
+    ▸ (λ x y. ordering_then (name_cmp x.0 y.0) (ordering_then (derived_bucket_cmp x.1.0 y.1.0) (by_variant tenor_type.enum x.1.1.0 y.1.1.0)))
+    ▸ (λ x y. ordering_then (name_cmp x.0 y.0) (nat_cmp x.1.0 y.1.0))
+    ▸ (λ x y. ordering_then (name_cmp x.0 y.0) (ordering_then (nat_cmp x.1.0 y.1.0) (by_variant tenor_type.enum x.1.1.0 y.1.1.0)))
+    ▸ (λ x y. name_cmp x.0 y.0)
+    ▸ (λ x y. ordering_then (pair_cmp x.0 y.0) (by_variant tenor_type.enum x.1.0 y.1.0))
+    ▸ tt
+
+abbrev factor_parts : EachParts factor_type.enum.parts
+factor_parts =
+    (λ x. x.0 ∷ (tenor_place x.1.0 ∷ []) ∷ (sub_place x.1.1.0 ∷ []) ∷ [])
+    ▸ (λ x. x.0 ∷ [])
+    ▸ (λ x. x.0 ∷ [])
+    ▸ (λ x. x.0 ∷ (tenor_place x.1.0 ∷ []) ∷ [])
+    ▸ (λ x. x.0 ∷ (tenor_place x.1.0 ∷ []) ∷ [])
+    ▸ (λ x. x.0 ∷ bucket_numbers x.1.0 ∷ (credit_tenor_place x.1.1.0 ∷ []) ∷ x.1.1.1.0 ∷ [])
+    ▸ (λ x. x.0 ∷ bucket_numbers x.1.0 ∷ (credit_tenor_place x.1.1.0 ∷ []) ∷ x.1.1.1.0 ∷ [])
+    ▸ (λ x. x.0 ∷ bucket_numbers x.1.0 ∷ (credit_tenor_place x.1.1.0 ∷ []) ∷ x.1.1.1.0 ∷ [])
+    ▸ (λ x. x.0 ∷ bucket_numbers x.1.0 ∷ (credit_tenor_place x.1.1.0 ∷ []) ∷ x.1.1.1.0 ∷ [])
+    ▸ (λ x. x.0 ∷ [])
+    ▸ (λ x. x.0 ∷ bucket_numbers x.1.0 ∷ [])
+    ▸ (λ x. x.0 ∷ bucket_numbers x.1.0 ∷ (tenor_place x.1.1.0 ∷ []) ∷ [])
+    ▸ (λ x. x.0 ∷ (x.1.0 ∷ []) ∷ [])
+    ▸ (λ x. x.0 ∷ (x.1.0 ∷ []) ∷ (tenor_place x.1.1.0 ∷ []) ∷ [])
+    ▸ (λ x. x.0 ∷ [])
+    ▸ (λ x. x.0.first ∷ x.0.second ∷ (tenor_place x.1.0 ∷ []) ∷ [])
+    ▸ tt
+
+factor_by_parts : ByParts factor_type.enum.parts factor_orders factor_parts
+factor_by_parts =
+    (λ x y. parts_more refl (parts_more (tenor_part x.1.0 y.1.0) (parts_end (sub_part x.1.1.0 y.1.1.0))))
+    ▸ (λ x y. parts_end refl)
+    ▸ (λ x y. parts_end refl)
+    ▸ (λ x y. parts_more refl (parts_end (tenor_part x.1.0 y.1.0)))
+    ▸ (λ x y. parts_more refl (parts_end (tenor_part x.1.0 y.1.0)))
+    ▸ (λ x y. parts_more refl (parts_more (bucket_part x.1.0 y.1.0) (parts_more (credit_part x.1.1.0 y.1.1.0) (parts_end refl))))
+    ▸ (λ x y. parts_more refl (parts_more (bucket_part x.1.0 y.1.0) (parts_more (credit_part x.1.1.0 y.1.1.0) (parts_end refl))))
+    ▸ (λ x y. parts_more refl (parts_more (bucket_part x.1.0 y.1.0) (parts_more (credit_part x.1.1.0 y.1.1.0) (parts_end refl))))
+    ▸ (λ x y. parts_more refl (parts_more (bucket_part x.1.0 y.1.0) (parts_more (credit_part x.1.1.0 y.1.1.0) (parts_end refl))))
+    ▸ (λ x y. parts_end refl)
+    ▸ (λ x y. parts_more refl (parts_end (bucket_part x.1.0 y.1.0)))
+    ▸ (λ x y. parts_more refl (parts_more (bucket_part x.1.0 y.1.0) (parts_end (tenor_part x.1.1.0 y.1.1.0))))
+    ▸ (λ x y. parts_more refl (parts_end (number_part x.1.0 y.1.0)))
+    ▸ (λ x y. parts_more refl (parts_more (number_part x.1.0 y.1.0) (parts_end (tenor_part x.1.1.0 y.1.1.0))))
+    ▸ (λ x y. parts_end refl)
+    ▸ (λ x y. then_assoc (name_cmp x.0.first y.0.first) (name_cmp x.0.second y.0.second) (by_variant tenor_type.enum x.1.0 y.1.0) ∙ parts_more refl (parts_more refl (parts_end (tenor_part x.1.0 y.1.0))))
+    ▸ tt
+
+factor_exact : Exacts factor_type.enum.parts factor_orders
+factor_exact =
+    (exact_pairs name_cmp _ exact_bytes (exact_pairs (by_variant tenor_type.enum) _ exact_tenor (exact_end (by_variant sub_type.enum) exact_sub)))
+    ▸ (exact_end name_cmp exact_bytes)
+    ▸ (exact_end name_cmp exact_bytes)
+    ▸ (exact_pairs name_cmp _ exact_bytes (exact_end (by_variant tenor_type.enum) exact_tenor))
+    ▸ (exact_pairs name_cmp _ exact_bytes (exact_end (by_variant tenor_type.enum) exact_tenor))
+    ▸ (exact_pairs name_cmp _ exact_bytes (exact_pairs derived_bucket_cmp _ exact_bucket (exact_pairs (by_variant credit_type.enum) _ exact_credit (exact_end name_cmp exact_bytes))))
+    ▸ (exact_pairs name_cmp _ exact_bytes (exact_pairs derived_bucket_cmp _ exact_bucket (exact_pairs (by_variant credit_type.enum) _ exact_credit (exact_end name_cmp exact_bytes))))
+    ▸ (exact_pairs name_cmp _ exact_bytes (exact_pairs derived_bucket_cmp _ exact_bucket (exact_pairs (by_variant credit_type.enum) _ exact_credit (exact_end name_cmp exact_bytes))))
+    ▸ (exact_pairs name_cmp _ exact_bytes (exact_pairs derived_bucket_cmp _ exact_bucket (exact_pairs (by_variant credit_type.enum) _ exact_credit (exact_end name_cmp exact_bytes))))
+    ▸ (exact_end name_cmp exact_bytes)
+    ▸ (exact_pairs name_cmp _ exact_bytes (exact_end derived_bucket_cmp exact_bucket))
+    ▸ (exact_pairs name_cmp _ exact_bytes (exact_pairs derived_bucket_cmp _ exact_bucket (exact_end (by_variant tenor_type.enum) exact_tenor)))
+    ▸ (exact_pairs name_cmp _ exact_bytes (exact_end nat_cmp exact_unsigned))
+    ▸ (exact_pairs name_cmp _ exact_bytes (exact_pairs nat_cmp _ exact_unsigned (exact_end (by_variant tenor_type.enum) exact_tenor)))
+    ▸ (exact_end name_cmp exact_bytes)
+    ▸ (exact_pairs pair_cmp _ exact_pair (exact_end (by_variant tenor_type.enum) exact_tenor))
+    ▸ tt
+
+factor_tag : (a : Factor) → tag_of (declared factor_type.enum) a ≡ factor_place a
+factor_tag (factor.IrCurve c t s) = refl
+factor_tag (factor.Inflation c) = refl
+factor_tag (factor.XccyBasis c) = refl
+factor_tag (factor.IrVol c t) = refl
+factor_tag (factor.InflationVol c t) = refl
+factor_tag (factor.CreditQ i b t l) = refl
+factor_tag (factor.CreditVol i b t l) = refl
+factor_tag (factor.CreditNonQ i b t l) = refl
+factor_tag (factor.CreditVolNonQ i b t l) = refl
+factor_tag (factor.BaseCorr i) = refl
+factor_tag (factor.Equity i b) = refl
+factor_tag (factor.EquityVol i b t) = refl
+factor_tag (factor.Commodity n b) = refl
+factor_tag (factor.CommodityVol n b t) = refl
+factor_tag (factor.Fx c) = refl
+factor_tag (factor.FxVol p t) = refl
+
+factor_parts_are : (a : Factor) → parts_at factor_type.enum.parts factor_parts (factor_type.enum.as_values a) ≡ parts_of a
+factor_parts_are (factor.IrCurve c t s) = refl
+factor_parts_are (factor.Inflation c) = refl
+factor_parts_are (factor.XccyBasis c) = refl
+factor_parts_are (factor.IrVol c t) = refl
+factor_parts_are (factor.InflationVol c t) = refl
+factor_parts_are (factor.CreditQ i b t l) = refl
+factor_parts_are (factor.CreditVol i b t l) = refl
+factor_parts_are (factor.CreditNonQ i b t l) = refl
+factor_parts_are (factor.CreditVolNonQ i b t l) = refl
+factor_parts_are (factor.BaseCorr i) = refl
+factor_parts_are (factor.Equity i b) = refl
+factor_parts_are (factor.EquityVol i b t) = refl
+factor_parts_are (factor.Commodity n b) = refl
+factor_parts_are (factor.CommodityVol n b t) = refl
+factor_parts_are (factor.Fx c) = refl
+factor_parts_are (factor.FxVol p t) = refl
+
 -- the derived order
-abbrev pub derived_bucket_cmp : BucketId → BucketId → Ordering
-derived_bucket_cmp a b = of_values bucket_type.enum Less Greater (λ x y. nat_cmp x.0 y.0, (λ x y. Equal, (λ x y. name_cmp x.0 y.0, (λ x y. Equal, tt)))) a b
+abbrev pub derived_factor_cmp : Factor → Factor → Ordering
+derived_factor_cmp a b = of_values factor_type.enum Less Greater factor_orders a b
 
-then_Equal : (o : Ordering) → o ≡ ordering_then o Equal
-then_Equal Less = refl
-then_Equal Equal = refl
-then_Equal Greater = refl
+pub factor_cmp_is : (a b : Factor) → derived_factor_cmp a b ≡ factor_cmp a b
+factor_cmp_is a b =
+    by_parts factor_type.enum.parts factor_orders factor_parts factor_by_parts (factor_type.enum.as_values a) (factor_type.enum.as_values b)
+    ∙ (λ i. ordering_then (nat_cmp (factor_tag a i) (factor_tag b i)) (slice_cmp name_cmp (factor_parts_are a i) (factor_parts_are b i)))
 
-pub bucket_cmp_is : (a b : BucketId) → derived_bucket_cmp a b ≡ bucket_cmp a b
-bucket_cmp_is (bucket.Number m) (bucket.Number n) = then_Equal (nat_cmp m n)
-bucket_cmp_is (bucket.Number m) bucket.Residual = refl
-bucket_cmp_is (bucket.Number m) (bucket.Currency d) = refl
-bucket_cmp_is (bucket.Number m) bucket.Single = refl
-bucket_cmp_is bucket.Residual (bucket.Number n) = refl
-bucket_cmp_is bucket.Residual bucket.Residual = refl
-bucket_cmp_is bucket.Residual (bucket.Currency d) = refl
-bucket_cmp_is bucket.Residual bucket.Single = refl
-bucket_cmp_is (bucket.Currency c) (bucket.Number n) = refl
-bucket_cmp_is (bucket.Currency c) bucket.Residual = refl
-bucket_cmp_is (bucket.Currency c) (bucket.Currency d) = refl
-bucket_cmp_is (bucket.Currency c) bucket.Single = refl
-bucket_cmp_is bucket.Single (bucket.Number n) = refl
-bucket_cmp_is bucket.Single bucket.Residual = refl
-bucket_cmp_is bucket.Single (bucket.Currency d) = refl
-bucket_cmp_is bucket.Single bucket.Single = refl
+pub factor_total : IsTotalOrder factor_cmp
+factor_total = then_total (on_total factor_place nat_cmp_total) (on_total parts_of (lists_total nat_list_cmp_total))
 
-pub bucket_total : IsTotalOrder bucket_cmp
-bucket_total = then_total (on_total bucket_place nat_cmp_total) (then_total (on_total bucket_number nat_cmp_total) (on_total bucket_currency nat_list_cmp_total))
+-- factors that compare alike are one
+pub exact_factors : CmpEqualImpliesEq factor_cmp
+exact_factors a b e =
+    values_one factor_type.enum a b (by_exact factor_type.enum.parts factor_orders factor_exact (factor_type.enum.as_values a) (factor_type.enum.as_values b) (factor_cmp_is a b ∙ e))
 
-both_Equal : (o p : Ordering) → ordering_then o p ≡ Equal → (o ≡ Equal) × (p ≡ Equal)
-both_Equal Less p e = absurd (cc)
-both_Equal Equal p e = (refl, e)
-both_Equal Greater p e = absurd (cc)
-
-one_bucket : (a b : BucketId) → bucket_place a ≡ bucket_place b → bucket_number a ≡ bucket_number b → bucket_currency a ≡ bucket_currency b → a ≡ b
-one_bucket (bucket.Number m) (bucket.Number n) e number currency = ap bucket.Number number
-one_bucket (bucket.Number m) bucket.Residual e number currency = absurd (omega arith)
-one_bucket (bucket.Number m) (bucket.Currency d) e number currency = absurd (omega arith)
-one_bucket (bucket.Number m) bucket.Single e number currency = absurd (omega arith)
-one_bucket bucket.Residual (bucket.Number n) e number currency = absurd (omega arith)
-one_bucket bucket.Residual bucket.Residual e number currency = refl
-one_bucket bucket.Residual (bucket.Currency d) e number currency = absurd (omega arith)
-one_bucket bucket.Residual bucket.Single e number currency = absurd (omega arith)
-one_bucket (bucket.Currency c) (bucket.Number n) e number currency = absurd (omega arith)
-one_bucket (bucket.Currency c) bucket.Residual e number currency = absurd (omega arith)
-one_bucket (bucket.Currency c) (bucket.Currency d) e number currency = ap bucket.Currency currency
-one_bucket (bucket.Currency c) bucket.Single e number currency = absurd (omega arith)
-one_bucket bucket.Single (bucket.Number n) e number currency = absurd (omega arith)
-one_bucket bucket.Single bucket.Residual e number currency = absurd (omega arith)
-one_bucket bucket.Single (bucket.Currency d) e number currency = absurd (omega arith)
-one_bucket bucket.Single bucket.Single e number currency = refl
-
-pub exact_buckets : CmpEqualImpliesEq bucket_cmp
-exact_buckets a b e =
-    let place = both_Equal _ _ e in
-    let parts = both_Equal _ _ place.1 in
-    one_bucket a b (exact_unsigned _ _ place.0) (exact_unsigned _ _ parts.0) (exact_bytes _ _ parts.1)
+pub same_factor-equal : (a b : Factor) → (same_factor a b ≡ true) ↔ (a ≡ b)
+same_factor-equal a b = (λ e. exact_factors a b (is_eq-Equal _ e), λ e. ap (same_factor a) (sym e) ∙ ap is_eq (tied_itself factor_total a))
 
 -- ---- keys
 
 -- the derived order
-abbrev pub derived_key_cmp : Key → Key → Ordering
-derived_key_cmp a b =
-    ordering_then (by_variant product_type.enum a.product b.product)
-    (ordering_then (by_variant kind_type.enum a.kind b.kind)
-    (ordering_then (name_cmp a.qualifier b.qualifier)
-    (ordering_then (derived_bucket_cmp a.bucket b.bucket)
-    (ordering_then (option_cmp (by_variant tenor_type.enum) a.tenor b.tenor)
-    (ordering_then (option_cmp (by_variant sub_type.enum) a.sub b.sub)
-    (name_cmp a.label2 b.label2))))))
+abbrev pub derived_key_cmp : FactorKey → FactorKey → Ordering
+derived_key_cmp a b = ordering_then (by_variant product_type.enum a.product b.product) (derived_factor_cmp a.factor b.factor)
 
-pub key_cmp_is : (a b : Key) → derived_key_cmp a b ≡ key_cmp a b
-key_cmp_is a b = λ i.
-    ordering_then (product_cmp a.product b.product i)
-    (ordering_then (kind_cmp a.kind b.kind i)
-    (ordering_then (name_cmp a.qualifier b.qualifier)
-    (ordering_then (bucket_cmp_is a.bucket b.bucket i)
-    (ordering_then (part_cmp (by_variant tenor_type.enum) tenor_place tenor_cmp a.tenor b.tenor i)
-    (ordering_then (part_cmp (by_variant sub_type.enum) sub_place sub_cmp a.sub b.sub i)
-    (name_cmp a.label2 b.label2))))))
-
--- the two orders are one function
-pub derived_keys : derived_key_cmp ≡ key_cmp
-derived_keys = λ i a b. key_cmp_is a b i
+pub key_cmp_is : (a b : FactorKey) → derived_key_cmp a b ≡ key_cmp a b
+key_cmp_is a b = parts_more (product_cmp a.product b.product) (factor_cmp_is a.factor b.factor)
 
 pub key_total : IsTotalOrder key_cmp
-key_total =
-    then_total (on_total (λ k. product_place k.product) nat_cmp_total)
-    (then_total (on_total (λ k. kind_place k.kind) nat_cmp_total)
-    (then_total (on_total (λ k. k.qualifier) nat_list_cmp_total)
-    (then_total (on_total (λ k. k.bucket) bucket_total)
-    (then_total (on_total (λ k. place_of_part tenor_place k.tenor) nat_cmp_total)
-    (then_total (on_total (λ k. place_of_part sub_place k.sub) nat_cmp_total)
-    (on_total (λ k. k.label2) nat_list_cmp_total))))))
+key_total = then_total (on_total (λ k. product_place k.product) nat_cmp_total) (on_total (λ k. k.factor) factor_total)
 
 -- keys that compare alike are one
 pub exact_keys : CmpEqualImpliesEq key_cmp
 exact_keys a b e =
-    let p = both_Equal _ _ e in
-    let k = both_Equal _ _ p.1 in
-    let q = both_Equal _ _ k.1 in
-    let u = both_Equal _ _ q.1 in
-    let t = both_Equal _ _ u.1 in
-    let s = both_Equal _ _ t.1 in
-    let product_is = one_product a.product b.product (exact_unsigned _ _ p.0) in
-    let kind_is = one_kind a.kind b.kind (exact_unsigned _ _ k.0) in
-    let qualifier_is = exact_bytes a.qualifier b.qualifier q.0 in
-    let bucket_is = exact_buckets a.bucket b.bucket u.0 in
-    let tenor_is = one_part tenor_place one_tenor a.tenor b.tenor (exact_unsigned _ _ t.0) in
-    let sub_is = one_part sub_place one_sub a.sub b.sub (exact_unsigned _ _ s.0) in
-    let label2_is = exact_bytes a.label2 b.label2 s.1 in
-    λ i. record {
-      product = product_is i;
-      kind = kind_is i;
-      qualifier = qualifier_is i;
-      bucket = bucket_is i;
-      tenor = tenor_is i;
-      sub = sub_is i;
-      label2 = label2_is i;
-    }
+    let both = both_Equal _ _ e in
+    let product_is = one_product a.product b.product (exact_unsigned _ _ both.0) in
+    let factor_is = exact_factors a.factor b.factor both.1 in
+    λ i. record { product = product_is i; factor = factor_is i }
 
-is_eq-Equal : (o : Ordering) → is_eq o ≡ true → o ≡ Equal
-is_eq-Equal Less e = absurd (cc)
-is_eq-Equal Equal e = refl
-is_eq-Equal Greater e = absurd (cc)
-
-pub same_key-equal : (a b : Key) → (same_key a b ≡ true) ↔ (a ≡ b)
+pub same_key-equal : (a b : FactorKey) → (same_key a b ≡ true) ↔ (a ≡ b)
 same_key-equal a b = (λ e. exact_keys a b (is_eq-Equal _ e), λ e. ap (same_key a) (sym e) ∙ ap is_eq (tied_itself key_total a))

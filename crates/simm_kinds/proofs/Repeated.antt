@@ -1,5 +1,5 @@
 -- Lists in which an item stands twice.
-use Rattle.std.proofs.Common.{◌≡◌, ℕ, ◌+◌, ◌<◌, Bool, true, false, ◌||◌, cond, List, [], ◌∷◌, ◌++◌, length, map, get_or, take, drop, refl, sym, ap, ◌∙◌, inl, inr, Ordering}
+use Rattle.std.proofs.Common.{◌≡◌, ℕ, ◌+◌, ◌<◌, Bool, true, false, ◌||◌, cond, List, [], ◌∷◌, ◌++◌, length, map, get_or, take, drop, refl, sym, ap, ◌∙◌, inl, inr, Ordering, Bor}
 use Rattle.std.specs.Cmp.{IsEquivalence, IsTotalOrder}
 use Rattle.std.specs.List.{list_any}
 use Rattle.std.specs.Ordering.{eq_by_cmp}
@@ -71,3 +71,7 @@ pub repeats-map : {A B : Type 0} (f : A → B) (same : B → B → Bool) (xs : L
 repeats-map f same [] = refl
 repeats-map f same (x ∷ xs) = ap (λ a. a || repeats (λ y z. same (f y) (f z)) xs) (list_any-map f (same (f x)) xs)
     ∙ ap (λ b. list_any (same (f x)) (map f xs) || b) (repeats-map f same xs)
+
+-- lent items repeat as the items do
+pub lent_repeat : {A : Type 0} (same : A → A → Bool) (items refs : List (Bor A)) → refs ≡ items → repeats (λ x y. same x.now y.now) refs ≡ repeats same (map (λ x. x.now) items)
+lent_repeat same items refs are = ap (repeats (λ x y. same x.now y.now)) are ∙ repeats-map (λ x. x.now) same items

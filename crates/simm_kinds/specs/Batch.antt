@@ -1,63 +1,80 @@
 -- What a batch is: the rows of one file, by trade.
-use Rattle.std.specs.Prelude.{◌≡◌, ◌^◌, List, length, Option, Some, None, Result, Ok, Err, Bool, true, false, ◌&&◌, ◌||◌, not, ◌==◌, nat_lt, nat_le, ℤ, pos, unsigned_abs, int_le, if◌then◌else◌, map}
-use Rattle.std.specs.List.{flat_map, list_any, filter}
-use Rattle.simm_kinds.specs.declared.kinds.RiskType.{RiskType}
-use Rattle.simm_kinds.specs.declared.kinds.RiskType.TheVariants as kind
+use Rattle.std.specs.Prelude.{◌≡◌, ◌^◌, List, [], ◌∷◌, ℕ, length, Option, Some, None, Result, Ok, Err, Bool, true, false, ◌&&◌, ◌||◌, not, ◌==◌, nat_lt, nat_le, ℤ, pos, unsigned_abs, int_le, if◌then◌else◌, map}
+use Rattle.std.specs.List.{flat_map, list_any, list_all}
+use Rattle.simm_kinds.specs.declared.kinds.ProductClass.{ProductClass}
+use Rattle.simm_kinds.specs.declared.factor.Factor.{Factor}
+use Rattle.simm_kinds.specs.declared.factor.Factor.TheVariants as factor
 use Rattle.simm_kinds.specs.declared.row.CrifRow.{CrifRow}
+use Rattle.simm_kinds.specs.declared.row.CrifRow.TheVariants as row
 use Rattle.simm_kinds.specs.declared.row.TradeRows.{TradeRows}
 use Rattle.simm_kinds.specs.declared.fault.MakeFault.{MakeFault}
 use Rattle.simm_kinds.specs.declared.fault.MakeFault.TheVariants as fault
-use Rattle.simm_kinds.specs.Key.{Key}
+use Rattle.simm_kinds.specs.NameText.{is_currency}
 pub use Rattle.simm_kinds.specs.Repeats.{repeats}
-use Rattle.simm_kinds.specs.Order.{same_name, same_key}
+use Rattle.simm_kinds.specs.Order.{same_name, same_product}
+use Rattle.simm_kinds.specs.Built.{is_built_row}
 
 -- all rows of the trades, trade after trade
 abbrev pub rows_of : List TradeRows → List CrifRow
 rows_of trades = flat_map (λ t. t.rows) trades
 
 -- a parameter of an add-on
-abbrev pub is_param : RiskType → Bool
-is_param kind.AddOnNotionalFactor = true
-is_param kind.AddOnFixedAmount = true
-is_param kind.ProductClassMultiplier = true
-is_param _ = false
+abbrev pub is_param : CrifRow → Bool
+is_param (row.Sensitivity key amount) = false
+is_param (row.Notional qualifier amount) = false
+is_param (row.FixedAmount amount) = true
+is_param (row.NotionalFactor qualifier factor) = true
+is_param (row.Multiplier product factor) = true
 
--- a parameter that stands once at most: fixed amounts add up
-abbrev pub is_single_param : RiskType → Bool
-is_single_param kind.AddOnNotionalFactor = true
-is_single_param kind.ProductClassMultiplier = true
-is_single_param _ = false
+-- the qualifier of a factor; none of another row
+abbrev pub factor_names : CrifRow → List (List ℕ)
+factor_names (row.Sensitivity key amount) = []
+factor_names (row.Notional qualifier amount) = []
+factor_names (row.FixedAmount amount) = []
+factor_names (row.NotionalFactor qualifier factor) = qualifier ∷ []
+factor_names (row.Multiplier product factor) = []
 
-abbrev pub row_key : CrifRow → Key
-row_key r = r.key
+-- the product class of a multiplier; none of another row
+abbrev pub multiplied : CrifRow → List ProductClass
+multiplied (row.Sensitivity key amount) = []
+multiplied (row.Notional qualifier amount) = []
+multiplied (row.FixedAmount amount) = []
+multiplied (row.NotionalFactor qualifier factor) = []
+multiplied (row.Multiplier product factor) = product ∷ []
 
--- the keys of the parameters that may stand once, among rows
-abbrev pub params_in : List CrifRow → List Key
-params_in rows = filter (λ k. is_single_param k.kind) (map row_key rows)
-
-abbrev pub single_params : List TradeRows → List Key
-single_params trades = params_in (rows_of trades)
+-- two trades of one name, two factors of one qualifier, or two multipliers of one product class; fixed amounts add up
+abbrev pub has_repeats : List TradeRows → Bool
+has_repeats trades =
+    repeats same_name (map (λ t. t.trade) trades)
+    || repeats same_name (flat_map factor_names (rows_of trades))
+    || repeats same_product (flat_map multiplied (rows_of trades))
 
 -- parameters stand in the trade without a name, and nothing else stands there
 abbrev pub is_misplaced : TradeRows → Bool
-is_misplaced t = list_any (λ r. not (is_param r.key.kind) && (length t.trade == 0) || is_param r.key.kind && not (length t.trade == 0)) t.rows
+is_misplaced t = list_any (λ r. not (is_param r) && (length t.trade == 0) || is_param r && not (length t.trade == 0)) t.rows
 
--- at most 10^15 in size; a multiplier 1 to 10, a factor 0 to 100, in ten-thousandths; a fixed amount not below 0
-abbrev pub is_amount_of : RiskType → ℤ → Bool
-is_amount_of kind.ProductClassMultiplier a = int_le (pos 10000) a && int_le a (pos 100000)
-is_amount_of kind.AddOnNotionalFactor a = int_le (pos 0) a && int_le a (pos 1000000)
-is_amount_of kind.AddOnFixedAmount a = int_le (pos 0) a && nat_le (unsigned_abs a) (10 ^ 15)
-is_amount_of _ a = nat_le (unsigned_abs a) (10 ^ 15)
+-- at most 10^15 in size
+abbrev pub is_amount : ℤ → Bool
+is_amount a = nat_le (unsigned_abs a) (10 ^ 15)
+
+-- at most 10^15 cents in size; a multiplier 1 to 10, a factor 0 to 100, in ten-thousandths; a fixed amount not below 0
+abbrev pub is_in_range : CrifRow → Bool
+is_in_range (row.Sensitivity key amount) = is_amount amount.0
+is_in_range (row.Notional qualifier amount) = is_amount amount.0
+is_in_range (row.FixedAmount amount) = int_le (pos 0) amount.0 && is_amount amount.0
+is_in_range (row.NotionalFactor qualifier factor) = int_le (pos 0) factor.0 && int_le factor.0 (pos 1000000)
+is_in_range (row.Multiplier product factor) = int_le (pos 10000) factor.0 && int_le factor.0 (pos 100000)
 
 -- The first fault of trades that are to be a batch, in the order in which they are tested; none for a batch.
 abbrev pub batch_fault : List TradeRows → Option MakeFault
 batch_fault trades =
     if length trades == 0 then Some fault.Empty
-    else if repeats same_name (map (λ t. t.trade) trades) || repeats same_key (single_params trades) then Some fault.Same
+    else if has_repeats trades then Some fault.Same
     else if nat_lt 100000 (length (rows_of trades)) then Some fault.TooManyRows
     else if list_any is_misplaced trades then Some fault.Place
     else if list_any (λ t. length t.rows == 0) trades then Some fault.EmptyTrade
-    else if list_any (λ r. not (is_amount_of r.key.kind r.amount)) (rows_of trades) then Some fault.Amount
+    else if not (list_all is_in_range (rows_of trades)) then Some fault.Amount
+    else if not (list_all is_built_row (rows_of trades)) then Some fault.Unbuilt
     else None
 
 abbrev pub IsBatch : List TradeRows → Type 0
@@ -68,3 +85,30 @@ abbrev pub MakesBatch : List TradeRows → Result (List TradeRows) MakeFault →
 MakesBatch trades (Ok batch) = (batch ≡ trades) × (batch_fault trades ≡ None)
 MakesBatch trades (Err fault.Memory) = Unit {0}
 MakesBatch trades (Err f) = batch_fault trades ≡ Some f
+
+-- a factor of a currency
+abbrev pub IsFx : Factor → Type 0
+IsFx (factor.IrCurve c t s) = ⊥
+IsFx (factor.Inflation c) = ⊥
+IsFx (factor.XccyBasis c) = ⊥
+IsFx (factor.IrVol c t) = ⊥
+IsFx (factor.InflationVol c t) = ⊥
+IsFx (factor.CreditQ i b t l) = ⊥
+IsFx (factor.CreditVol i b t l) = ⊥
+IsFx (factor.CreditNonQ i b t l) = ⊥
+IsFx (factor.CreditVolNonQ i b t l) = ⊥
+IsFx (factor.BaseCorr i) = ⊥
+IsFx (factor.Equity i b) = ⊥
+IsFx (factor.EquityVol i b t) = ⊥
+IsFx (factor.Commodity n b) = ⊥
+IsFx (factor.CommodityVol n b t) = ⊥
+IsFx (factor.Fx c) = is_currency c ≡ true
+IsFx (factor.FxVol p t) = ⊥
+
+-- a sensitivity to a currency
+abbrev pub IsFxRow : CrifRow → Type 0
+IsFxRow (row.Sensitivity key amount) = IsFx key.factor
+IsFxRow (row.Notional qualifier amount) = ⊥
+IsFxRow (row.FixedAmount amount) = ⊥
+IsFxRow (row.NotionalFactor qualifier factor) = ⊥
+IsFxRow (row.Multiplier product factor) = ⊥

@@ -1,5 +1,5 @@
--- The order of kinds, buckets and keys: each enum in the order of its variants, a key part by part.
-use Rattle.std.specs.Prelude.{ℕ, ◌+◌, List, [], Option, Some, None, Bool, ◌==◌}
+-- The order of kinds, buckets, factors and keys: each enum in the order of its variants, and then part by part.
+use Rattle.std.specs.Prelude.{ℕ, List, [], ◌∷◌, Bool, ◌==◌}
 use Rattle.std.specs.Ordering.{nat_cmp, ordering_then, is_eq}
 use Rattle.std.specs.declared.cmp.Ordering.{Ordering}
 use Rattle.std.specs.Cmp.Lexicographic.{slice_cmp}
@@ -10,12 +10,21 @@ use Rattle.simm_kinds.specs.declared.kinds.RiskClass.TheVariants as class
 use Rattle.simm_kinds.specs.declared.kinds.RiskType.{RiskType}
 use Rattle.simm_kinds.specs.declared.kinds.RiskType.TheVariants as kind
 use Rattle.simm_kinds.specs.declared.kinds.BucketId.{BucketId}
-use Rattle.simm_kinds.specs.declared.kinds.BucketId.TheVariants as bucket
+use Rattle.simm_kinds.specs.declared.kinds.BucketId.TheVariants as id
 use Rattle.simm_kinds.specs.declared.kinds.Tenor.{Tenor}
 use Rattle.simm_kinds.specs.declared.kinds.Tenor.TheVariants as tenor
 use Rattle.simm_kinds.specs.declared.kinds.SubCurve.{SubCurve}
 use Rattle.simm_kinds.specs.declared.kinds.SubCurve.TheVariants as sub
-use Rattle.simm_kinds.specs.Key.{Key}
+use Rattle.simm_kinds.specs.declared.credit_tenor.CreditTenor.{CreditTenor}
+use Rattle.simm_kinds.specs.declared.credit_tenor.CreditTenor.TheVariants as credit
+use Rattle.simm_kinds.specs.declared.bucket.Bucket.{Bucket}
+use Rattle.simm_kinds.specs.declared.bucket.Bucket.TheVariants as bucket
+use Rattle.simm_kinds.specs.declared.factor.Factor.{Factor}
+use Rattle.simm_kinds.specs.declared.factor.Factor.TheVariants as factor
+use Rattle.simm_kinds.specs.declared.key.FactorKey.{FactorKey}
+use Rattle.simm_kinds.specs.Factors.{kind_of}
+use Rattle.simm_kinds.specs.Pair.{Pair}
+pub use Rattle.simm_kinds.specs.NameOrder.{name_cmp, same_name}
 
 abbrev pub product_place : ProductClass → ℕ
 product_place product.RatesFX = 0
@@ -77,44 +86,63 @@ sub_place sub.Libor12m = 4
 sub_place sub.Prime = 5
 sub_place sub.Municipal = 6
 
--- a part that isn't there comes first
-abbrev pub place_of_part : {A : Type 0} → (A → ℕ) → Option A → ℕ
-place_of_part place None = 0
-place_of_part place (Some x) = place x + 1
+abbrev pub credit_tenor_place : CreditTenor → ℕ
+credit_tenor_place credit.Y1 = 0
+credit_tenor_place credit.Y2 = 1
+credit_tenor_place credit.Y3 = 2
+credit_tenor_place credit.Y5 = 3
+credit_tenor_place credit.Y10 = 4
 
-abbrev pub bucket_place : BucketId → ℕ
-bucket_place (bucket.Number n) = 0
-bucket_place bucket.Residual = 1
-bucket_place (bucket.Currency c) = 2
-bucket_place bucket.Single = 3
+-- numbers, then Residual
+abbrev pub bucket_numbers : Bucket → List ℕ
+bucket_numbers (bucket.Number n) = 0 ∷ n ∷ []
+bucket_numbers bucket.Residual = 1 ∷ []
 
-abbrev pub bucket_number : BucketId → ℕ
-bucket_number (bucket.Number n) = n
-bucket_number _ = 0
-
-abbrev pub bucket_currency : BucketId → List ℕ
-bucket_currency (bucket.Currency c) = c
-bucket_currency _ = []
-
--- names are ordered byte by byte
-abbrev pub name_cmp : List ℕ → List ℕ → Ordering
-name_cmp = slice_cmp nat_cmp
+abbrev pub bucket_cmp : Bucket → Bucket → Ordering
+bucket_cmp a b = name_cmp (bucket_numbers a) (bucket_numbers b)
 
 -- numbers, then Residual, then currencies, then Single
-abbrev pub bucket_cmp : BucketId → BucketId → Ordering
-bucket_cmp a b =
-    ordering_then (nat_cmp (bucket_place a) (bucket_place b))
-    (ordering_then (nat_cmp (bucket_number a) (bucket_number b)) (name_cmp (bucket_currency a) (bucket_currency b)))
+abbrev pub bucket_id_numbers : BucketId → List ℕ
+bucket_id_numbers (id.Number n) = 0 ∷ n ∷ []
+bucket_id_numbers id.Residual = 1 ∷ []
+bucket_id_numbers (id.Currency c) = 2 ∷ c
+bucket_id_numbers id.Single = 3 ∷ []
 
-abbrev pub key_cmp : Key → Key → Ordering
-key_cmp a b =
-    ordering_then (nat_cmp (product_place a.product) (product_place b.product))
-    (ordering_then (nat_cmp (kind_place a.kind) (kind_place b.kind))
-    (ordering_then (name_cmp a.qualifier b.qualifier)
-    (ordering_then (bucket_cmp a.bucket b.bucket)
-    (ordering_then (nat_cmp (place_of_part tenor_place a.tenor) (place_of_part tenor_place b.tenor))
-    (ordering_then (nat_cmp (place_of_part sub_place a.sub) (place_of_part sub_place b.sub))
-    (name_cmp a.label2 b.label2))))))
+abbrev pub bucket_id_cmp : BucketId → BucketId → Ordering
+bucket_id_cmp a b = name_cmp (bucket_id_numbers a) (bucket_id_numbers b)
+
+abbrev pub pair_cmp : Pair → Pair → Ordering
+pair_cmp p q = ordering_then (name_cmp p.first q.first) (name_cmp p.second q.second)
+
+-- where a factor's variant stands: where its risk type does
+abbrev pub factor_place : Factor → ℕ
+factor_place f = kind_place (kind_of f)
+
+-- a factor's parts in their order, each by what it is compared by: a name or a currency by its bytes, all else by its place
+abbrev pub parts_of : Factor → List (List ℕ)
+parts_of (factor.IrCurve c t s) = c ∷ (tenor_place t ∷ []) ∷ (sub_place s ∷ []) ∷ []
+parts_of (factor.Inflation c) = c ∷ []
+parts_of (factor.XccyBasis c) = c ∷ []
+parts_of (factor.IrVol c t) = c ∷ (tenor_place t ∷ []) ∷ []
+parts_of (factor.InflationVol c t) = c ∷ (tenor_place t ∷ []) ∷ []
+parts_of (factor.CreditQ i b t l) = i ∷ bucket_numbers b ∷ (credit_tenor_place t ∷ []) ∷ l ∷ []
+parts_of (factor.CreditVol i b t l) = i ∷ bucket_numbers b ∷ (credit_tenor_place t ∷ []) ∷ l ∷ []
+parts_of (factor.CreditNonQ i b t l) = i ∷ bucket_numbers b ∷ (credit_tenor_place t ∷ []) ∷ l ∷ []
+parts_of (factor.CreditVolNonQ i b t l) = i ∷ bucket_numbers b ∷ (credit_tenor_place t ∷ []) ∷ l ∷ []
+parts_of (factor.BaseCorr i) = i ∷ []
+parts_of (factor.Equity i b) = i ∷ bucket_numbers b ∷ []
+parts_of (factor.EquityVol i b t) = i ∷ bucket_numbers b ∷ (tenor_place t ∷ []) ∷ []
+parts_of (factor.Commodity n b) = n ∷ (b ∷ []) ∷ []
+parts_of (factor.CommodityVol n b t) = n ∷ (b ∷ []) ∷ (tenor_place t ∷ []) ∷ []
+parts_of (factor.Fx c) = c ∷ []
+parts_of (factor.FxVol p t) = p.first ∷ p.second ∷ (tenor_place t ∷ []) ∷ []
+
+-- by variant, and then part by part
+abbrev pub factor_cmp : Factor → Factor → Ordering
+factor_cmp a b = ordering_then (nat_cmp (factor_place a) (factor_place b)) (slice_cmp name_cmp (parts_of a) (parts_of b))
+
+abbrev pub key_cmp : FactorKey → FactorKey → Ordering
+key_cmp a b = ordering_then (nat_cmp (product_place a.product) (product_place b.product)) (factor_cmp a.factor b.factor)
 
 -- tests of equality, by place
 abbrev pub same_product : ProductClass → ProductClass → Bool
@@ -126,11 +154,17 @@ same_class a b = class_place a == class_place b
 abbrev pub same_kind : RiskType → RiskType → Bool
 same_kind a b = kind_place a == kind_place b
 
-abbrev pub same_name : List ℕ → List ℕ → Bool
-same_name a b = is_eq (name_cmp a b)
-
-abbrev pub same_bucket : BucketId → BucketId → Bool
+abbrev pub same_bucket : Bucket → Bucket → Bool
 same_bucket a b = is_eq (bucket_cmp a b)
 
-abbrev pub same_key : Key → Key → Bool
+abbrev pub same_bucket_id : BucketId → BucketId → Bool
+same_bucket_id a b = is_eq (bucket_id_cmp a b)
+
+abbrev pub same_pair : Pair → Pair → Bool
+same_pair a b = is_eq (pair_cmp a b)
+
+abbrev pub same_factor : Factor → Factor → Bool
+same_factor a b = is_eq (factor_cmp a b)
+
+abbrev pub same_key : FactorKey → FactorKey → Bool
 same_key a b = is_eq (key_cmp a b)

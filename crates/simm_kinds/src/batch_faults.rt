@@ -1,19 +1,21 @@
 //! What keeps trades from being a batch.
-ghost use Rattle.std.specs.Prelude.{◌≡◌, ◌&&◌, ◌||◌, ◌==◌, not, length, map, nat_lt, IfOk};
-ghost use Rattle.std.specs.List.{list_any};
-ghost use Rattle.simm_kinds.specs.Order.{same_name, same_key};
+ghost use Rattle.std.specs.Prelude.{◌≡◌, ◌&&◌, ◌||◌, ◌==◌, length, map, nat_lt, ◌++◌, IfOk, OnOk};
+ghost use Rattle.std.specs.List.{flat_map, list_any, list_all};
+ghost use Rattle.simm_kinds.specs.Order.{same_name, same_product};
 ghost use Rattle.simm_kinds.specs.Repeats.{repeats};
-ghost use Rattle.simm_kinds.specs.Batch.{rows_of, is_param, is_single_param, single_params, is_misplaced, is_amount_of, batch_fault};
+ghost use Rattle.simm_kinds.specs.Built.{is_built_row};
+ghost use Rattle.simm_kinds.specs.Batch.{rows_of, is_param, factor_names, multiplied, has_repeats, is_misplaced, is_amount, is_in_range, batch_fault};
 
 use crate::repeats::repeats;
-use crate::{FactorKey, MakeFault, Name, RiskType, TradeRows};
+use crate::{CrifRow, FullName, MakeFault, Name, ProductClass, TradeRows};
+use mh_units::Cents;
 use std::alloc::{AllocError, Global};
 
 /// How many rows a batch has at most.
 const MOST_ROWS: usize = 100_000;
 
 /// The greatest size of an amount, in cents.
-const MOST_CENTS: u64 = 1_000_000_000_000_000;
+const MOST_CENTS: u128 = 1_000_000_000_000_000;
 
 /// The first fault of the trades, in the order of `MakeFault`; none for a batch.
 pub fn first_fault(alloc: Global, trades: &[TradeRows]) -> Result<Option<MakeFault>, AllocError>
@@ -34,22 +36,44 @@ pub fn first_fault(alloc: Global, trades: &[TradeRows]) -> Result<Option<MakeFau
     if has_empty_trade(trades) {
         return Ok(Some(MakeFault::EmptyTrade));
     }
-    if has_wrong_amount(trades) {
+    if !are_in_range(trades) {
         return Ok(Some(MakeFault::Amount));
+    }
+    if !are_built(trades) {
+        return Ok(Some(MakeFault::Unbuilt));
     }
     Ok(None)
 }
 
 fn has_repeats(alloc: Global, trades: &[TradeRows]) -> Result<bool, AllocError>
-    ensures { IfOk result (λ found. found
-        ≡ (repeats same_name (map (λ t. t.trade) trades.now) || repeats same_key (single_params trades.now))) }
+    ensures { IfOk result (λ found. found ≡ has_repeats trades.now) }
+{
+    Ok(
+        names_repeat(alloc, trades)?
+            || factors_repeat(alloc, trades)?
+            || multipliers_repeat(alloc, trades)?,
+    )
+}
+
+fn names_repeat(alloc: Global, trades: &[TradeRows]) -> Result<bool, AllocError>
+    ensures { IfOk result (λ found. found ≡ repeats same_name (map (λ t. t.trade) trades.now)) }
 {
     let names = names_of(alloc, trades)?;
-    if repeats(alloc, names.as_slice())? {
-        return Ok(true);
-    }
-    let keys = single_params(alloc, trades)?;
-    repeats(alloc, keys.as_slice())
+    repeats(alloc, names.as_slice())
+}
+
+fn factors_repeat(alloc: Global, trades: &[TradeRows]) -> Result<bool, AllocError>
+    ensures { IfOk result (λ found. found ≡ repeats same_name (flat_map factor_names (rows_of trades.now))) }
+{
+    let names = factor_names(alloc, trades)?;
+    repeats(alloc, names.as_slice())
+}
+
+fn multipliers_repeat(alloc: Global, trades: &[TradeRows]) -> Result<bool, AllocError>
+    ensures { IfOk result (λ found. found ≡ repeats same_product (flat_map multiplied (rows_of trades.now))) }
+{
+    let products = multiplied(alloc, trades)?;
+    repeats(alloc, products.as_slice())
 }
 
 fn names_of(alloc: Global, trades: &[TradeRows]) -> Result<Vec<&Name>, AllocError>
@@ -62,19 +86,48 @@ fn names_of(alloc: Global, trades: &[TradeRows]) -> Result<Vec<&Name>, AllocErro
     Ok(names)
 }
 
-/// The keys of the parameters that may stand once.
-fn single_params(alloc: Global, trades: &[TradeRows]) -> Result<Vec<&FactorKey>, AllocError>
-    ensures { IfOk result (λ keys. map (λ k. k.now) keys.items ≡ single_params trades.now) }
+/// The qualifiers of the factors.
+fn factor_names(alloc: Global, trades: &[TradeRows]) -> Result<Vec<&FullName>, AllocError>
+    ensures { IfOk result (λ names. map (λ n. n.now) names.items ≡ flat_map factor_names (rows_of trades.now)) }
 {
-    let mut keys = Vec::new(alloc);
+    let mut names = Vec::new(alloc);
     for trade in trades {
         for row in trade.rows.as_slice() {
-            if is_single_param(row.key.kind()) {
-                keys.push(&row.key)?;
-            }
+            add_factor_name(&mut names, row)?;
         }
     }
-    Ok(keys)
+    Ok(names)
+}
+
+fn add_factor_name<'a>(names: &mut Vec<&'a FullName>, row: &'a CrifRow) -> Result<(), AllocError>
+    ensures { OnOk result (map (λ n. n.now) names.new.items ≡ map (λ n. n.now) names.old.items ++ factor_names row.now) }
+{
+    match row {
+        CrifRow::NotionalFactor { qualifier, .. } => Ok(names.push(qualifier)?),
+        _ => Ok(()),
+    }
+}
+
+/// The product classes of the multipliers.
+fn multiplied(alloc: Global, trades: &[TradeRows]) -> Result<Vec<ProductClass>, AllocError>
+    ensures { IfOk result (λ products. products.items ≡ flat_map multiplied (rows_of trades.now)) }
+{
+    let mut products = Vec::new(alloc);
+    for trade in trades {
+        for row in trade.rows.as_slice() {
+            add_multiplied(&mut products, row)?;
+        }
+    }
+    Ok(products)
+}
+
+fn add_multiplied(products: &mut Vec<ProductClass>, row: &CrifRow) -> Result<(), AllocError>
+    ensures { OnOk result (products.new.items ≡ products.old.items ++ multiplied row.now) }
+{
+    match row {
+        CrifRow::Multiplier { product, .. } => Ok(products.push(*product)?),
+        _ => Ok(()),
+    }
 }
 
 fn has_too_many_rows(trades: &[TradeRows]) -> bool
@@ -102,8 +155,7 @@ fn is_misplaced(trade: &TradeRows) -> bool
 {
     let is_unnamed = trade.trade.bytes().is_empty();
     let rows = trade.rows.as_slice();
-    rows.iter()
-        .any(|row| is_param(row.key.kind()) != is_unnamed)
+    rows.iter().any(|row| is_param(row) != is_unnamed)
 }
 
 fn has_empty_trade(trades: &[TradeRows]) -> bool
@@ -112,55 +164,57 @@ fn has_empty_trade(trades: &[TradeRows]) -> bool
     trades.iter().any(|trade| trade.rows.is_empty())
 }
 
-fn has_wrong_amount(trades: &[TradeRows]) -> bool
-    ensures { result ≡ list_any (λ r. not (is_amount_of r.key.kind r.amount)) (rows_of trades.now) }
+fn are_in_range(trades: &[TradeRows]) -> bool
+    ensures { result ≡ list_all is_in_range (rows_of trades.now) }
 {
-    has_wrong_trade(trades)
+    trades.iter().all(|trade| has_rows_in_range(trade))
 }
 
-fn has_wrong_trade(trades: &[TradeRows]) -> bool
-    ensures { result
-        ≡ list_any (λ t. list_any (λ r. not (is_amount_of r.key.kind r.amount)) t.rows) trades.now }
-{
-    trades.iter().any(|trade| has_wrong_row(trade))
-}
-
-fn has_wrong_row(trade: &TradeRows) -> bool
-    ensures { result ≡ list_any (λ r. not (is_amount_of r.key.kind r.amount)) trade.now.rows }
+fn has_rows_in_range(trade: &TradeRows) -> bool
+    ensures { result ≡ list_all is_in_range trade.now.rows }
 {
     let rows = trade.rows.as_slice();
-    rows.iter()
-        .any(|row| !is_amount_of(row.key.kind(), row.amount))
+    rows.iter().all(|row| is_in_range(row))
 }
 
-fn is_param(kind: RiskType) -> bool
-    ensures { result ≡ is_param kind }
+fn are_built(trades: &[TradeRows]) -> bool
+    ensures { result ≡ list_all is_built_row (rows_of trades.now) }
+{
+    trades.iter().all(|trade| has_built_rows(trade))
+}
+
+fn has_built_rows(trade: &TradeRows) -> bool
+    ensures { result ≡ list_all is_built_row trade.now.rows }
+{
+    let rows = trade.rows.as_slice();
+    rows.iter().all(|row| row.is_built())
+}
+
+fn is_param(row: &CrifRow) -> bool
+    ensures { result ≡ is_param row.now }
 {
     matches!(
-        kind,
-        RiskType::AddOnNotionalFactor
-            | RiskType::AddOnFixedAmount
-            | RiskType::ProductClassMultiplier
+        row,
+        CrifRow::FixedAmount(_) | CrifRow::NotionalFactor { .. } | CrifRow::Multiplier { .. }
     )
 }
 
-fn is_single_param(kind: RiskType) -> bool
-    ensures { result ≡ is_single_param kind }
+/// Whether the amount of a row is in its range.
+fn is_in_range(row: &CrifRow) -> bool
+    ensures { result ≡ is_in_range row.now }
 {
-    matches!(
-        kind,
-        RiskType::AddOnNotionalFactor | RiskType::ProductClassMultiplier
-    )
-}
-
-/// Whether an amount is in the range of its risk type.
-fn is_amount_of(kind: RiskType, amount: i64) -> bool
-    ensures { result ≡ is_amount_of kind amount }
-{
-    match kind {
-        RiskType::ProductClassMultiplier => (10_000..=100_000).contains(&amount),
-        RiskType::AddOnNotionalFactor => (0..=1_000_000).contains(&amount),
-        RiskType::AddOnFixedAmount => amount >= 0 && amount.unsigned_abs() <= MOST_CENTS,
-        _ => amount.unsigned_abs() <= MOST_CENTS,
+    match row {
+        CrifRow::Sensitivity { amount, .. } | CrifRow::Notional { amount, .. } => {
+            is_amount(*amount)
+        }
+        CrifRow::FixedAmount(amount) => amount.0 >= 0 && is_amount(*amount),
+        CrifRow::NotionalFactor { factor, .. } => (0..=1_000_000).contains(&factor.0),
+        CrifRow::Multiplier { factor, .. } => (10_000..=100_000).contains(&factor.0),
     }
+}
+
+fn is_amount(amount: Cents) -> bool
+    ensures { result ≡ is_amount amount.0 }
+{
+    amount.0.unsigned_abs() <= MOST_CENTS
 }

@@ -1,8 +1,13 @@
+//! The kinds of the standard: product classes, risk classes, risk types, tenors, sub-curves, buckets; and their words.
 ghost use Rattle.std.specs.Prelude.{◌≡◌};
-ghost use Rattle.simm_kinds.specs.Kinds.{class_of, product_word, class_word};
+ghost use Rattle.simm_kinds.specs.Kinds.{product_word, class_word, kind_word, sub_word, product_named, class_named, kind_named, sub_named};
+ghost use Rattle.simm_kinds.specs.Tenors.{tenor_word, tenor_named};
+
+use crate::words::{Worded, first_worded, is_word};
+use crate::{BucketNumber, Currency};
 
 /// The product class of a trade. Margins of different product classes never net.
-#[derive(Clone, Copy, Debug, PartialEq, Eq, PartialOrd, Ord)]
+#[derive(Clone, Copy, Debug, PartialEq, Eq, PartialOrd, Ord, Hash)]
 pub enum ProductClass {
     RatesFX,
     Credit,
@@ -30,10 +35,31 @@ impl ProductClass {
             ProductClass::Commodity => "Commodity",
         }
     }
+
+    /// The product class that a text names: its word in any case, or `Rates` or `FX`, which are one class together.
+    /// `None` for another text.
+    pub fn read(text: &[u8]) -> Option<ProductClass>
+        ensures { result ≡ product_named text.now }
+    {
+        if is_word("Rates", text) || is_word("FX", text) {
+            return Some(ProductClass::RatesFX);
+        }
+        first_worded(&ProductClass::ALL, text)
+    }
+}
+
+impl Worded for ProductClass {
+    ghost use Rattle.simm_kinds.specs.Kinds.{product_word};
+
+    ghost word_of = { product_word };
+
+    fn file_word(&self) -> &'static str {
+        self.word()
+    }
 }
 
 /// The risk class that a sensitivity belongs to.
-#[derive(Clone, Copy, Debug, PartialEq, Eq, PartialOrd, Ord)]
+#[derive(Clone, Copy, Debug, PartialEq, Eq, PartialOrd, Ord, Hash)]
 pub enum RiskClass {
     IR,
     CreditQ,
@@ -67,10 +93,27 @@ impl RiskClass {
             RiskClass::FX => "FX",
         }
     }
+
+    /// The risk class that a text names: its word in any case. `None` for another text.
+    pub fn read(text: &[u8]) -> Option<RiskClass>
+        ensures { result ≡ class_named text.now }
+    {
+        first_worded(&RiskClass::ALL, text)
+    }
+}
+
+impl Worded for RiskClass {
+    ghost use Rattle.simm_kinds.specs.Kinds.{class_word};
+
+    ghost word_of = { class_word };
+
+    fn file_word(&self) -> &'static str {
+        self.word()
+    }
 }
 
 /// What part of a class's margin a sum is for.
-#[derive(Clone, Copy, Debug, PartialEq, Eq, PartialOrd, Ord)]
+#[derive(Clone, Copy, Debug, PartialEq, Eq, PartialOrd, Ord, Hash)]
 pub enum Measure {
     Delta,
     Vega,
@@ -78,8 +121,17 @@ pub enum Measure {
     BaseCorr,
 }
 
+/// The side of a risk class that a sensitivity is on: the value's own change, its volatility's, or that of a base
+/// correlation. Vega and curvature are both margins of the volatility side.
+#[derive(Clone, Copy, Debug, PartialEq, Eq, PartialOrd, Ord, Hash)]
+pub enum Side {
+    Delta,
+    Volatility,
+    BaseCorr,
+}
+
 /// The risk type of a CRIF record, in the order of the standard's table. `Pv` never stands in a row that is kept.
-#[derive(Clone, Copy, Debug, PartialEq, Eq, PartialOrd, Ord)]
+#[derive(Clone, Copy, Debug, PartialEq, Eq, PartialOrd, Ord, Hash)]
 pub enum RiskType {
     IrCurve,
     Inflation,
@@ -105,34 +157,80 @@ pub enum RiskType {
 }
 
 impl RiskType {
-    /// The risk class of the type's sensitivities; add-ons and present values have none.
-    pub fn class(self) -> Option<RiskClass>
-        ensures { result ≡ class_of self }
+    /// All risk types, in their order.
+    pub const ALL: [RiskType; 21] = [
+        RiskType::IrCurve,
+        RiskType::Inflation,
+        RiskType::XccyBasis,
+        RiskType::IrVol,
+        RiskType::InflationVol,
+        RiskType::CreditQ,
+        RiskType::CreditVol,
+        RiskType::CreditNonQ,
+        RiskType::CreditVolNonQ,
+        RiskType::BaseCorr,
+        RiskType::Equity,
+        RiskType::EquityVol,
+        RiskType::Commodity,
+        RiskType::CommodityVol,
+        RiskType::Fx,
+        RiskType::FxVol,
+        RiskType::Notional,
+        RiskType::AddOnNotionalFactor,
+        RiskType::AddOnFixedAmount,
+        RiskType::ProductClassMultiplier,
+        RiskType::Pv,
+    ];
+
+    /// The word of the type in files and printed text.
+    pub fn word(self) -> &'static str
+        ensures { result.now ≡ kind_word self }
     {
         match self {
-            RiskType::IrCurve
-            | RiskType::Inflation
-            | RiskType::XccyBasis
-            | RiskType::IrVol
-            | RiskType::InflationVol => Some(RiskClass::IR),
-            RiskType::CreditQ | RiskType::CreditVol | RiskType::BaseCorr => {
-                Some(RiskClass::CreditQ)
-            }
-            RiskType::CreditNonQ | RiskType::CreditVolNonQ => Some(RiskClass::CreditNonQ),
-            RiskType::Equity | RiskType::EquityVol => Some(RiskClass::Equity),
-            RiskType::Commodity | RiskType::CommodityVol => Some(RiskClass::Commodity),
-            RiskType::Fx | RiskType::FxVol => Some(RiskClass::FX),
-            RiskType::Notional
-            | RiskType::AddOnNotionalFactor
-            | RiskType::AddOnFixedAmount
-            | RiskType::ProductClassMultiplier
-            | RiskType::Pv => None,
+            RiskType::IrCurve => "Risk_IRCurve",
+            RiskType::Inflation => "Risk_Inflation",
+            RiskType::XccyBasis => "Risk_XCcyBasis",
+            RiskType::IrVol => "Risk_IRVol",
+            RiskType::InflationVol => "Risk_InflationVol",
+            RiskType::CreditQ => "Risk_CreditQ",
+            RiskType::CreditVol => "Risk_CreditVol",
+            RiskType::CreditNonQ => "Risk_CreditNonQ",
+            RiskType::CreditVolNonQ => "Risk_CreditVolNonQ",
+            RiskType::BaseCorr => "Risk_BaseCorr",
+            RiskType::Equity => "Risk_Equity",
+            RiskType::EquityVol => "Risk_EquityVol",
+            RiskType::Commodity => "Risk_Commodity",
+            RiskType::CommodityVol => "Risk_CommodityVol",
+            RiskType::Fx => "Risk_FX",
+            RiskType::FxVol => "Risk_FXVol",
+            RiskType::Notional => "Notional",
+            RiskType::AddOnNotionalFactor => "Param_AddOnNotionalFactor",
+            RiskType::AddOnFixedAmount => "Param_AddOnFixedAmount",
+            RiskType::ProductClassMultiplier => "Param_ProductClassMultiplier",
+            RiskType::Pv => "PV",
         }
+    }
+
+    /// The risk type that a text names: its word in any case. `None` for another text.
+    pub fn read(text: &[u8]) -> Option<RiskType>
+        ensures { result ≡ kind_named text.now }
+    {
+        first_worded(&RiskType::ALL, text)
+    }
+}
+
+impl Worded for RiskType {
+    ghost use Rattle.simm_kinds.specs.Kinds.{kind_word};
+
+    ghost word_of = { kind_word };
+
+    fn file_word(&self) -> &'static str {
+        self.word()
     }
 }
 
 /// A vertex of the standard's grid of maturities: weeks, months, years.
-#[derive(Clone, Copy, Debug, PartialEq, Eq, PartialOrd, Ord)]
+#[derive(Clone, Copy, Debug, PartialEq, Eq, PartialOrd, Ord, Hash)]
 pub enum Tenor {
     W2,
     M1,
@@ -148,8 +246,66 @@ pub enum Tenor {
     Y30,
 }
 
+impl Tenor {
+    /// All tenors, shortest first.
+    pub const ALL: [Tenor; 12] = [
+        Tenor::W2,
+        Tenor::M1,
+        Tenor::M3,
+        Tenor::M6,
+        Tenor::Y1,
+        Tenor::Y2,
+        Tenor::Y3,
+        Tenor::Y5,
+        Tenor::Y10,
+        Tenor::Y15,
+        Tenor::Y20,
+        Tenor::Y30,
+    ];
+
+    /// The word of the tenor in files and printed text.
+    pub fn word(self) -> &'static str
+        ensures { result.now ≡ tenor_word self }
+    {
+        match self {
+            Tenor::W2 => "2w",
+            Tenor::M1 => "1m",
+            Tenor::M3 => "3m",
+            Tenor::M6 => "6m",
+            Tenor::Y1 => "1y",
+            Tenor::Y2 => "2y",
+            Tenor::Y3 => "3y",
+            Tenor::Y5 => "5y",
+            Tenor::Y10 => "10y",
+            Tenor::Y15 => "15y",
+            Tenor::Y20 => "20y",
+            Tenor::Y30 => "30y",
+        }
+    }
+
+    /// The tenor that a text names: its word in any case, or `12m` for the year. `None` for another text.
+    pub fn read(text: &[u8]) -> Option<Tenor>
+        ensures { result ≡ tenor_named text.now }
+    {
+        if is_word("12m", text) {
+            return Some(Tenor::Y1);
+        }
+        first_worded(&Tenor::ALL, text)
+    }
+}
+
+impl Worded for Tenor {
+    ghost use Rattle.simm_kinds.specs.Tenors.{tenor_word};
+
+    ghost word_of = { tenor_word };
+
+    fn file_word(&self) -> &'static str {
+        self.word()
+    }
+}
+
 /// The sub-curve of an interest rate sensitivity.
-#[derive(Clone, Copy, Debug, PartialEq, Eq, PartialOrd, Ord)]
+#[derive(Clone, Copy, Debug, PartialEq, Eq, PartialOrd, Ord, Hash)]
 pub enum SubCurve {
     Ois,
     Libor1m,
@@ -160,12 +316,57 @@ pub enum SubCurve {
     Municipal,
 }
 
-/// The bucket of a sensitivity: one of 1 to 64, the residual bucket, a currency in upper case (interest rates), or
-/// the one bucket of a class that has no others.
-#[derive(Clone, Copy, Debug, PartialEq, Eq, PartialOrd, Ord)]
+impl SubCurve {
+    /// All sub-curves, in their order.
+    pub const ALL: [SubCurve; 7] = [
+        SubCurve::Ois,
+        SubCurve::Libor1m,
+        SubCurve::Libor3m,
+        SubCurve::Libor6m,
+        SubCurve::Libor12m,
+        SubCurve::Prime,
+        SubCurve::Municipal,
+    ];
+
+    /// The word of the sub-curve in files and printed text.
+    pub fn word(self) -> &'static str
+        ensures { result.now ≡ sub_word self }
+    {
+        match self {
+            SubCurve::Ois => "OIS",
+            SubCurve::Libor1m => "Libor1m",
+            SubCurve::Libor3m => "Libor3m",
+            SubCurve::Libor6m => "Libor6m",
+            SubCurve::Libor12m => "Libor12m",
+            SubCurve::Prime => "Prime",
+            SubCurve::Municipal => "Municipal",
+        }
+    }
+
+    /// The sub-curve that a text names: its word in any case. `None` for another text.
+    pub fn read(text: &[u8]) -> Option<SubCurve>
+        ensures { result ≡ sub_named text.now }
+    {
+        first_worded(&SubCurve::ALL, text)
+    }
+}
+
+impl Worded for SubCurve {
+    ghost use Rattle.simm_kinds.specs.Kinds.{sub_word};
+
+    ghost word_of = { sub_word };
+
+    fn file_word(&self) -> &'static str {
+        self.word()
+    }
+}
+
+/// The bucket that a sensitivity is summed in: one of the numbered ones, the residual one, that of a currency (interest
+/// rates), or the one bucket of a class that has no others.
+#[derive(Clone, Copy, Debug, PartialEq, Eq, PartialOrd, Ord, Hash)]
 pub enum BucketId {
-    Number(u8),
+    Number(BucketNumber),
     Residual,
-    Currency([u8; 3]),
+    Currency(Currency),
     Single,
 }

@@ -3,22 +3,34 @@
 
 mod batch;
 mod batch_faults;
+mod bucket;
+mod bucket_number;
+mod credit_tenor;
 mod currency;
+mod currency_pair;
+mod factor;
 mod fault;
+mod full_name;
 mod key;
 mod kinds;
 mod listed;
 mod name;
 mod order_laws;
-mod parts;
 mod repeats;
 mod row;
+mod words;
 
-pub use batch::Batch;
+pub use batch::{Batch, built_rows_are_fx};
+pub use bucket::Bucket;
+pub use bucket_number::BucketNumber;
+pub use credit_tenor::CreditTenor;
 pub use currency::Currency;
+pub use currency_pair::CurrencyPair;
+pub use factor::Factor;
 pub use fault::{MakeFault, NameFault};
+pub use full_name::FullName;
 pub use key::FactorKey;
-pub use kinds::{BucketId, Measure, ProductClass, RiskClass, RiskType, SubCurve, Tenor};
+pub use kinds::{BucketId, Measure, ProductClass, RiskClass, RiskType, Side, SubCurve, Tenor};
 pub use listed::Listed;
 pub use name::Name;
 pub use order_laws::orders_are_defined;

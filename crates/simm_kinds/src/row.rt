@@ -1,14 +1,35 @@
 ghost use Rattle.std.specs.Prelude.{◌≡◌, IfOk};
+ghost use Rattle.simm_kinds.specs.Built.{is_built_row};
 
-use crate::{FactorKey, Listed, Name};
+use crate::{FactorKey, FullName, Listed, Name, ProductClass};
+use mh_units::{Cents, Rate4};
 use std::alloc::{AllocError, Global};
 
-/// One sensitivity: what it is to, and how much. The amount is in USD cents; for a product class multiplier and an
-/// add-on factor it is in ten-thousandths.
+/// One row: a sensitivity, or part of an add-on.
 #[derive(Debug, Drop)]
-pub struct CrifRow {
-    pub key: FactorKey,
-    pub amount: i64,
+pub enum CrifRow {
+    /// A sensitivity: what it is to, and how much.
+    Sensitivity {
+        key: FactorKey,
+        amount: Cents,
+    },
+    /// The notional of a trade, for the add-on of its qualifier.
+    Notional {
+        qualifier: Name,
+        amount: Cents,
+    },
+    /// A fixed add-on.
+    FixedAmount(Cents),
+    /// The share of its qualifier's notional that is added on.
+    NotionalFactor {
+        qualifier: FullName,
+        factor: Rate4,
+    },
+    /// What the margin of a product class is multiplied by.
+    Multiplier {
+        product: ProductClass,
+        factor: Rate4,
+    },
 }
 
 /// The rows of one trade. The empty name is the trade that holds the parameters of add-ons.
@@ -19,14 +40,41 @@ pub struct TradeRows {
 }
 
 impl CrifRow {
+    /// Whether the margin that the row has a part in is built: a sensitivity to a built factor, and no add-on.
+    pub fn is_built(&self) -> bool
+        ensures { result ≡ is_built_row self.now }
+    {
+        match self {
+            CrifRow::Sensitivity { key, .. } => key.factor.is_built(),
+            CrifRow::Notional { .. }
+            | CrifRow::FixedAmount(_)
+            | CrifRow::NotionalFactor { .. }
+            | CrifRow::Multiplier { .. } => false,
+        }
+    }
+
     /// An equal row. The only error is want of memory.
     pub fn copy(&self, alloc: Global) -> Result<CrifRow, AllocError>
         ensures { IfOk result (λ copy. copy ≡ self.now) }
     {
-        let key = self.key.copy(alloc)?;
-        Ok(CrifRow {
-            key,
-            amount: self.amount,
+        Ok(match self {
+            CrifRow::Sensitivity { key, amount } => CrifRow::Sensitivity {
+                key: key.copy(alloc)?,
+                amount: *amount,
+            },
+            CrifRow::Notional { qualifier, amount } => CrifRow::Notional {
+                qualifier: qualifier.copy(alloc)?,
+                amount: *amount,
+            },
+            CrifRow::FixedAmount(amount) => CrifRow::FixedAmount(*amount),
+            CrifRow::NotionalFactor { qualifier, factor } => CrifRow::NotionalFactor {
+                qualifier: qualifier.copy(alloc)?,
+                factor: *factor,
+            },
+            CrifRow::Multiplier { product, factor } => CrifRow::Multiplier {
+                product: *product,
+                factor: *factor,
+            },
         })
     }
 }

@@ -1,10 +1,11 @@
 -- A book with fewer rows is in range where the whole book is.
-use Rattle.std.proofs.Common.{◌≡◌, ◌^◌, ℕ, ◌*◌, ◌≤◌, List, [], ◌∷◌, ◌++◌, map, length, Bool, true, false, ◌&&◌, ◌||◌, cond, if◌then◌else◌, Option, Some, None, refl, sym, ap, ◌∙◌, ℤ, pos, ◌*ℤ◌, ◌≤ℤ◌, int_lt, unsigned_abs, arith}
+use Rattle.std.proofs.Common.{◌≡◌, ◌^◌, ℕ, ◌*◌, ◌≤◌, List, [], ◌∷◌, ◌++◌, map, length, Bool, true, false, ◌||◌, cond, if◌then◌else◌, Option, Some, None, refl, sym, ap, ◌∙◌, ℤ, pos, ◌*ℤ◌, ◌≤ℤ◌, int_lt, unsigned_abs, arith}
 use Rattle.std.specs.Prelude.{sum_by}
 use Rattle.std.specs.declared.cmp.Ordering.{Ordering}
 use Rattle.std.specs.declared.cmp.Ordering.TheVariants.{Less, Equal, Greater}
-use Rattle.std.specs.Ordering.{ordering_reverse}
-use Rattle.std.specs.List.{filter, list_any, list_all, AllByRecursion}
+use Rattle.std.specs.Ordering.{is_eq, ordering_reverse}
+use Rattle.std.specs.List.{filter, flat_map, list_any, list_all, AllByRecursion}
+use Rattle.std.specs.List.Sorted.{IsStrictlySortedBy}
 use Rattle.std.proofs.lemmas.Bool.{false≢true, or_right}
 use Rattle.std.proofs.lemmas.Int.{ints}
 use Rattle.std.proofs.lemmas.List.Sums.{sum_by-cons}
@@ -12,37 +13,36 @@ use Rattle.mh_units.proofs.Roundings.{up_mono}
 use Rattle.simm_kinds.specs.declared.kinds.ProductClass.{ProductClass}
 use Rattle.simm_kinds.specs.declared.kinds.ProductClass.TheVariants as product
 use Rattle.simm_kinds.specs.declared.kinds.RiskClass.TheVariants as class
-use Rattle.simm_kinds.specs.declared.kinds.Measure.TheVariants as measure
+use Rattle.simm_kinds.specs.declared.key.FactorKey.{FactorKey}
 use Rattle.simm_kinds.specs.declared.row.CrifRow.{CrifRow}
 use Rattle.simm_kinds.specs.declared.row.TradeRows.{TradeRows}
 use Rattle.simm_kinds.specs.Batch.{rows_of}
-use Rattle.simm_kinds.specs.Key.{Key, is_key}
+use Rattle.simm_kinds.specs.Built.{is_built_row}
 use Rattle.simm_kinds.specs.Order.{same_product, same_key, key_cmp}
+use Rattle.simm_kinds.proofs.Orders.{key_total, exact_keys}
 use Rattle.simm_rules.specs.declared.values.RangeFault.{RangeFault}
 use Rattle.simm_rules.specs.declared.values.RangeKind.{RangeKind}
 use Rattle.simm_rules.specs.declared.values.RangeKind.TheVariants as range_kind
 use Rattle.simm_rules.specs.Params.{Params}
-use Rattle.simm_rules.specs.Lookups.{weight}
-use Rattle.simm_rules.specs.Sums.{total_by, first_some}
-use Rattle.simm_rules.specs.Net.{rows_in, keys_of, is_in_class, is_of}
-use Rattle.simm_rules.specs.Range.{above, gross, key_count, range}
+use Rattle.simm_rules.specs.Sums.{first_some}
+use Rattle.simm_rules.specs.Net.{Sensitivity, sensitivity, sensitivities, in_product, keys_of}
+use Rattle.simm_rules.specs.Risks.{Amount, select}
+use Rattle.simm_rules.specs.ForeignExchange.{as_currency, fx_weight}
+use Rattle.simm_rules.specs.Gross.{size_by, delta_gross}
+use Rattle.simm_rules.specs.Range.{above, key_count, range}
 use Rattle.simm_rules.specs.Simm.{products}
-use Rattle.simm_params.specs.Facts.{IsParams}
-use Rattle.simm_plain.specs.FxKeys.{IsFxKey, FxRows}
-use Rattle.simm_plain.specs.Bucket.{Ascends}
+use Rattle.factor_book.proofs.Sorting.{any_different}
+use Rattle.factor_book.proofs.Keys.{is_eq-Equal, same_key_refl}
 use Rattle.simm_plain.specs.Faults.{either_first}
-use Rattle.simm_plain.proofs.Filters.{each_weaker, each_passes}
-use Rattle.simm_plain.proofs.Keys.{key_total, tied_keys, same_key_refl, is_equal, fx_rows_from}
-use Rattle.simm_plain.proofs.Nets.{keys_each, keys_ascend}
-use Rattle.simm_plain.proofs.KeySums.{or_rest}
-use Rattle.simm_plain.proofs.NetMaps.{key_among}
-use Rattle.simm_plain.proofs.Appending.{no_key, past}
-use Rattle.simm_plain.proofs.Ranges.{row_fault, key_fault, bucket_fault, gross_fault, fx_in, range_is}
+use Rattle.simm_plain.proofs.Filters.{each_weaker, each_always, total_by-map}
+use Rattle.simm_plain.proofs.BuiltRows.{IsCurrency, AreCurrencies, all_built, are_currencies, currency_amount, currency_in, select-currencies}
+use Rattle.simm_plain.proofs.Netted.{keys_ascend, in_product-currencies}
+use Rattle.simm_plain.proofs.Ranges.{row_fault, key_fault, bucket_fault, gross_fault, range_is}
 use Rattle.simm_plain.proofs.Sizes.{total_by-pos}
-use Rattle.simm_plain.proofs.Weights.{not_above, weight_natural, weighted_amounts}
-use Rattle.simm_plain.proofs.Whole.{none_first, none_each}
+use Rattle.simm_plain.proofs.Weights.{AreWeighed, not_negative}
+use Rattle.simm_plain.proofs.InRange.{none_first, none_each, not_above}
 
--- ---- a list without some items of another
+-- ---- some of the items of a list, in their order
 
 data IsPart {X : Type 0} : List X → List X → Type 0 where
   done : IsPart [] []
@@ -85,6 +85,11 @@ filter-part test _ _ done = done
 filter-part test _ _ (skip y xs ys h) = filter-skip (test y) y (filter test xs) (filter test ys) (filter-part test xs ys h)
 filter-part test _ _ (keep x xs ys h) = filter-keep (test x) x (filter test xs) (filter test ys) (filter-part test xs ys h)
 
+flat_map-part : {X A : Type 0} (f : X → List A) (xs ys : List X) → IsPart xs ys → IsPart (flat_map f xs) (flat_map f ys)
+flat_map-part f _ _ done = done
+flat_map-part f _ _ (skip y xs ys h) = no_part (f y) (flat_map f xs) (flat_map f ys) (flat_map-part f xs ys h)
+flat_map-part f _ _ (keep x xs ys h) = front_part (f x) (flat_map f xs) (flat_map f ys) (flat_map-part f xs ys h)
+
 or_more : (s t u : Bool) → (t ≡ true → u ≡ true) → (s || t) ≡ true → (s || u) ≡ true
 or_more true t u f h = refl
 or_more false t u f h = f h
@@ -101,28 +106,40 @@ map-part f _ _ (keep x xs ys h) = keep (f x) (map f xs) (map f ys) (map-part f x
 
 -- ---- ascending keys among others are no more
 
+or_rest : (s t : Bool) → (s || t) ≡ true → s ≡ false → t ≡ true
+or_rest true t h e = absurd (false≢true (sym e))
+or_rest false t h e = h
+
+no_key : (q : FactorKey) (ks : List FactorKey) → AllByRecursion (λ k. key_cmp q k ≡ Less) ks → list_any (same_key q) ks ≡ false
+no_key q [] h = refl
+no_key q (k ∷ ks) h = ap (λ o. is_eq o || list_any (same_key q) ks) h.0 ∙ no_key q ks h.1
+
+past : (q k : FactorKey) (ks : List FactorKey) → key_cmp q k ≡ Less → AllByRecursion (λ l. key_cmp k l ≡ Less) ks → list_any (same_key q) (k ∷ ks) ≡ false
+past q k ks less h = no_key q (k ∷ ks) (less, each_weaker (λ l. key_cmp k l ≡ Less) (λ l. key_cmp q l ≡ Less) (λ l e. key_total.trans q k l less e) ks h)
+
 -- no key of those behind x is x itself
-behind : (q x : Key) (ks : List Key) → AllByRecursion (λ l. key_cmp x l ≡ Less) ks → list_any (same_key q) ks ≡ true → same_key q x ≡ false
+behind : (q x : FactorKey) (ks : List FactorKey) → AllByRecursion (λ l. key_cmp x l ≡ Less) ks → list_any (same_key q) ks ≡ true → same_key q x ≡ false
 behind q x ks less h = by (same_key q x) refl
   where
     by : (t : Bool) → same_key q x ≡ t → t ≡ false
     by false e = refl
     by true e =
-        absurd (false≢true (sym (no_key q ks (each_weaker (λ l. key_cmp x l ≡ Less) (λ l. key_cmp q l ≡ Less) (λ l g. key_total.congr q x l (is_equal (key_cmp q x) e) ∙ g) ks less)) ∙ h))
+        absurd (false≢true (sym (no_key q ks (each_weaker (λ l. key_cmp x l ≡ Less) (λ l. key_cmp q l ≡ Less) (λ l g. key_total.congr q x l (is_eq-Equal (key_cmp q x) e) ∙ g) ks less)) ∙ h))
 
-ascends_among : (xs ys : List Key) → Ascends key_cmp xs → Ascends key_cmp ys → AllByRecursion IsFxKey xs → AllByRecursion IsFxKey ys → ((q : Key) → list_any (same_key q) xs ≡ true → list_any (same_key q) ys ≡ true) → length xs ≤ length ys
-ascends_among [] ys s t f g among = omega arith
-ascends_among (x ∷ xs) [] s t f g among = absurd (false≢true (among x (ap (λ b. b || list_any (same_key x) xs) (same_key_refl x))))
-ascends_among (x ∷ xs) (y ∷ ys) s t f g among =
-    heads (key_cmp x y) refl (λ rest. ascends_among xs ys s.1 t.1 f.1 g.1 rest) (λ rest. ascends_among (x ∷ xs) ys s t.1 f g.1 rest)
+ascends_among : (xs ys : List FactorKey) → IsStrictlySortedBy key_cmp xs → IsStrictlySortedBy key_cmp ys → ((q : FactorKey) → list_any (same_key q) xs ≡ true → list_any (same_key q) ys ≡ true) → length xs ≤ length ys
+unfolding IsStrictlySortedBy
+ascends_among [] ys s t among = omega arith
+ascends_among (x ∷ xs) [] s t among = absurd (false≢true (among x (ap (λ b. b || list_any (same_key x) xs) (same_key_refl x))))
+ascends_among (x ∷ xs) (y ∷ ys) s t among =
+    heads (key_cmp x y) refl (λ rest. ascends_among xs ys s.1 t.1 rest) (λ rest. ascends_among (x ∷ xs) ys s t.1 rest)
   where
     heads : (o : Ordering) → key_cmp x y ≡ o
-        → (((q : Key) → list_any (same_key q) xs ≡ true → list_any (same_key q) ys ≡ true) → length xs ≤ length ys)
-        → (((q : Key) → list_any (same_key q) (x ∷ xs) ≡ true → list_any (same_key q) ys ≡ true) → length (x ∷ xs) ≤ length ys)
+        → (((q : FactorKey) → list_any (same_key q) xs ≡ true → list_any (same_key q) ys ≡ true) → length xs ≤ length ys)
+        → (((q : FactorKey) → list_any (same_key q) (x ∷ xs) ≡ true → list_any (same_key q) ys ≡ true) → length (x ∷ xs) ≤ length ys)
         → length (x ∷ xs) ≤ length (y ∷ ys)
     heads Less e both one = absurd (false≢true (sym (past x y ys e t.0) ∙ among x (ap (λ b. b || list_any (same_key x) xs) (same_key_refl x))))
     heads Equal e both one =
-        let at : x ≡ y = tied_keys x y f.0 g.0 e in
+        let at : x ≡ y = exact_keys x y e in
         let rest : length xs ≤ length ys = both (λ q h. or_rest (same_key q y) (list_any (same_key q) ys) (among q (or_right (same_key q x) (list_any (same_key q) xs) h)) (ap (same_key q) (sym at) ∙ behind q x xs s.0 h)) in
         omega (arith, rest)
     heads Greater e both one =
@@ -131,10 +148,13 @@ ascends_among (x ∷ xs) (y ∷ ys) s t f g among =
         let rest : length (x ∷ xs) ≤ length ys = one (λ q h. or_rest (same_key q y) (list_any (same_key q) ys) (among q h) (behind q y (x ∷ xs) later h)) in
         omega (arith, rest)
 
-keys-part : (xs ys : List CrifRow) → IsPart xs ys → FxRows ys → length (keys_of xs) ≤ length (keys_of ys)
-keys-part xs ys h fx =
-    ascends_among (keys_of xs) (keys_of ys) (keys_ascend xs) (keys_ascend ys) (keys_each xs (each-part (λ r. IsFxKey r.key) xs ys h fx)) (keys_each ys fx)
-    (λ q there. key_among q ys ∙ any-part (same_key q) (map (λ r. r.key) xs) (map (λ r. r.key) ys) (map-part (λ r. r.key) xs ys h) (sym (key_among q xs) ∙ there))
+key_among : (q : FactorKey) (ss : List Sensitivity) → list_any (same_key q) (keys_of ss) ≡ list_any (same_key q) (map (λ s. s.key) ss)
+key_among q ss = any_different key_cmp (same_key q) (λ k l e. ap (same_key q) (exact_keys k l e)) (map (λ s. s.key) ss)
+
+keys-part : (xs ys : List Sensitivity) → IsPart xs ys → length (keys_of xs) ≤ length (keys_of ys)
+keys-part xs ys h =
+    ascends_among (keys_of xs) (keys_of ys) (keys_ascend xs) (keys_ascend ys)
+    (λ q there. key_among q ys ∙ any-part (same_key q) (map (λ s. s.key) xs) (map (λ s. s.key) ys) (map-part (λ s. s.key) xs ys h) (sym (key_among q xs) ∙ there))
 
 -- ---- the range
 
@@ -147,18 +167,21 @@ not_more kind value more limit le none =
     fault : RangeFault
     fault = record { which = kind; value = value; limit = limit }
 
-amounts_are : (p : Params) (rows : List CrifRow) → IsParams p → FxRows rows → total_by (λ r. pos (unsigned_abs r.amount) *ℤ weight p r.key) rows ≡ pos (weighted_amounts p rows)
-amounts_are p rows facts fx =
-    total_by-pos (λ r. pos (unsigned_abs r.amount) *ℤ weight p r.key) (λ r. unsigned_abs r.amount * unsigned_abs (weight p r.key)) rows
-    (each_weaker (λ r. IsFxKey r.key) (λ r. pos (unsigned_abs r.amount) *ℤ weight p r.key ≡ pos (unsigned_abs r.amount * unsigned_abs (weight p r.key))) (λ r f. ap (λ z. pos (unsigned_abs r.amount) *ℤ z) (weight_natural p r.key facts f)) rows fx)
+-- the sizes of amounts to currencies times their weights
+abbrev weighted_amounts : Params → List Sensitivity → ℕ
+weighted_amounts p ss = sum_by (λ s. unsigned_abs s.amount * unsigned_abs (fx_weight p (currency_in s.key.factor))) ss
 
-gross-part : (p : Params) (xs ys : List CrifRow) → IsParams p → IsPart xs ys → FxRows ys → gross (weight p) xs ≤ℤ gross (weight p) ys
-gross-part p xs ys facts h fx =
-    up_mono (total_by (λ r. pos (unsigned_abs r.amount) *ℤ weight p r.key) xs) (total_by (λ r. pos (unsigned_abs r.amount) *ℤ weight p r.key) ys) (pos 10000) (omega (arith, ints))
-    (omega (arith, ints, amounts_are p xs facts (each-part (λ r. IsFxKey r.key) xs ys h fx), amounts_are p ys facts fx, sum-part (λ r. unsigned_abs r.amount * unsigned_abs (weight p r.key)) xs ys h))
+amounts_are : (p : Params) (ss : List Sensitivity) → AreWeighed p → AreCurrencies ss → size_by (fx_weight p) (select as_currency ss) ≡ pos (weighted_amounts p ss)
+amounts_are p ss weighed h =
+    ap (size_by (fx_weight p)) (select-currencies ss h) ∙ total_by-map (λ (a : Amount (List ℕ)). pos (unsigned_abs a.amount) *ℤ fx_weight p a.of) currency_amount ss
+    ∙ total_by-pos (λ s. pos (unsigned_abs s.amount) *ℤ fx_weight p (currency_in s.key.factor)) (λ s. unsigned_abs s.amount * unsigned_abs (fx_weight p (currency_in s.key.factor))) ss
+    (each_always (λ s. pos (unsigned_abs s.amount) *ℤ fx_weight p (currency_in s.key.factor) ≡ pos (unsigned_abs s.amount * unsigned_abs (fx_weight p (currency_in s.key.factor))))
+    (λ s. ap (λ w. pos (unsigned_abs s.amount) *ℤ w) (not_negative (fx_weight p (currency_in s.key.factor)) (weighed (currency_in s.key.factor)).weight_low)) ss)
 
-rows_in-part : (c : ProductClass) (xs ys : List CrifRow) → IsPart xs ys → IsPart (rows_in c class.FX measure.Delta xs) (rows_in c class.FX measure.Delta ys)
-rows_in-part c xs ys h = filter-part (λ r. same_product r.key.product c && is_in_class class.FX r.key.kind && is_of measure.Delta r.key.kind) xs ys h
+gross-part : (p : Params) (xs ys : List Sensitivity) → AreWeighed p → IsPart xs ys → AreCurrencies ys → delta_gross p xs class.FX ≤ℤ delta_gross p ys class.FX
+gross-part p xs ys weighed h are =
+    up_mono (size_by (fx_weight p) (select as_currency xs)) (size_by (fx_weight p) (select as_currency ys)) (pos 10000) (omega (arith, ints))
+    (omega (arith, ints, amounts_are p xs weighed (each-part (λ s. IsCurrency s.key) xs ys h are), amounts_are p ys weighed are, sum-part (λ s. unsigned_abs s.amount * unsigned_abs (fx_weight p (currency_in s.key.factor))) xs ys h))
 
 no_first : {A : Type 0} (f : ProductClass → Option A) → ((c : ProductClass) → f c ≡ None) → first_some (map f products) ≡ None
 no_first f h =
@@ -171,24 +194,42 @@ four_none : {A : Type 0} (a b c d : Option A) → a ≡ None → b ≡ None → 
 four_none a b c d ea eb ec ed =
     ap (λ o. either_first o (either_first b (either_first c d))) ea ∙ ap (λ o. either_first o (either_first c d)) eb ∙ ap (λ o. either_first o d) ec ∙ ed
 
-range-part : (p : Params) (xs ys : List CrifRow) → IsParams p → IsPart xs ys → FxRows ys → range p ys ≡ None → range p xs ≡ None
-range-part p xs ys facts h fx none =
-    let one = none_first (row_fault ys) (either_first (key_fault ys) (either_first (first_some (map (bucket_fault ys) products)) (first_some (map (gross_fault p ys) products)))) (sym (range_is p ys fx) ∙ none) in
-    let two = none_first (key_fault ys) (either_first (first_some (map (bucket_fault ys) products)) (first_some (map (gross_fault p ys) products))) one.1 in
-    let three = none_first (first_some (map (bucket_fault ys) products)) (first_some (map (gross_fault p ys) products)) two.1 in
-    let few : length xs ≤ length ys = length-part xs ys h in
-    let keys : length (keys_of xs) ≤ length (keys_of ys) = keys-part xs ys h fx in
-    range_is p xs (each-part (λ r. IsFxKey r.key) xs ys h fx)
-    ∙ four_none (row_fault xs) (key_fault xs) (first_some (map (bucket_fault xs) products)) (first_some (map (gross_fault p xs) products))
-    (not_more range_kind.RowCount (pos (length xs)) (pos (length ys)) (pos 200000) (omega (arith, ints, few)) one.0)
-    (not_more range_kind.KeyCount (key_count xs) (key_count ys) (pos 20000) (omega (arith, ints, keys)) two.0)
-    (no_first (bucket_fault xs) (λ c. not_more range_kind.BucketKeys (key_count (rows_in c class.FX measure.Delta xs)) (key_count (rows_in c class.FX measure.Delta ys)) (pos 2000)
-    (in_bucket c) (none_each (bucket_fault ys) three.0 c)))
-    (no_first (gross_fault p xs) (λ c. not_more range_kind.DeltaGross (gross (weight p) (rows_in c class.FX measure.Delta xs)) (gross (weight p) (rows_in c class.FX measure.Delta ys)) (pos (10 ^ 13))
-    (gross-part p (rows_in c class.FX measure.Delta xs) (rows_in c class.FX measure.Delta ys) facts (rows_in-part c xs ys h) (fx_in c ys fx)) (none_each (gross_fault p ys) three.1 c)))
-  where
-    in_bucket : (c : ProductClass) → key_count (rows_in c class.FX measure.Delta xs) ≤ℤ key_count (rows_in c class.FX measure.Delta ys)
-    in_bucket c = omega (arith, ints, keys-part (rows_in c class.FX measure.Delta xs) (rows_in c class.FX measure.Delta ys) (rows_in-part c xs ys h) (fx_in c ys fx))
+module _ (p : Params) (rows more : List CrifRow) (weighed : AreWeighed p) (h : IsPart rows more) (are : AreCurrencies (sensitivities more)) where
+  abbrev xs : List Sensitivity
+  xs = sensitivities rows
+
+  abbrev ys : List Sensitivity
+  ys = sensitivities more
+
+  of_rows : IsPart xs ys
+  of_rows = flat_map-part sensitivity rows more h
+
+  of_class : (c : ProductClass) → IsPart (in_product c xs) (in_product c ys)
+  of_class c = filter-part (λ s. same_product s.key.product c) xs ys of_rows
+
+  abbrev bucket_at : List Sensitivity → ProductClass → Option RangeFault
+  bucket_at ss c = bucket_fault (in_product c ss)
+
+  abbrev gross_at : List Sensitivity → ProductClass → Option RangeFault
+  gross_at ss c = gross_fault p (in_product c ss)
+
+  range-part : range p more ≡ None → range p rows ≡ None
+  range-part none =
+      let one = none_first (row_fault more) (either_first (key_fault ys) (either_first (first_some (map (bucket_at ys) products)) (first_some (map (gross_at ys) products)))) (sym (range_is p more are) ∙ none) in
+      let two = none_first (key_fault ys) (either_first (first_some (map (bucket_at ys) products)) (first_some (map (gross_at ys) products))) one.1 in
+      let three = none_first (first_some (map (bucket_at ys) products)) (first_some (map (gross_at ys) products)) two.1 in
+      let few : length rows ≤ length more = length-part rows more h in
+      let keys : length (keys_of xs) ≤ length (keys_of ys) = keys-part xs ys of_rows in
+      range_is p rows (each-part (λ s. IsCurrency s.key) xs ys of_rows are)
+      ∙ four_none (row_fault rows) (key_fault xs) (first_some (map (bucket_at xs) products)) (first_some (map (gross_at xs) products))
+      (not_more range_kind.RowCount (pos (length rows)) (pos (length more)) (pos 200000) (omega (arith, ints, few)) one.0)
+      (not_more range_kind.KeyCount (key_count xs) (key_count ys) (pos 20000) (omega (arith, ints, keys)) two.0)
+      (no_first (bucket_at xs) (λ c. not_more range_kind.BucketKeys (key_count (in_product c xs)) (key_count (in_product c ys)) (pos 2000) (in_bucket c) (none_each (bucket_at ys) three.0 c)))
+      (no_first (gross_at xs) (λ c. not_more range_kind.DeltaGross (delta_gross p (in_product c xs) class.FX) (delta_gross p (in_product c ys) class.FX) (pos (10 ^ 13))
+      (gross-part p (in_product c xs) (in_product c ys) weighed (of_class c) (in_product-currencies c ys are)) (none_each (gross_at ys) three.1 c)))
+    where
+      in_bucket : (c : ProductClass) → key_count (in_product c xs) ≤ℤ key_count (in_product c ys)
+      in_bucket c = omega (arith, ints, keys-part (in_product c xs) (in_product c ys) (of_class c))
 
 -- ---- some trades of a book
 
@@ -200,6 +241,6 @@ rows_part : (test : TradeRows → Bool) (ts : List TradeRows) → IsPart (rows_o
 rows_part test [] = done
 rows_part test (t ∷ ts) = kept_rows (test t) t (filter test ts) ts (rows_part test ts)
 
-pub range-fewer : (p : Params) (test : TradeRows → Bool) (ts : List TradeRows) → IsParams p → list_all (λ r. is_key r.key) (rows_of ts) ≡ true → range p (rows_of ts) ≡ None → range p (rows_of (filter test ts)) ≡ None
-range-fewer p test ts facts keys none =
-    range-part p (rows_of (filter test ts)) (rows_of ts) facts (rows_part test ts) (fx_rows_from (rows_of ts) (each_passes (λ (r : CrifRow). is_key r.key) (λ r. is_key r.key ≡ true) (λ r h. h) (rows_of ts) keys)) none
+pub range-fewer : (p : Params) (test : TradeRows → Bool) (ts : List TradeRows) → AreWeighed p → list_all is_built_row (rows_of ts) ≡ true → range p (rows_of ts) ≡ None → range p (rows_of (filter test ts)) ≡ None
+range-fewer p test ts weighed built none =
+    range-part p (rows_of (filter test ts)) (rows_of ts) weighed (rows_part test ts) (are_currencies (rows_of ts) (all_built (rows_of ts) built)) none

@@ -1,17 +1,7 @@
 -- Filters of lists of which each element has a fact.
-use Rattle.std.proofs.Common.{◌≡◌, List, [], ◌∷◌, ◌++◌, map, Bool, true, false, ◌&&◌, not, cond, refl, ap, ◌∙◌, ℤ, pos, ◌+ℤ◌, ◌*ℤ◌, arith}
-use Rattle.std.proofs.Math.IntN.{zero-*ℤ}
-use Rattle.std.specs.List.{filter, list_all, AllByRecursion}
-use Rattle.std.proofs.lemmas.Bool.{and_parts}
-use Rattle.std.proofs.lemmas.Int.{ints}
-use Rattle.mh_units.proofs.Integers.{add-mul_ℤ}
+use Rattle.std.proofs.Common.{◌≡◌, List, [], ◌∷◌, map, Bool, true, false, cond, refl, ap, ◌∙◌, ℤ, ◌+ℤ◌}
+use Rattle.std.specs.List.{filter, AllByRecursion}
 use Rattle.simm_rules.specs.Sums.{total_by}
-
--- each element that a test of the whole list lets through
-pub each_passes : {X : Type 0} (test : X → Bool) (P : X → Type 0) → ((x : X) → test x ≡ true → P x) → (xs : List X) → list_all test xs ≡ true → AllByRecursion P xs
-each_passes test P f [] h = tt
-each_passes test P f (x ∷ xs) h =
-    let parts = and_parts (test x) (list_all test xs) h in (f x parts.0, each_passes test P f xs parts.1)
 
 pub each_always : {X : Type 0} (P : X → Type 0) → ((x : X) → P x) → (xs : List X) → AllByRecursion P xs
 each_always P f [] = tt
@@ -58,40 +48,26 @@ filter_every test [] h = refl
 filter_every test (x ∷ xs) h =
     ap (λ t. cond t (x ∷ filter test xs) (filter test xs)) h.0 ∙ ap (λ ys. x ∷ ys) (filter_every test xs h.1)
 
--- one filter behind another
-both_step : {X : Type 0} (p : X → Bool) (x : X) (s : Bool) (xs zs : List X) → filter p xs ≡ zs → filter p (cond s (x ∷ xs) xs) ≡ cond (s && p x) (x ∷ zs) zs
-both_step p x true xs zs e = ap (λ ws. cond (p x) (x ∷ ws) ws) e
-both_step p x false xs zs e = e
-
-pub filter_both : {X : Type 0} (p q : X → Bool) (xs : List X) → filter p (filter q xs) ≡ filter (λ x. q x && p x) xs
-filter_both p q [] = refl
-filter_both p q (x ∷ xs) = both_step p x (q x) (filter q xs) (filter (λ y. q y && p y) xs) (filter_both p q xs)
-
 pub total_by-agrees : {X : Type 0} (f g : X → ℤ) (xs : List X) → AllByRecursion (λ x. f x ≡ g x) xs → total_by f xs ≡ total_by g xs
 total_by-agrees f g [] h = refl
 total_by-agrees f g (x ∷ xs) h = ap (λ z. z +ℤ total_by f xs) h.0 ∙ ap (λ z. g x +ℤ z) (total_by-agrees f g xs h.1)
-
-pub total_by-append : {X : Type 0} (f : X → ℤ) (xs ys : List X) → total_by f (xs ++ ys) ≡ total_by f xs +ℤ total_by f ys
-total_by-append f [] ys = omega (arith, ints)
-total_by-append f (x ∷ xs) ys = omega (arith, ints, total_by-append f xs ys)
 
 pub total_by-map : {X Y : Type 0} (f : Y → ℤ) (g : X → Y) (xs : List X) → total_by f (map g xs) ≡ total_by (λ x. f (g x)) xs
 total_by-map f g [] = refl
 total_by-map f g (x ∷ xs) = ap (λ z. f (g x) +ℤ z) (total_by-map f g xs)
 
-pub total_by-scaled : {X : Type 0} (f : X → ℤ) (c : ℤ) (xs : List X) → total_by f xs *ℤ c ≡ total_by (λ x. f x *ℤ c) xs
-total_by-scaled f c [] = zero-*ℤ c
-total_by-scaled f c (x ∷ xs) = add-mul_ℤ (f x) (total_by f xs) c ∙ ap (λ z. f x *ℤ c +ℤ z) (total_by-scaled f c xs)
+pub map-filter : {X Y : Type 0} (f : X → Y) (p : Y → Bool) (xs : List X) → map f (filter (λ x. p (f x)) xs) ≡ filter p (map f xs)
+map-filter f p [] = refl
+map-filter f p (x ∷ xs) = step (p (f x)) (map-filter f p xs)
+  where
+    step : (t : Bool) → map f (filter (λ y. p (f y)) xs) ≡ filter p (map f xs) → map f (cond t (x ∷ filter (λ y. p (f y)) xs) (filter (λ y. p (f y)) xs)) ≡ cond t (f x ∷ filter p (map f xs)) (filter p (map f xs))
+    step true i = ap (λ ys. f x ∷ ys) i
+    step false i = i
 
-pub total_by-none : {X : Type 0} (xs : List X) → pos 0 ≡ total_by (λ _. pos 0) xs
-total_by-none [] = refl
-total_by-none (x ∷ xs) = omega (arith, ints, total_by-none xs)
+pub map_agrees : {X A : Type 0} (f g : X → A) (xs : List X) → AllByRecursion (λ x. f x ≡ g x) xs → map f xs ≡ map g xs
+map_agrees f g [] h = refl
+map_agrees f g (x ∷ xs) h = ap (λ y. y ∷ map f xs) h.0 ∙ ap (λ ys. g x ∷ ys) (map_agrees f g xs h.1)
 
-part_step : {X : Type 0} (f : X → ℤ) (t : Bool) (x : X) (ys zs : List X) → total_by f (cond t (x ∷ ys) ys) +ℤ total_by f (cond (not t) (x ∷ zs) zs) ≡ f x +ℤ (total_by f ys +ℤ total_by f zs)
-part_step f true x ys zs = omega (arith, ints)
-part_step f false x ys zs = omega (arith, ints)
-
--- what a filter keeps and what it drops
-pub total_by-split : {X : Type 0} (f : X → ℤ) (p : X → Bool) (xs : List X) → total_by f (filter p xs) +ℤ total_by f (filter (λ x. not (p x)) xs) ≡ total_by f xs
-total_by-split f p [] = omega (arith, ints)
-total_by-split f p (x ∷ xs) = omega (arith, ints, part_step f (p x) x (filter p xs) (filter (λ y. not (p y)) xs), total_by-split f p xs)
+pub each_map : {X A : Type 0} (P : A → Type 0) (f : X → A) (xs : List X) → AllByRecursion (λ x. P (f x)) xs → AllByRecursion P (map f xs)
+each_map P f [] h = tt
+each_map P f (x ∷ xs) h = (h.0, each_map P f xs h.1)

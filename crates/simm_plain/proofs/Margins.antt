@@ -1,28 +1,34 @@
--- A book of rows to currencies: each product class has one class margin, that of its one bucket.
-use Rattle.std.proofs.Common.{◌≡◌, ℕ, ◌<◌, List, [], ◌∷◌, map, true, false, ◌&&◌, not, ap, ◌∙◌, ℤ, pos, negsuc, ◌+ℤ◌, ◌*ℤ◌, ◌≤ℤ◌, ◌<ℤ◌, arith, lit<}
+-- The margin of rows to currencies: each product class has one class margin, that of foreign exchange, and there is no add-on.
+use Rattle.std.proofs.Common.{◌≡◌, ◌^◌, ℕ, ◌<◌, List, [], map, refl, sym, ap, ◌∙◌, subst, ℤ, pos, negsuc, ◌+ℤ◌, ◌-ℤ◌, ◌*ℤ◌, ◌≤ℤ◌, ◌<ℤ◌, arith, lit<}
 use Rattle.std.proofs.Math.IntN.{+ℤ_idr, +ℤ_idl, *ℤ_comm, zero-*ℤ}
 use Rattle.std.proofs.lemmas.Int.{ints}
-use Rattle.std.proofs.lemmas.Bool.{and_left, and_right}
 use Rattle.mh_units.specs.Rounding.{up, root}
 use Rattle.mh_units.proofs.Roundings.{up_is, IsUp_unique, root_square, root_is}
 use Rattle.mh_units.proofs.Integers.{mul_assoc_ℤ, add-mul_ℤ, below_next}
 use Rattle.simm_kinds.specs.declared.kinds.ProductClass.{ProductClass}
+use Rattle.simm_kinds.specs.declared.kinds.ProductClass.TheVariants as product
 use Rattle.simm_kinds.specs.declared.kinds.RiskClass.{RiskClass}
 use Rattle.simm_kinds.specs.declared.kinds.RiskClass.TheVariants as class
-use Rattle.simm_kinds.specs.declared.kinds.BucketId.TheVariants as bucket
-use Rattle.simm_kinds.specs.declared.kinds.Measure.TheVariants as measure
 use Rattle.simm_kinds.specs.declared.row.CrifRow.{CrifRow}
-use Rattle.simm_kinds.specs.Order.{same_class, same_product, bucket_cmp, same_bucket}
-use Rattle.simm_rules.specs.declared.values.BucketMargin.{BucketMargin}
+use Rattle.simm_kinds.specs.Order.{same_name}
+use Rattle.simm_rules.specs.declared.values.ProductMargin.{ProductMargin}
+use Rattle.simm_rules.specs.declared.values.Breakdown.{Breakdown}
+use Rattle.simm_rules.specs.Parts.{cents}
 use Rattle.simm_rules.specs.Params.{Params}
-use Rattle.simm_rules.specs.Lookups.{psi}
-use Rattle.simm_rules.specs.Sums.{total_by_pairs, put_in}
-use Rattle.simm_rules.specs.Net.{rows_in, risky, in_bucket, buckets_of, is_in_class, is_of, is_own_currency}
+use Rattle.simm_rules.specs.Sums.{total_by, total_by_pairs}
+use Rattle.simm_rules.specs.Net.{Sensitivity, sensitivities, in_product, netted}
+use Rattle.simm_rules.specs.Risks.{Non_qualifying, Equities, Commodities, Amount}
 use Rattle.simm_rules.specs.Concentration.{one}
-use Rattle.simm_rules.specs.Delta.{root_of, pair_sum, bucket_value, parts_of, margin_of, delta_margin}
-use Rattle.simm_rules.specs.Simm.{classes, joined}
-use Rattle.simm_plain.proofs.Filters.{filter_none, filter_every, each_weaker, each_kept}
-use Rattle.simm_plain.specs.FxKeys.{IsFxKey, FxRows}
+use Rattle.simm_rules.specs.Bucket.{pair_sum, concentrated}
+use Rattle.simm_rules.specs.ForeignExchange.{currencies_of, weighted_currency, currency_rho, fx_delta}
+use Rattle.simm_rules.specs.AddOns.{fixed_amount, fixed_amounts, notional_of, notional_factor, notional_add_on, multiplier, multiplier_of, multiplied}
+use Rattle.simm_rules.specs.Simm.{products, classes, class_margin_of, class_margin, psi, joined, product_margin, multiplier_add_on, part_of, simm}
+use Rattle.simm_plain.specs.Parts.{fx_alone, breakdown_of}
+use Rattle.simm_plain.proofs.Filters.{each_weaker, total_by-agrees}
+use Rattle.simm_plain.proofs.BuiltRows.{AreCurrencies, IsBuilt, AreBuilt, are_currencies, flat_map-none}
+use Rattle.simm_plain.proofs.Nothing.{total_by-zeros, up_zero}
+use Rattle.simm_plain.proofs.OtherClasses.{rates_zero, qualifying_zero, credit_zero, price_zero, fx_delta_alone}
+use Rattle.simm_plain.proofs.Netted.{in_product-currencies, netted-currencies}
 
 -- ---- roundings that round nothing
 
@@ -41,58 +47,106 @@ pub root_own : (k : ℤ) → pos 0 ≤ℤ k → root (k *ℤ k) ≡ k
 root_own (pos n) h = root_square (pos n)
 root_own (negsuc n) h = absurd h.le
 
--- ---- the one bucket
-
--- rows of which each bucket is Single have that bucket, if any
-pub one_bucket : (r : CrifRow) (rows : List CrifRow) → IsFxKey r.key → FxRows rows → buckets_of (r ∷ rows) ≡ bucket.Single ∷ []
-one_bucket r [] f h = ap (λ k. k.bucket ∷ []) f
-one_bucket r (s ∷ rows) f h =
-    ap (λ bs. put_in bucket_cmp r.key.bucket bs) (one_bucket s rows h.0 h.1) ∙ ap (λ k. put_in bucket_cmp k.bucket (bucket.Single ∷ [])) f
-
--- they are all in it
-pub all_in_bucket : (rows : List CrifRow) → FxRows rows → in_bucket bucket.Single rows ≡ rows
-all_in_bucket rows h =
-    filter_every (λ r. same_bucket r.key.bucket bucket.Single) rows (each_weaker (λ r. IsFxKey r.key) (λ r. same_bucket r.key.bucket bucket.Single ≡ true) (λ r f. ap (λ k. same_bucket k.bucket bucket.Single) f) rows h)
-
--- the margin over that bucket is its own value
-pub margin_of_bucket : (p : Params) (class : RiskClass) (v : BucketMargin) → pos 0 ≤ℤ v.k → margin_of p class (record { at = bucket.Single; value = v } ∷ []) ≡ v.k
-margin_of_bucket p class v h =
-    let square = v.k *ℤ v.k in
-    let sum : one *ℤ (square +ℤ pos 0) +ℤ pos 0 ≡ one *ℤ square = +ℤ_idr (one *ℤ (square +ℤ pos 0)) ∙ ap (λ z. one *ℤ z) (+ℤ_idr square) in
-    let rooted : root_of (one *ℤ (square +ℤ pos 0) +ℤ pos 0) ≡ v.k = ap root_of sum ∙ ap root (up_exact 1000000 square (lit< tt)) ∙ root_own v.k h in
-    +ℤ_idr (root_of (one *ℤ (square +ℤ pos 0) +ℤ pos 0)) ∙ rooted
-
-pub fx_parts_margin : (p : Params) (rows : List CrifRow) → FxRows rows → margin_of p class.FX (parts_of p rows) ≡ root_of (pair_sum p rows)
-fx_parts_margin p [] h = +ℤ_idr (root (pos 0))
-fx_parts_margin p (r ∷ rs) h =
-    ap (λ bs. margin_of p class.FX (map (λ b. record { at = b; value = bucket_value p (in_bucket b (r ∷ rs)) }) bs)) (one_bucket r rs h.0 h.1)
-    ∙ margin_of_bucket p class.FX (bucket_value p (in_bucket bucket.Single (r ∷ rs))) ((root_is (up (pair_sum p (in_bucket bucket.Single (r ∷ rs))) one)).not_negative)
-    ∙ ap (λ rows. root_of (pair_sum p rows)) (all_in_bucket (r ∷ rs) h)
-
--- ---- the classes of a product class
-
--- the margin of a product class's sensitivities to currencies
-abbrev pub fx_margin : Params → List CrifRow → ProductClass → ℤ
-fx_margin p rows product = root_of (pair_sum p (risky p (rows_in product class.FX measure.Delta rows)))
-
-pub fx_delta : (p : Params) (rows : List CrifRow) (product : ProductClass) → FxRows rows → delta_margin p rows product class.FX ≡ fx_margin p rows product
-fx_delta p rows product h =
-    fx_parts_margin p (risky p (rows_in product class.FX measure.Delta rows))
-    (each_kept (λ r. IsFxKey r.key) (λ r. not (is_own_currency p r.key)) (rows_in product class.FX measure.Delta rows)
-    (each_kept (λ r. IsFxKey r.key) (λ r. same_product r.key.product product && is_in_class class.FX r.key.kind && is_of measure.Delta r.key.kind) rows h))
-
-pub none_in_class : (product : ProductClass) (c : RiskClass) (rows : List CrifRow) → same_class c class.FX ≡ false → FxRows rows → rows_in product c measure.Delta rows ≡ []
-none_in_class product c rows other h =
-    filter_none (λ r. same_product r.key.product product && is_in_class c r.key.kind && is_of measure.Delta r.key.kind) rows
-    (each_weaker (λ r. IsFxKey r.key) (λ r. (same_product r.key.product product && is_in_class c r.key.kind && is_of measure.Delta r.key.kind) ≡ false) (λ r f. ap (λ k. same_product k.product product && is_in_class c k.kind && is_of measure.Delta k.kind) f ∙ and_left (same_product r.key.product product && same_class c class.FX) true (and_right (same_product r.key.product product) (same_class c class.FX) other)) rows h)
-
-pub other_delta : (p : Params) (rows : List CrifRow) (product : ProductClass) (c : RiskClass) → same_class c class.FX ≡ false → FxRows rows → delta_margin p rows product c ≡ pos 0
-other_delta p rows product c other h =
-    ap (λ xs. margin_of p c (parts_of p (risky p xs))) (none_in_class product c rows other h) ∙ +ℤ_idr (root (pos 0)) ∙ root_own (pos 0) (omega (arith, ints))
+times_zero : (z : ℤ) → z *ℤ pos 0 ≡ pos 0
+times_zero z = *ℤ_comm z (pos 0) ∙ zero-*ℤ z
 
 -- one class margin alone is the margin of its product class
-pub joined_alone : (p : Params) (m : RiskClass → ℤ) → m class.IR ≡ pos 0 → m class.CreditQ ≡ pos 0 → m class.CreditNonQ ≡ pos 0 → m class.Equity ≡ pos 0 → m class.Commodity ≡ pos 0 → pos 0 ≤ℤ m class.FX → joined p m ≡ m class.FX
+joined_alone : (p : Params) (m : RiskClass → ℤ) → m class.IR ≡ pos 0 → m class.CreditQ ≡ pos 0 → m class.CreditNonQ ≡ pos 0 → m class.Equity ≡ pos 0 → m class.Commodity ≡ pos 0 → pos 0 ≤ℤ m class.FX → joined p m ≡ m class.FX
 joined_alone p m a b c d e h =
     let fx = m class.FX in
-    let pairs : total_by_pairs (λ r s. psi p r s *ℤ m r *ℤ m s) classes ≡ pos 10000 *ℤ fx *ℤ fx = simp (a, b, c, d, e, zero-*ℤ, +ℤ_idl, +ℤ_idr) in
+    let pairs : total_by_pairs (λ r s. psi p r s *ℤ m r *ℤ m s) classes ≡ pos 10000 *ℤ fx *ℤ fx = simp (a, b, c, d, e, times_zero, zero-*ℤ, +ℤ_idl, +ℤ_idr) in
     ap (λ z. root (up z (pos 10000))) (pairs ∙ mul_assoc_ℤ (pos 10000) fx fx) ∙ ap root (up_exact 10000 (fx *ℤ fx) (lit< tt)) ∙ root_own fx h
+
+-- ---- product classes
+
+-- the margin of the currencies of a product class
+abbrev pub currency_margin : Params → List CrifRow → ProductClass → ℤ
+currency_margin p rows product = fx_delta p (netted (in_product product (sensitivities rows)))
+
+not_negative : (p : Params) (ss : List Sensitivity) → pos 0 ≤ℤ fx_delta p ss
+not_negative p ss = (root_is (up (pair_sum {A = List ℕ} (concentrated same_name (currency_rho p)) (map (weighted_currency p) (currencies_of p ss))) one)).not_negative
+
+-- the margins of the risk classes, of sensitivities to currencies
+record ClassMargins (p : Params) (m : RiskClass → ℤ) (fx : ℤ) : Type 0 where
+  ir : m class.IR ≡ pos 0
+  credit_q : m class.CreditQ ≡ pos 0
+  credit_nonq : m class.CreditNonQ ≡ pos 0
+  equity : m class.Equity ≡ pos 0
+  commodity : m class.Commodity ≡ pos 0
+  exchange : m class.FX ≡ fx
+
+classes_of : (p : Params) (ss : List Sensitivity) → AreCurrencies ss → ClassMargins p (class_margin_of p ss) (fx_delta p ss)
+classes_of p ss h = record {
+  ir = rates_zero p ss h;
+  credit_q = qualifying_zero p ss h;
+  credit_nonq = credit_zero p ss h Non_qualifying;
+  equity = price_zero p ss h Equities;
+  commodity = price_zero p ss h Commodities;
+  exchange = fx_delta_alone p ss h ∙ +ℤ_idr (fx_delta p ss +ℤ pos 0) ∙ +ℤ_idr (fx_delta p ss);
+}
+
+-- a product class's part, by its margin and those of its risk classes
+abbrev written_part : ℤ → ℤ → ℤ → ℤ → ℤ → ℤ → ℤ → ProductMargin
+written_part m ir q nonq equity commodity fx = record {
+  margin = cents m;
+  classes = record { ir = cents ir; credit_q = cents q; credit_nonq = cents nonq; equity = cents equity; commodity = cents commodity; fx = cents fx };
+}
+
+-- parts agree where their margins do
+same_parts : (p : Params) (m : ℤ) (c : RiskClass → ℤ) (fx : ℤ) → m ≡ fx → ClassMargins p c fx → written_part m (c class.IR) (c class.CreditQ) (c class.CreditNonQ) (c class.Equity) (c class.Commodity) (c class.FX) ≡ fx_alone (cents fx)
+same_parts p m c fx same its =
+    λ i. written_part (same i) (its.ir i) (its.credit_q i) (its.credit_nonq i) (its.equity i) (its.commodity i) (its.exchange i)
+
+module _ (p : Params) (rows : List CrifRow) (h : AreBuilt rows) (product : ProductClass) where
+  its_classes : ClassMargins p (class_margin p rows product) (currency_margin p rows product)
+  its_classes =
+      classes_of p (netted (in_product product (sensitivities rows))) (netted-currencies (in_product product (sensitivities rows)) (in_product-currencies product (sensitivities rows) (are_currencies rows h)))
+
+  product_is : product_margin p rows product ≡ currency_margin p rows product
+  product_is =
+      let its = its_classes in
+      joined_alone p (class_margin p rows product) its.ir its.credit_q its.credit_nonq its.equity its.commodity
+      (subst (λ z. pos 0 ≤ℤ z) (sym its.exchange) (not_negative p (netted (in_product product (sensitivities rows)))))
+      ∙ its.exchange
+
+  part_is : part_of p rows product ≡ fx_alone (cents (currency_margin p rows product))
+  part_is = same_parts p (product_margin p rows product) (class_margin p rows product) (currency_margin p rows product) product_is its_classes
+
+-- ---- add-ons
+
+module _ (rows : List CrifRow) (h : AreBuilt rows) where
+  no_fixed : fixed_amounts rows ≡ pos 0
+  no_fixed = total_by-zeros fixed_amount rows (each_weaker IsBuilt (λ r. fixed_amount r ≡ pos 0) (λ r its. its.unfixed) rows h)
+
+  no_notional : notional_add_on rows ≡ pos 0
+  no_notional =
+      ap (total_by (λ (f : Amount (List ℕ)). up (f.amount *ℤ notional_of rows f.of) (pos (10 ^ 6)))) (flat_map-none notional_factor rows (each_weaker IsBuilt (λ r. notional_factor r ≡ []) (λ r its. its.unfactored) rows h))
+
+  multiplied_none : (product : ProductClass) (m : ℤ) → multiplied rows product m ≡ pos 0
+  multiplied_none product m =
+      let e = flat_map-none multiplier rows (each_weaker IsBuilt (λ r. multiplier r ≡ []) (λ r its. its.unmultiplied) rows h) in
+      let one_time : multiplier_of rows product ≡ pos 10000 = rw e refl in
+      ap (λ z. up ((z -ℤ pos 10000) *ℤ m) (pos 10000)) one_time ∙ ap (λ z. up z (pos 10000)) (zero-*ℤ m) ∙ up_zero (pos 10000)
+
+  no_multiplier : (p : Params) → multiplier_add_on p rows ≡ pos 0
+  no_multiplier p =
+      total_by-zeros (λ c. multiplied rows c (product_margin p rows c)) products
+      (multiplied_none product.RatesFX (product_margin p rows product.RatesFX), (multiplied_none product.Credit (product_margin p rows product.Credit), (multiplied_none product.Equity (product_margin p rows product.Equity), (multiplied_none product.Commodity (product_margin p rows product.Commodity), tt))))
+
+-- ---- the whole
+
+-- a breakdown by its parts
+abbrev from_parts : ProductMargin → ProductMargin → ProductMargin → ProductMargin → ℤ → ℤ → ℤ → ℤ → Breakdown
+from_parts a b c d f n m t = record { rates_fx = a; credit = b; equity = c; commodity = d; fixed = cents f; notional = cents n; multiplier = cents m; total = cents t }
+
+total_is : (t f n m s : ℤ) → t ≡ s → f ≡ pos 0 → n ≡ pos 0 → m ≡ pos 0 → t +ℤ f +ℤ n +ℤ m ≡ s
+total_is t f n m s a b c d = omega (arith, ints)
+
+-- the margin of the rows is that of their product classes alone
+pub simm_is : (p : Params) (rows : List CrifRow) → AreBuilt rows → simm p rows ≡ breakdown_of (currency_margin p rows)
+unfolding simm
+simm_is p rows h =
+    let total = total_is (total_by (product_margin p rows) products) (fixed_amounts rows) (notional_add_on rows) (multiplier_add_on p rows) (total_by (currency_margin p rows) products)
+    (total_by-agrees (product_margin p rows) (currency_margin p rows) products (product_is p rows h product.RatesFX, (product_is p rows h product.Credit, (product_is p rows h product.Equity, (product_is p rows h product.Commodity, tt)))))
+    (no_fixed rows h) (no_notional rows h) (no_multiplier rows h p) in
+    λ i. from_parts (part_is p rows h product.RatesFX i) (part_is p rows h product.Credit i) (part_is p rows h product.Equity i) (part_is p rows h product.Commodity i) (no_fixed rows h i) (no_notional rows h i) (no_multiplier rows h p i) (total i)

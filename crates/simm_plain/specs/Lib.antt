@@ -1,8 +1,6 @@
-pub mod FxKeys
-pub mod Nets
+pub mod Lent
+pub mod Places
 pub mod Bucket
 pub mod Rho
 pub mod Faults
 pub mod Parts
-pub mod Entries
-pub mod Lent

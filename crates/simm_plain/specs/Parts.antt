@@ -1,13 +1,18 @@
 -- A breakdown of margins of rows to currencies.
-use Rattle.std.specs.Prelude.{◌*◌, ◌^◌, ◌≤◌, ℤ, pos, ◌≤ℤ◌, ◌<ℤ◌, unsigned_abs}
+use Rattle.std.specs.Prelude.{List, ◌*◌, ◌^◌, ◌≤◌, ℤ, pos, ◌≤ℤ◌, ◌<ℤ◌, unsigned_abs}
 use Rattle.mh_units.specs.declared.quantities.Cents.{Cents}
 use Rattle.simm_kinds.specs.declared.kinds.ProductClass.{ProductClass}
 use Rattle.simm_kinds.specs.declared.kinds.ProductClass.TheVariants as product
 use Rattle.simm_rules.specs.declared.values.ProductMargin.{ProductMargin}
 use Rattle.simm_rules.specs.declared.values.Breakdown.{Breakdown}
+use Rattle.simm_kinds.specs.declared.key.FactorKey.{FactorKey}
+use Rattle.simm_rules.specs.Params.{Params}
 use Rattle.simm_rules.specs.Parts.{cents}
 use Rattle.simm_rules.specs.Sums.{total_by}
 use Rattle.simm_rules.specs.Simm.{products}
+use Rattle.factor_book.specs.declared.holding.Holding.{Holding}
+use Rattle.simm_plain.specs.Bucket.{bucket_k}
+use Rattle.simm_plain.specs.Places.{currencies_at, risky_nets}
 
 -- the part of a product class of which foreign exchange alone can be above 0
 abbrev pub fx_alone : Cents → ProductMargin
@@ -52,3 +57,7 @@ by_product a b c d product.RatesFX = a
 by_product a b c d product.Credit = b
 by_product a b c d product.Equity = c
 by_product a b c d product.Commodity = d
+
+-- the margin of a book by its factors, which are of sensitivities to currencies
+abbrev pub margin_of : Params → List (FactorKey × Holding) → Breakdown
+margin_of p factors = breakdown_of (λ product. bucket_k p (risky_nets p (currencies_at product factors)))

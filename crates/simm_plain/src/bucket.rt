@@ -1,13 +1,11 @@
-ghost use Rattle.std.specs.Prelude.{◌≡◌, ◌*◌, ◌^◌, ◌<◌, ◌≤◌, IfOk, OnOk, pos, ◌≤ℤ◌, unsigned_abs};
-ghost use Rattle.simm_rules.specs.Delta.{root_of};
-ghost use Rattle.simm_plain.specs.Bucket.{IsBucket, factors, factor_sum};
-ghost use Rattle.simm_plain.specs.Entries.{entries};
-ghost use Rattle.simm_plain.specs.Nets.{nets_in};
+ghost use Rattle.std.specs.Prelude.{◌≡◌, ◌*◌, ◌^◌, ◌<◌, ◌≤◌, IfOk, pos, ◌≤ℤ◌, unsigned_abs};
+ghost use Rattle.simm_plain.specs.Bucket.{IsBucket, bucket_k};
+ghost use Rattle.simm_plain.specs.Places.{amounts, currencies_at, risky_nets};
 
-use crate::net::Net;
-use crate::netting::Nets;
+use crate::currencies::{CurrencyNet, risky_nets};
 use crate::rho::FxRho;
 use crate::weighing::weigh_all;
+use factor_book::Factors;
 use mh_units::Corr6;
 use pair_sum::Steps;
 use simm_kinds::ProductClass;
@@ -21,30 +19,30 @@ use weighted_bucket::{Scaling, bucket_margin};
 pub fn fx_margin(
     alloc: Global,
     params: &Params,
-    nets: &Nets,
+    factors: &Factors,
     product: ProductClass,
 ) -> Result<i128, AllocError>
-    requires { IsBucket params.now (factors params.now product (nets_in nets.now)) }
-    ensures value { IfOk result (λ m. m ≡ root_of (factor_sum params.now (factors params.now product (nets_in nets.now)))) }
+    requires { IsBucket params.now (risky_nets params.now (currencies_at product factors.now)) }
+    ensures value { IfOk result (λ m. m ≡ bucket_k params.now (risky_nets params.now (currencies_at product factors.now))) }
     ensures low { IfOk result (λ m. pos 0 ≤ℤ m) }
     ensures size { IfOk result (λ m. unsigned_abs m ≤ 14 * 10 ^ 15) }
 {
-    let factors = nets.factors(alloc, params, product)?;
-    factors_margin::<Brand>(alloc, params, factors.as_slice(), Blank::new(1))
+    let nets = risky_nets(alloc, params, factors, product)?;
+    nets_margin::<Brand>(alloc, params, nets.as_slice(), Blank::new(1))
 }
 
-// The margin of the bucket of these factors, in cents.
-fn factors_margin<L: Ledger>(
+// The margin of the bucket of these nets, in cents.
+fn nets_margin<L: Ledger>(
     alloc: Global,
     params: &Params,
-    nets: &[Net],
+    nets: &[CurrencyNet],
     blank: Blank,
 ) -> Result<i128, AllocError>
     requires name { blank.name ≡ L.name }
     requires parts { blank.parts ≡ L.parts }
     requires some { 0 < blank.parts }
-    requires in_range { IsBucket params.now (entries nets.now) }
-    ensures value { IfOk result (λ k. k ≡ root_of (factor_sum params.now (entries nets.now))) }
+    requires in_range { IsBucket params.now (amounts nets.now) }
+    ensures value { IfOk result (λ k. k ≡ bucket_k params.now (amounts nets.now)) }
     ensures low { IfOk result (λ k. pos 0 ≤ℤ k) }
     ensures size { IfOk result (λ k. unsigned_abs k ≤ 14 * 10 ^ 15) }
 {

@@ -1,15 +1,17 @@
-ghost use Rattle.std.specs.Prelude.{◌≡◌, ◌^◌, ◌<◌, ◌≤◌, map, length};
+ghost use Rattle.std.specs.Prelude.{◌≡◌, ◌*◌, ◌^◌, ◌<◌, ◌≤◌, map, length, ◌*ℤ◌, unsigned_abs};
+ghost use Rattle.simm_rules.specs.ForeignExchange.{fx_weight as weight_of};
 ghost use Rattle.simm_rules.specs.Sums.{first_some};
 ghost use Rattle.simm_rules.specs.Simm.{products};
 ghost use Rattle.simm_rules.specs.Range.{above as above_of};
-ghost use Rattle.simm_plain.specs.Faults.{count_fault, key_fault, bucket_fault, gross_fault, nets_fault};
+ghost use Rattle.simm_plain.specs.Faults.{count_fault, key_fault, bucket_fault, gross_fault, factors_fault, weighted_size, AreSmall};
 ghost use Rattle.simm_plain.specs.Lent.{all_rows};
-ghost use Rattle.simm_plain.specs.Nets.{AreSums};
+ghost use Rattle.simm_plain.specs.Places.{currencies_at};
 
+use crate::currencies::{currencies_at, currency_of};
 use crate::lent::LentRows;
-use crate::netting::Nets;
-use mh_units::div_up;
-use simm_kinds::ProductClass;
+use factor_book::{Factors, PlaceFactors};
+use mh_units::{Rate4, div_up};
+use simm_kinds::{Currency, ProductClass};
 use simm_params::Params;
 use simm_rules::{RangeFault, RangeKind};
 
@@ -35,19 +37,19 @@ pub fn count_fault(lent: &[LentRows]) -> Option<RangeFault>
 
 /// The first of the other quantities that is above its limit: keys, keys of a product class's bucket, and weighted
 /// sizes of a product class.
-pub fn nets_fault(params: &Params, nets: &Nets) -> Option<RangeFault>
-    requires { AreSums nets.now }
-    ensures { result ≡ nets_fault params.now nets.now }
+pub fn factors_fault(params: &Params, factors: &Factors) -> Option<RangeFault>
+    requires { AreSmall factors.now }
+    ensures { result ≡ factors_fault params.now factors.now }
 {
-    let keys = key_fault(nets);
+    let keys = key_fault(factors);
     if keys.is_some() {
         return keys;
     }
-    let bucket = first_bucket_fault(nets);
+    let bucket = first_bucket_fault(factors);
     if bucket.is_some() {
         return bucket;
     }
-    first_gross_fault(params, nets)
+    first_gross_fault(params, factors)
 }
 
 fn above(which: RangeKind, value: i128, limit: i128) -> Option<RangeFault>
@@ -75,17 +77,17 @@ fn count_rows(lent: &[LentRows]) -> usize
     count
 }
 
-fn key_fault(nets: &Nets) -> Option<RangeFault>
-    ensures { result ≡ key_fault nets.now }
+fn key_fault(factors: &Factors) -> Option<RangeFault>
+    ensures { result ≡ key_fault factors.now }
 {
-    above(RangeKind::KeyCount, nets.len() as i128, MOST_KEYS)
+    above(RangeKind::KeyCount, factors.len() as i128, MOST_KEYS)
 }
 
-fn first_bucket_fault(nets: &Nets) -> Option<RangeFault>
-    ensures { result ≡ first_some (map (bucket_fault nets.now) products) }
+fn first_bucket_fault(factors: &Factors) -> Option<RangeFault>
+    ensures { result ≡ first_some (map (bucket_fault factors.now) products) }
 {
     for product in ProductClass::ALL {
-        let fault = bucket_fault(nets, product);
+        let fault = bucket_fault(factors, product);
         if fault.is_some() {
             return fault;
         }
@@ -93,23 +95,32 @@ fn first_bucket_fault(nets: &Nets) -> Option<RangeFault>
     None
 }
 
-fn bucket_fault(nets: &Nets, product: ProductClass) -> Option<RangeFault>
-    ensures { result ≡ bucket_fault nets.now product }
+fn bucket_fault(factors: &Factors, product: ProductClass) -> Option<RangeFault>
+    ensures { result ≡ bucket_fault factors.now product }
 {
     above(
         RangeKind::BucketKeys,
-        nets.count(product) as i128,
+        count(factors, product) as i128,
         MOST_BUCKET_KEYS,
     )
 }
 
-fn first_gross_fault(params: &Params, nets: &Nets) -> Option<RangeFault>
-    requires sums { AreSums nets.now }
-    requires few { length nets.now ≤ 20000 }
-    ensures { result ≡ first_some (map (gross_fault params.now nets.now) products) }
+fn count(factors: &Factors, product: ProductClass) -> usize
+    ensures { result ≡ length (currencies_at product factors.now) }
+{
+    match currencies_at(factors, product) {
+        Some(lent) => lent.len(),
+        None => 0,
+    }
+}
+
+fn first_gross_fault(params: &Params, factors: &Factors) -> Option<RangeFault>
+    requires small { AreSmall factors.now }
+    requires few { length factors.now ≤ 20000 }
+    ensures { result ≡ first_some (map (gross_fault params.now factors.now) products) }
 {
     for product in ProductClass::ALL {
-        let fault = gross_fault(params, nets, product);
+        let fault = gross_fault(params, factors, product);
         if fault.is_some() {
             return fault;
         }
@@ -117,11 +128,58 @@ fn first_gross_fault(params: &Params, nets: &Nets) -> Option<RangeFault>
     None
 }
 
-fn gross_fault(params: &Params, nets: &Nets, product: ProductClass) -> Option<RangeFault>
-    requires sums { AreSums nets.now }
-    requires few { length nets.now ≤ 20000 }
-    ensures { result ≡ gross_fault params.now nets.now product }
+fn gross_fault(params: &Params, factors: &Factors, product: ProductClass) -> Option<RangeFault>
+    requires small { AreSmall factors.now }
+    requires few { length factors.now ≤ 20000 }
+    ensures { result ≡ gross_fault params.now factors.now product }
 {
-    let cents = div_up(nets.gross(params, product), 10_000);
+    let cents = div_up(gross(params, factors, product), 10_000);
     above(RangeKind::DeltaGross, cents, GREATEST_GROSS)
+}
+
+// The weighted size of a product class, in ten-thousandths of a cent.
+fn gross(params: &Params, factors: &Factors, product: ProductClass) -> i128
+    requires small { AreSmall factors.now }
+    requires few { length factors.now ≤ 20000 }
+    ensures { result ≡ weighted_size params.now (currencies_at product factors.now) }
+{
+    match currencies_at(factors, product) {
+        Some(lent) => weighted_size(params, lent),
+        None => 0,
+    }
+}
+
+fn weighted_size(params: &Params, factors: &PlaceFactors) -> i128
+    requires small { AreSmall factors.now }
+    requires few { length factors.now ≤ 20000 }
+    ensures { result ≡ weighted_size params.now factors.now }
+{
+    let mut total = 0;
+    for (key, holding) in factors.iter() {
+        if let Some(currency) = currency_of(key) {
+            total += weigh_size(holding.size, currency_weight(params, &currency));
+        }
+    }
+    total
+}
+
+// The size of a currency's amounts times its weight, in ten-thousandths of a cent.
+fn weigh_size(size: i128, weight: Rate4) -> i128
+    requires size { unsigned_abs size ≤ 2 * 10 ^ 20 }
+    requires weight { unsigned_abs weight.0 ≤ 10 ^ 8 }
+    ensures value { result ≡ size *ℤ weight.0 }
+    ensures bound { unsigned_abs result ≤ 2 * 10 ^ 28 }
+{
+    size * i128::from(weight.0)
+}
+
+fn currency_weight(params: &Params, currency: &Currency) -> Rate4
+    ensures value { result.0 ≡ weight_of params.now currency.now }
+    ensures bound { unsigned_abs result.0 ≤ 10 ^ 8 }
+{
+    params.facts();
+    if params.is_calculation_currency(currency) {
+        return Rate4(0);
+    }
+    params.fx_weight(params.volatility_category(currency))
 }

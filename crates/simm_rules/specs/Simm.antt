@@ -1,23 +1,27 @@
 -- The margin of a book, with all of its parts.
 -- (ISDA SIMM methodology, structure: the margins of a product class by psi; additional margins.)
-use Rattle.std.specs.Prelude.{ℕ, ◌^◌, List, [], ◌∷◌, Option, Some, None, ℤ, pos, ◌+ℤ◌, ◌-ℤ◌, ◌*ℤ◌, unsigned_abs}
-use Rattle.std.specs.List.{filter, find}
+use Rattle.std.specs.Prelude.{List, [], ◌∷◌, ℤ, pos, ◌+ℤ◌, ◌*ℤ◌, if◌then◌else◌}
 use Rattle.mh_units.specs.Rounding.{up, root}
 use Rattle.simm_kinds.specs.declared.kinds.ProductClass.{ProductClass}
 use Rattle.simm_kinds.specs.declared.kinds.ProductClass.TheVariants as product
 use Rattle.simm_kinds.specs.declared.kinds.RiskClass.{RiskClass}
 use Rattle.simm_kinds.specs.declared.kinds.RiskClass.TheVariants as class
-use Rattle.simm_kinds.specs.declared.kinds.RiskType.{RiskType}
-use Rattle.simm_kinds.specs.declared.kinds.RiskType.TheVariants as kind
 use Rattle.simm_kinds.specs.declared.row.CrifRow.{CrifRow}
-use Rattle.simm_kinds.specs.Order.{same_product, same_kind, same_name}
+use Rattle.simm_kinds.specs.Order.{class_place, same_class}
 use Rattle.simm_rules.specs.declared.values.ProductMargin.{ProductMargin}
 use Rattle.simm_rules.specs.declared.values.Breakdown.{Breakdown}
 use Rattle.simm_rules.specs.Parts.{cents}
 use Rattle.simm_rules.specs.Params.{Params}
-use Rattle.simm_rules.specs.Lookups.{psi}
+use Rattle.simm_rules.specs.Lookups.{at_row}
 use Rattle.simm_rules.specs.Sums.{total_by, total_by_pairs}
-use Rattle.simm_rules.specs.Delta.{delta_margin}
+use Rattle.simm_rules.specs.Net.{Sensitivity, sensitivities, in_product, netted}
+use Rattle.simm_rules.specs.Risks.{Qualifying, Non_qualifying, Equities, Commodities}
+use Rattle.simm_rules.specs.Rates.{rate_margin}
+use Rattle.simm_rules.specs.Credit.{credit_margin}
+use Rattle.simm_rules.specs.BaseCorrelation.{base_margin}
+use Rattle.simm_rules.specs.Priced.{price_margin}
+use Rattle.simm_rules.specs.ForeignExchange.{fx_margin}
+use Rattle.simm_rules.specs.AddOns.{fixed_amounts, notional_add_on, multiplied}
 
 abbrev pub products : List ProductClass
 products = product.RatesFX ∷ product.Credit ∷ product.Equity ∷ product.Commodity ∷ []
@@ -25,9 +29,22 @@ products = product.RatesFX ∷ product.Credit ∷ product.Equity ∷ product.Com
 abbrev pub classes : List RiskClass
 classes = class.IR ∷ class.CreditQ ∷ class.CreditNonQ ∷ class.Equity ∷ class.Commodity ∷ class.FX ∷ []
 
--- the margin of a risk class in a product class: that of its delta sensitivities, since no others are read as yet
+-- the margin of a risk class, of the netted sensitivities of one product class: delta, vega and curvature, and in
+-- qualifying credit base correlation
+abbrev pub class_margin_of : Params → List Sensitivity → RiskClass → ℤ
+class_margin_of p ss class.IR = rate_margin p ss
+class_margin_of p ss class.CreditQ = credit_margin p Qualifying ss +ℤ base_margin p ss
+class_margin_of p ss class.CreditNonQ = credit_margin p Non_qualifying ss
+class_margin_of p ss class.Equity = price_margin p Equities ss
+class_margin_of p ss class.Commodity = price_margin p Commodities ss
+class_margin_of p ss class.FX = fx_margin p ss
+
 abbrev pub class_margin : Params → List CrifRow → ProductClass → RiskClass → ℤ
-class_margin p rows product class = delta_margin p rows product class
+class_margin p rows product class = class_margin_of p (netted (in_product product (sensitivities rows))) class
+
+-- the correlation of two risk classes, in ten-thousandths: 1 of one with itself
+abbrev pub psi : Params → RiskClass → RiskClass → ℤ
+psi p r s = if same_class r s then pos 10000 else at_row p.psi (class_place r) (class_place s)
 
 -- the margin of a product class: its class margins m, joined by psi
 abbrev pub joined : Params → (RiskClass → ℤ) → ℤ
@@ -36,34 +53,8 @@ joined p m = root (up (total_by_pairs (λ r s. psi p r s *ℤ m r *ℤ m s) clas
 abbrev pub product_margin : Params → List CrifRow → ProductClass → ℤ
 product_margin p rows product = joined p (class_margin p rows product)
 
-abbrev pub rows_of_kind : RiskType → List CrifRow → List CrifRow
-rows_of_kind kind rows = filter (λ r. same_kind r.key.kind kind) rows
-
-abbrev pub fixed_amounts : List CrifRow → ℤ
-fixed_amounts rows = total_by (λ r. r.amount) (rows_of_kind kind.AddOnFixedAmount rows)
-
--- the sizes of the notionals with this qualifier
-abbrev pub notional_of : List CrifRow → List ℕ → ℤ
-notional_of rows qualifier =
-    total_by (λ r. pos (unsigned_abs r.amount)) (filter (λ r. same_name r.key.qualifier qualifier) (rows_of_kind kind.Notional rows))
-
--- each factor, which is in percent, of the notionals with its qualifier
-abbrev pub notional_add_on : List CrifRow → ℤ
-notional_add_on rows =
-    total_by (λ f. up (f.amount *ℤ notional_of rows f.key.qualifier) (pos (10 ^ 6))) (rows_of_kind kind.AddOnNotionalFactor rows)
-
--- a product class's multiplier in ten-thousandths, which is 1 where no row gives it
-abbrev pub multiplier_of : List CrifRow → ProductClass → ℤ
-multiplier_of rows product =
-    given (find (λ r. same_product r.key.product product) (rows_of_kind kind.ProductClassMultiplier rows))
-  where
-    given : Option CrifRow → ℤ
-    given None = pos 10000
-    given (Some r) = r.amount
-
 abbrev pub multiplier_add_on : Params → List CrifRow → ℤ
-multiplier_add_on p rows =
-    total_by (λ product. up ((multiplier_of rows product -ℤ pos 10000) *ℤ product_margin p rows product) (pos 10000)) products
+multiplier_add_on p rows = total_by (λ product. multiplied rows product (product_margin p rows product)) products
 
 -- the part of a product class: its margin, and those of its risk classes
 abbrev pub part_of : Params → List CrifRow → ProductClass → ProductMargin
@@ -80,7 +71,7 @@ part_of p rows product = record {
 }
 
 -- the margin of the rows of a book
-abbrev pub simm : Params → List CrifRow → Breakdown
+unfoldable pub simm : Params → List CrifRow → Breakdown
 simm p rows = record {
   rates_fx = part_of p rows product.RatesFX;
   credit = part_of p rows product.Credit;

@@ -6,7 +6,7 @@ use Rattle.mh_units.specs.Rounding.{down}
 use Rattle.mh_units.proofs.Roundings.{correlation_size}
 use Rattle.concentration.proofs.Factors.{ratio_bounds}
 use Rattle.simm_rules.specs.Concentration.{one, ratio}
-use Rattle.simm_rules.specs.Delta.{combined}
+use Rattle.simm_rules.specs.Bucket.{combined}
 use Rattle.pair_sum.proofs.Itself.{with_itself-symmetric, with_itself-at_most_one}
 use Rattle.weighted_bucket.specs.declared.scaling.Scaling.{Scaling}
 use Rattle.weighted_bucket.specs.declared.scaling.Scaling.TheVariants as scaling

@@ -4,7 +4,7 @@ use Rattle.std.specs.Prelude.{ℕ, List, map, ℤ, pos, unsigned_abs}
 use Rattle.mh_units.specs.Rounding.{clamp}
 use Rattle.mh_units.specs.declared.quantities.Corr6.{Corr6}
 use Rattle.simm_rules.specs.declared.values.BucketMargin.{BucketMargin}
-use Rattle.simm_rules.specs.Delta.{root_of}
+use Rattle.simm_rules.specs.Bucket.{root_of}
 use Rattle.simm_rules.specs.Sums.{total_by}
 use Rattle.pair_sum.specs.PairTotal.{pair_total}
 use Rattle.weighted_bucket.specs.declared.scaling.Scaling.{Scaling}

@@ -3,7 +3,7 @@
 -- correlations.)
 use Rattle.std.specs.Prelude.{ℕ, List, slice_index_or, ℤ, pos}
 use Rattle.simm_rules.specs.Concentration.{ratio}
-use Rattle.simm_rules.specs.Delta.{combined}
+use Rattle.simm_rules.specs.Bucket.{combined}
 use Rattle.pair_sum.specs.WithItself.{with_itself}
 use Rattle.weighted_bucket.specs.declared.scaling.Scaling.{Scaling}
 use Rattle.weighted_bucket.specs.declared.scaling.Scaling.TheVariants as scaling

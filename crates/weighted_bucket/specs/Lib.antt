@@ -1,4 +1,3 @@
-pub mod Weigh
 pub mod Correlated
 pub mod Bucket
 pub mod Group

@@ -1,5 +1,5 @@
 ghost use Rattle.std.specs.Prelude.{◌≡◌, ◌*◌, ◌^◌, ◌<◌, ◌≤◌, unsigned_abs};
-ghost use Rattle.weighted_bucket.specs.Weigh.{weighed_value};
+ghost use Rattle.simm_rules.specs.Bucket.{weighted_value};
 
 use mh_units::{Corr6, Rate4, div_away};
 use pair_sum::Weighted;
@@ -26,7 +26,7 @@ impl Weighted for Weighed {
 pub fn weigh(weight: Rate4, x: i128, cr: Corr6) -> i128
     requires small { unsigned_abs x * unsigned_abs weight.0 ≤ 10 ^ 28 }
     requires below { unsigned_abs cr.0 < 347000000 }
-    ensures { result ≡ weighed_value weight.0 x cr.0 }
+    ensures { result ≡ weighted_value weight.0 x cr.0 }
 {
     let product = i128::from(weight.0) * x * i128::from(cr.0);
     div_away(product, 10_000_000_000)

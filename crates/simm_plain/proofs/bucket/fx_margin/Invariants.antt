@@ -1,4 +1,4 @@
 use Rattle.simm_plain.proofs.bucket.fx_margin.Given as goal
 
-abbrev pub ghosts-factors_margin : goal.ghosts-factors_margin
-ghosts-factors_margin a = record { name = a.blank.name; parts = a.blank.parts }
+abbrev pub ghosts-nets_margin : goal.ghosts-nets_margin
+ghosts-nets_margin a = record { name = a.blank.name; parts = a.blank.parts }

@@ -5,4 +5,4 @@ use Rattle.simm_plain.specs.Faults.{bucket_fault}
 use Rattle.simm_plain.proofs.range.first_bucket_fault.Given as goal
 
 abbrev pub invariant-loop-product : goal.invariant-loop-product
-invariant-loop-product l = first_some (map (bucket_fault l.nets) (take l.product-index products)) ≡ None
+invariant-loop-product l = first_some (map (bucket_fault l.factors) (take l.product-index products)) ≡ None

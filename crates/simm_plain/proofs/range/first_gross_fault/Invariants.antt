@@ -5,4 +5,4 @@ use Rattle.simm_plain.specs.Faults.{gross_fault}
 use Rattle.simm_plain.proofs.range.first_gross_fault.Given as goal
 
 abbrev pub invariant-loop-product : goal.invariant-loop-product
-invariant-loop-product l = first_some (map (gross_fault l.params l.nets) (take l.product-index products)) ≡ None
+invariant-loop-product l = first_some (map (gross_fault l.params l.factors) (take l.product-index products)) ≡ None

@@ -1,5 +1,5 @@
-use Rattle.simm_plain.proofs.Weighings.{factor_at}
+use Rattle.simm_plain.proofs.Weighings.{risk_at}
 use Rattle.simm_plain.proofs.weighing.weigh_all.Goals as goal
 
-pub weighed-requires-clause-factor : goal.weighed-requires-clause-factor
-weighed-requires-clause-factor c = factor_at c.args.params.now c.args.nets.now c.loop-net.net-index c.net-item.result c.requires c.loop-net-test.true c.net-item.is
+pub weighed-requires-clause-risk : goal.weighed-requires-clause-risk
+weighed-requires-clause-risk c = risk_at c.args.params.now c.args.nets.now c.loop-net.net-index c.net-item.result c.requires c.loop-net-test.true c.net-item.is

@@ -1,6 +1,8 @@
 use Rattle.std.proofs.Common.{◌≡◌, ◌∙◌, ◌^◌, List, Result, Ok, Err, IfOk, ap, pos, ◌≤ℤ◌, ◌<ℤ◌}
 use Rattle.simm_kinds.specs.declared.row.CrifRow.{CrifRow}
-use Rattle.simm_kinds.specs.Batch.{rows_of}
+use Rattle.simm_kinds.specs.Batch.{rows_of, is_in_range}
+use Rattle.simm_kinds.specs.Built.{is_built_row}
+use Rattle.std.specs.List.{list_all}
 use Rattle.simm_rules.specs.declared.values.Breakdown.{Breakdown}
 use Rattle.simm_rules.specs.Params.{Params}
 use Rattle.simm_rules.specs.Range.{range}
@@ -16,9 +18,17 @@ same_margin : {E : Type 0} (p q : Params) (xs ys : List CrifRow) (r : Result Bre
 same_margin p q xs ys (Ok b) e d h = h ∙ ap (λ x. simm x xs) e ∙ ap (simm q) d
 same_margin p q xs ys (Err f) e d h = h
 
-pub margin_in_range-requires : goal.margin_in_range-requires
-margin_in_range-requires c =
+pub margin_in_range-requires-clause-in_range : goal.margin_in_range-requires-clause-in_range
+margin_in_range-requires-clause-in_range c =
     ap (range c.self.inside.params) (ap all_rows c.as_slice.ensures.value ∙ lent_rows c.in_ok-lent.lent.items (trades_of c.self.inside.trades.entries) c.in_ok-lent.ensures) ∙ c.self.invariant.in_range
+
+pub margin_in_range-requires-clause-built : goal.margin_in_range-requires-clause-built
+margin_in_range-requires-clause-built c =
+    ap (list_all is_built_row) (ap all_rows c.as_slice.ensures.value ∙ lent_rows c.in_ok-lent.lent.items (trades_of c.self.inside.trades.entries) c.in_ok-lent.ensures) ∙ c.self.invariant.built
+
+pub margin_in_range-requires-clause-amounts : goal.margin_in_range-requires-clause-amounts
+margin_in_range-requires-clause-amounts c =
+    ap (list_all is_in_range) (ap all_rows c.as_slice.ensures.value ∙ lent_rows c.in_ok-lent.lent.items (trades_of c.self.inside.trades.entries) c.in_ok-lent.ensures) ∙ c.self.invariant.amounts
 
 pub returns-clause-value : goal.returns-clause-value
 returns-clause-value c =

@@ -1,30 +1,48 @@
-use Rattle.std.proofs.Common.{◌^◌, ◌≤◌, ◌∙◌, sym, subst, List, unsigned_abs, FitsSigned, rules, arith}
-use Rattle.std.specs.Int.{w64}
-use Rattle.std.proofs.lemmas.Int.{ints}
-use Rattle.std.proofs.lemmas.Result.{on_ok_weaker, on_err_weaker}
-use Rattle.factor_book.specs.Factors.{Factor, HasRoom}
-use Rattle.factor_book.proofs.Filed.{either_way}
-use Rattle.factor_book.proofs.Books.{can_grow, added, unchanged, filed_added, filed_unchanged}
+use Rattle.std.proofs.Common.{◌∷◌, ◌∙◌, [], sym, subst, Result, Ok, Err, OnErr, arith}
+use Rattle.factor_book.specs.Filing.{HasRoomFor}
+use Rattle.factor_book.proofs.Books.{one_of, can_grow, keys_below, added, unchanged, book_unchanged, book_new, book_known}
 use Rattle.factor_book.proofs.factors.Factors.add.Goals as goal
 
-pub add_row-requires-clause-room : goal.add_row-requires-clause-room
-add_row-requires-clause-room c =
-    can_grow c.self.inside.by_place.entries c.args.row.now.key c.self.invariant (subst (λ (fs : List Factor). HasRoom fs 1) (sym c.self.view_is) c.requires)
+pub add_at_place-requires-clause-room : goal.add_at_place-requires-clause-room
+add_at_place-requires-clause-room c =
+    can_grow c.self.inside.by_place.entries c.self.inside.keys c.args.key.now c.args.amount.0 c.self.invariant
+    (subst (HasRoomFor (one_of c.args.key.now c.args.amount.0 ∷ [])) (sym c.self.view_is) c.requires.room)
 
 pub invariant_of-self : goal.invariant_of-self
 invariant_of-self c =
-    let fits : FitsSigned w64 c.args.row.now.amount = search rules in
-    let amount : unsigned_abs c.args.row.now.amount ≤ 2 ^ 63 = omega (arith, ints, fits) in
-    either_way c.add_row.result c.add_row.ensures.ok c.add_row.ensures.err
-    (λ put. filed_added c.self.inside.by_place.entries c.add_row.new.filed.entries c.args.row.now c.self.invariant c.add_row.ensures.filing put amount)
-    (λ same. filed_unchanged c.self.inside.by_place.entries c.add_row.new.filed.entries c.self.invariant c.add_row.ensures.filing same)
+    book_unchanged c.self.inside.by_place.entries c.add_at_place.new.filed.entries c.self.inside.keys c.self.invariant c.add_at_place.ensures.filing c.in_err-add_at_place.ensures.err
 
-pub returns-clause-ok : goal.returns-clause-ok
-returns-clause-ok c = λ held e.
-    on_ok_weaker c.add_row.result
-    (λ put. added c.self.inside.by_place.entries c.add_row.new.filed.entries c.args.row.now c.self.invariant.filing c.add_row.ensures.filing put held (c.self.view_is ∙ e)) c.add_row.ensures.ok
+on_err : {T E P : Type 0} (r : Result T E) → P → OnErr r P
+on_err (Ok x) p = tt
+on_err (Err e) p = p
 
-pub returns-clause-err : goal.returns-clause-err
-returns-clause-err c =
-    on_err_weaker c.add_row.result
-    (λ same. unchanged c.self.inside.by_place.entries c.add_row.new.filed.entries c.self.invariant.filing c.add_row.ensures.filing c.self.invariant.book same ∙ c.self.view_is) c.add_row.ensures.err
+pub returns-in_err-add_at_place-clause-err : goal.returns-in_err-add_at_place-clause-err
+returns-in_err-add_at_place-clause-err c =
+    on_err c.from_residual.result
+    (unchanged c.self.inside.by_place.entries c.add_at_place.new.filed.entries c.self.invariant.filing c.add_at_place.ensures.filing c.self.invariant.netted c.in_err-add_at_place.ensures.err ∙ c.self.view_is)
+
+pub overflow_add-self : goal.overflow_add-self
+overflow_add-self c =
+    omega (
+      arith,
+      keys_below c.self.inside.by_place.entries c.self.inside.keys (one_of c.args.key.now c.args.amount.0 ∷ []) c.self.invariant
+          (subst (HasRoomFor (one_of c.args.key.now c.args.amount.0 ∷ [])) (sym c.self.view_is) c.requires.room),
+    )
+
+pub invariant_of-self-then-branch : goal.invariant_of-self-then-branch
+invariant_of-self-then-branch c =
+    book_new c.self.inside.by_place.entries c.add_at_place.new.filed.entries c.self.inside.keys c.args.key.now c.args.amount.0 c.self.invariant c.add_at_place.ensures.filing
+    c.in_ok-add_at_place.ensures.ok c.requires.amount (sym c.in_ok-add_at_place.ensures.new ∙ c.if-branch.true)
+
+pub invariant_of-self-else-branch : goal.invariant_of-self-else-branch
+invariant_of-self-else-branch c =
+    book_known c.self.inside.by_place.entries c.add_at_place.new.filed.entries c.self.inside.keys c.args.key.now c.args.amount.0 c.self.invariant c.add_at_place.ensures.filing
+    c.in_ok-add_at_place.ensures.ok c.requires.amount (sym c.in_ok-add_at_place.ensures.new ∙ c.if-branch.false)
+
+pub returns-then-branch-clause-ok : goal.returns-then-branch-clause-ok
+returns-then-branch-clause-ok c = λ ss e.
+    added c.self.inside.by_place.entries c.add_at_place.new.filed.entries c.args.key.now c.args.amount.0 c.self.invariant.filing c.add_at_place.ensures.filing c.in_ok-add_at_place.ensures.ok ss (c.self.view_is ∙ e)
+
+pub returns-else-branch-clause-ok : goal.returns-else-branch-clause-ok
+returns-else-branch-clause-ok c = λ ss e.
+    added c.self.inside.by_place.entries c.add_at_place.new.filed.entries c.args.key.now c.args.amount.0 c.self.invariant.filing c.add_at_place.ensures.filing c.in_ok-add_at_place.ensures.ok ss (c.self.view_is ∙ e)

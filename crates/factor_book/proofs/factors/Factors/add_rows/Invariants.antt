@@ -1,5 +1,5 @@
 use Rattle.std.proofs.Common.{take}
-use Rattle.factor_book.proofs.Books.{Adds}
+use Rattle.factor_book.proofs.Rows.{Adds}
 use Rattle.factor_book.proofs.factors.Factors.add_rows.Given as goal
 
 abbrev pub invariant-loop-index : goal.invariant-loop-index

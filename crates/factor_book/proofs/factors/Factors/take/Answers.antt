@@ -1,17 +1,51 @@
-use Rattle.std.proofs.Common.{◌∷◌, ◌++◌, [], ◌∙◌, sym, subst}
-use Rattle.factor_book.specs.Factors.{AreHeld}
-use Rattle.factor_book.proofs.Books.{can_shrink, taken, filed_taken, one_before}
+use Rattle.std.proofs.Common.{◌∷◌, ◌∙◌, [], sym, subst, arith}
+use Rattle.factor_book.specs.Filing.{Holds}
+use Rattle.factor_book.proofs.Books.{one_of, can_shrink, taken, netted_taken, book_kept, book_gone}
 use Rattle.factor_book.proofs.factors.Factors.take.Goals as goal
 
-pub take_row-requires-clause-held : goal.take_row-requires-clause-held
-take_row-requires-clause-held c =
-    can_shrink c.self.inside.by_place.entries c.args.row.now (c.requires.before ++ c.requires.after) c.self.invariant (c.self.view_is ∙ one_before c.args.self.now c.args.row.now c.requires)
+pub take_at_place-requires-clause-held : goal.take_at_place-requires-clause-held
+take_at_place-requires-clause-held c =
+    can_shrink c.self.inside.by_place.entries c.self.inside.keys c.args.key.now c.args.amount.0 c.self.invariant
+    (subst (Holds (one_of c.args.key.now c.args.amount.0 ∷ [])) (sym c.self.view_is) c.requires)
+
+pub overflow_sub-self : goal.overflow_sub-self
+overflow_sub-self c =
+    let old = c.self.inside.by_place.entries in
+    let key = c.args.key.now in
+    let held = subst (Holds (one_of key c.args.amount.0 ∷ [])) (sym c.self.view_is) c.requires in
+    omega (
+      arith,
+      book_gone old c.take_at_place.new.filed.entries c.self.inside.keys key c.args.amount.0 c.self.invariant c.take_at_place.ensures.filing c.take_at_place.ensures.taken
+          (can_shrink old c.self.inside.keys key c.args.amount.0 c.self.invariant held) (sym c.take_at_place.ensures.gone ∙ c.if-take_at_place.true),
+    )
 
 pub invariant_of-self : goal.invariant_of-self
 invariant_of-self c =
-    filed_taken c.self.inside.by_place.entries c.take_row.new.filed.entries c.args.row.now c.self.invariant c.take_row.ensures.filing c.take_row.ensures.taken
-    (subst (AreHeld (c.args.row.now ∷ [])) (sym c.self.view_is) c.requires)
+    let old = c.self.inside.by_place.entries in
+    let key = c.args.key.now in
+    let held = subst (Holds (one_of key c.args.amount.0 ∷ [])) (sym c.self.view_is) c.requires in
+    record {
+      filing = c.take_at_place.ensures.filing;
+      netted = netted_taken old c.take_at_place.new.filed.entries key c.args.amount.0 c.self.invariant.filing c.take_at_place.ensures.filing c.take_at_place.ensures.taken held;
+      counted = omega (
+        arith,
+        book_gone old c.take_at_place.new.filed.entries c.self.inside.keys key c.args.amount.0 c.self.invariant c.take_at_place.ensures.filing c.take_at_place.ensures.taken
+            (can_shrink old c.self.inside.keys key c.args.amount.0 c.self.invariant held) (sym c.take_at_place.ensures.gone ∙ c.if-take_at_place.true),
+      );
+    }
 
-pub returns : goal.returns
-returns c = λ rest e.
-    taken c.self.inside.by_place.entries c.take_row.new.filed.entries c.args.row.now c.self.invariant.filing c.take_row.ensures.filing c.take_row.ensures.taken rest (c.self.view_is ∙ e)
+pub invariant_of-self-else-take_at_place : goal.invariant_of-self-else-take_at_place
+invariant_of-self-else-take_at_place c =
+    let old = c.self.inside.by_place.entries in
+    let key = c.args.key.now in
+    let held = subst (Holds (one_of key c.args.amount.0 ∷ [])) (sym c.self.view_is) c.requires in
+    book_kept old c.take_at_place.new.filed.entries c.self.inside.keys key c.args.amount.0 c.self.invariant c.take_at_place.ensures.filing c.take_at_place.ensures.taken held
+    (can_shrink old c.self.inside.keys key c.args.amount.0 c.self.invariant held) (sym c.take_at_place.ensures.gone ∙ c.if-take_at_place.false)
+
+pub returns-then-take_at_place : goal.returns-then-take_at_place
+returns-then-take_at_place c = λ rest e.
+    taken c.self.inside.by_place.entries c.take_at_place.new.filed.entries c.args.key.now c.args.amount.0 c.self.invariant.filing c.take_at_place.ensures.filing c.take_at_place.ensures.taken rest (c.self.view_is ∙ e)
+
+pub returns-else-take_at_place : goal.returns-else-take_at_place
+returns-else-take_at_place c = λ rest e.
+    taken c.self.inside.by_place.entries c.take_at_place.new.filed.entries c.args.key.now c.args.amount.0 c.self.invariant.filing c.take_at_place.ensures.filing c.take_at_place.ensures.taken rest (c.self.view_is ∙ e)

@@ -1,13 +1,8 @@
-use Rattle.factor_book.proofs.Books.{left_held, left_less, all_taken}
+use Rattle.factor_book.proofs.Rows.{holds_rows, rows_taken}
 use Rattle.factor_book.proofs.factors.Factors.take_rows.Goals as goal
 
-pub take-requires : goal.take-requires
-take-requires c =
-    left_held c.args.self.now c.loop-row.self c.args.rows.now c.loop-row.row-index c.row-item.result c.requires c.loop-row-test.true c.row-item.is c.loop-row.invariant
-
-pub loop-row-preserved : goal.loop-row-preserved
-loop-row-preserved c =
-    left_less c.args.self.now c.loop-row.self c.take.new.self c.args.rows.now c.loop-row.row-index c.row-item.result c.loop-row-test.true c.row-item.is c.loop-row.invariant c.take.ensures
+pub take_each-requires : goal.take_each-requires
+take_each-requires c = holds_rows c.args.self.now c.args.rows.now c.requires
 
 pub returns : goal.returns
-returns c = all_taken c.args.self.now c.loop-row.self c.args.rows.now c.loop-row.row-index c.loop-row-test.false c.loop-row.invariant
+returns c = rows_taken c.args.self.now c.take_each.new.self c.args.rows.now c.take_each.ensures

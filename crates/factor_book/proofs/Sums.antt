@@ -1,0 +1,35 @@
+-- Sums over lists of sensitivities.
+use Rattle.std.proofs.Common.{◌≡◌, ℕ, ◌*◌, ◌≤◌, List, [], ◌∷◌, ◌++◌, map, length, Bool, true, false, cond, refl, ap, ℤ, pos, ◌+ℤ◌, unsigned_abs, arith}
+use Rattle.std.specs.List.{AllByRecursion}
+use Rattle.std.proofs.lemmas.Int.{ints}
+use Rattle.mh_units.proofs.Integers.{unsigned_abs-add}
+use Rattle.simm_rules.specs.Sums.{total_by}
+
+pub total_by-append : {A : Type 0} (f : A → ℤ) (xs ys : List A) → total_by f (xs ++ ys) ≡ total_by f xs +ℤ total_by f ys
+total_by-append f [] ys = omega (arith, ints)
+total_by-append f (x ∷ xs) ys = omega (arith, ints, total_by-append f xs ys)
+
+pub total_by-map : {A B : Type 0} (f : B → ℤ) (g : A → B) (xs : List A) → total_by f (map g xs) ≡ total_by (λ x. f (g x)) xs
+total_by-map f g [] = refl
+total_by-map f g (x ∷ xs) = ap (λ n. f (g x) +ℤ n) (total_by-map f g xs)
+
+pub total_by-agree : {A : Type 0} (f g : A → ℤ) → ((x : A) → f x ≡ g x) → (xs : List A) → total_by f xs ≡ total_by g xs
+total_by-agree f g h [] = refl
+total_by-agree f g h (x ∷ xs) = λ i. h x i +ℤ total_by-agree f g h xs i
+
+pub total_by-add : {A : Type 0} (f g : A → ℤ) (xs : List A) → total_by (λ x. f x +ℤ g x) xs ≡ total_by f xs +ℤ total_by g xs
+total_by-add f g [] = refl
+total_by-add f g (x ∷ xs) = omega (arith, ints, total_by-add f g xs)
+
+pub total_by-none : {A : Type 0} (f : A → ℤ) (xs : List A) → length xs ≡ 0 → total_by f xs ≡ pos 0
+total_by-none f [] e = refl
+total_by-none f (x ∷ xs) e = absurd (omega arith)
+
+pub total_by-kept : {A : Type 0} (f : A → ℤ) (x : A) (xs : List A) (t : Bool) → total_by f (cond t (x ∷ xs) xs) ≡ cond t (f x) (pos 0) +ℤ total_by f xs
+total_by-kept f x xs true = refl
+total_by-kept f x xs false = omega (arith, ints)
+
+-- a sum of terms of at most m in size
+pub total_by-size : {A : Type 0} (f : A → ℤ) (m : ℕ) (xs : List A) → AllByRecursion (λ x. unsigned_abs (f x) ≤ m) xs → unsigned_abs (total_by f xs) ≤ length xs * m
+total_by-size f m [] h = omega arith
+total_by-size f m (x ∷ xs) h = omega (arith, h.0, total_by-size f m xs h.1, unsigned_abs-add (f x) (total_by f xs))

@@ -1,0 +1,12 @@
+use Rattle.std.proofs.Common.{subst, List}
+use Rattle.std.specs.List.Sorted.{IsStrictlySortedBy}
+use Rattle.std.specs.Map.{keys_of}
+use Rattle.simm_kinds.specs.declared.key.FactorKey.{FactorKey}
+use Rattle.simm_kinds.specs.Order.{key_cmp}
+use Rattle.factor_book.specs.declared.holding.Holding.{Holding}
+use Rattle.factor_book.proofs.Keys.{ordered_keys}
+use Rattle.factor_book.proofs.place_factors.PlaceFactors.iter.Goals as goal
+
+pub returns-clause-ordered : goal.returns-clause-ordered
+returns-clause-ordered c =
+    subst (λ (es : List (FactorKey × Holding)). IsStrictlySortedBy key_cmp (keys_of es)) c.self.view_is (ordered_keys c.self.inside.by_key.entries c.iter.ensures.ordered)

@@ -1,0 +1,30 @@
+use Rattle.std.proofs.Common.{[], refl, sym, subst, arith}
+use Rattle.simm_rules.specs.Params.{Params}
+use Rattle.csa_terms.specs.Terms.{Agreement}
+use Rattle.collateral_ledger.specs.Holdings.{Holdings}
+use Rattle.bucket_cache.specs.Live.{Live}
+use Rattle.set_core.specs.Kept.{IsKept}
+use Rattle.set_core.proofs.Legal.{legal_none}
+use Rattle.set_core.proofs.Words.{Log}
+use Rattle.set_core.proofs.set_state.SetState.new.Goals as goal
+
+abbrev live_none : Params → Live
+live_none p = record { params = p; book = [] }
+
+abbrev held_none : Agreement → Holdings
+held_none t = record { terms = t; lots = []; calls = []; added = 0 }
+
+kept_none : (p : Params) (t : Agreement) → IsKept (live_none p) (held_none t) 0 []
+kept_none p t = record {
+  set = record { few = omega arith; light = omega arith; legal = legal_none p t };
+  book = refl;
+  ledger = refl;
+  rows = refl;
+  different = tt;
+}
+
+pub invariant_of-result : goal.invariant_of-result
+invariant_of-result c =
+    subst (λ (live : Live). IsKept live c.new-2.result 0 c.new-3.result.items) (sym c.in_ok-live.ensures)
+    (subst (λ (held : Holdings). IsKept (live_none c.args.params) held 0 c.new-3.result.items) (sym c.new-2.ensures)
+    (subst (λ (log : Log). IsKept (live_none c.args.params) (held_none c.args.terms) 0 log) (sym c.new-3.ensures.items) (kept_none c.args.params c.args.terms)))

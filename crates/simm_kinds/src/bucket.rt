@@ -1,0 +1,27 @@
+//! The buckets of credit, equity and commodity.
+ghost use Rattle.std.specs.Prelude.{◌≡◌};
+ghost use Rattle.simm_kinds.specs.Bucket.{bucket_named};
+
+use crate::BucketNumber;
+use crate::words::is_word;
+
+/// The bucket of an issuer or an index: one of the numbered ones, or the residual one, which comes last.
+#[derive(Clone, Copy, Debug, PartialEq, Eq, PartialOrd, Ord, Hash)]
+pub enum Bucket {
+    Number(BucketNumber),
+    Residual,
+}
+
+impl Bucket {
+    /// The bucket that a text names: `Residual` in any case, or a number as `BucketNumber::read` takes it. `None` for
+    /// another text.
+    pub fn read(text: &[u8]) -> Option<Bucket>
+        ensures { result ≡ bucket_named text.now }
+    {
+        if is_word("Residual", text) {
+            Some(Bucket::Residual)
+        } else {
+            BucketNumber::read(text).map(Bucket::Number)
+        }
+    }
+}
