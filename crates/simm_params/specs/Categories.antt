@@ -2,7 +2,8 @@
 -- (ISDA SIMM methodology: volatility categories and concentration categories of currencies.)
 use Rattle.std.specs.Prelude.{ℕ, List, ℤ, if◌then◌else◌}
 use Rattle.simm_rules.specs.Params.{Params}
-use Rattle.simm_rules.specs.Lookups.{is_listed, is_high}
+use Rattle.simm_rules.specs.Lookups.{is_listed}
+use Rattle.simm_rules.specs.ForeignExchange.{is_high}
 use Rattle.simm_params.specs.declared.category.VolatilityCategory.{VolatilityCategory}
 use Rattle.simm_params.specs.declared.category.VolatilityCategory.TheVariants.{Regular, High}
 use Rattle.simm_params.specs.declared.category.ConcentrationCategory.{ConcentrationCategory}

@@ -13,6 +13,7 @@ param_fault_number fault.Toml = Some 1
 param_fault_number (fault.Missing path) = Some 2
 param_fault_number (fault.BadNumber path) = Some 3
 param_fault_number (fault.OutOfRange path n) = Some 4
+param_fault_number (fault.NotSymmetric path) = Some 5
 param_fault_number (fault.ThinThreshold path weight threshold) = Some 6
 param_fault_number fault.Memory = None
 

@@ -7,6 +7,17 @@ pub enum VolatilityCategory {
     High,
 }
 
+/// How volatile the curves of a currency are: which of the file's two lists has it.
+#[derive(Clone, Copy, Debug, PartialEq, Eq)]
+pub enum CurveCategory {
+    /// The file lists it as one of low volatility.
+    Low,
+    /// The file lists it as one of regular volatility.
+    Regular,
+    /// Neither list has it.
+    High,
+}
+
 /// Which concentration threshold a currency has: that of the file's first list, of its second, or of all others.
 #[derive(Clone, Copy, Debug, PartialEq, Eq)]
 pub enum ConcentrationCategory {

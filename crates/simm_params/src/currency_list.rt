@@ -1,7 +1,7 @@
 ghost use Rattle.std.specs.Prelude.{◌≡◌, [], ◌∷◌, ◌++◌, OnOk, OnErr, IfOk};
 ghost use Rattle.simm_rules.specs.Lookups.{is_listed};
 
-use simm_kinds::{Currency, Name};
+use simm_kinds::Currency;
 use std::alloc::{AllocError, Global};
 use std::collections::BTreeSet;
 use std::marker::Model;
@@ -60,6 +60,17 @@ impl CurrencyList {
         Ok(())
     }
 
+    /// Adds the currencies of another list at the end. The only error is want of memory; a front of them may have been
+    /// added then.
+    pub fn append(&mut self, other: &CurrencyList) -> Result<(), AllocError>
+        ensures { OnOk result (self.new ≡ self.old ++ other.now) }
+    {
+        for currency in &other.listed {
+            self.push(*currency)?;
+        }
+        Ok(())
+    }
+
     /// Whether the list has this currency.
     pub fn contains(&self, currency: Currency) -> bool
         ensures { result ≡ is_listed self.now currency }
@@ -67,14 +78,11 @@ impl CurrencyList {
         self.different.contains(&currency)
     }
 
-    /// Whether the list has a currency of this name.
-    pub fn has_name(&self, name: &Name) -> bool
-        ensures { result ≡ is_listed self.now name.now }
+    /// Lends the currencies.
+    pub fn as_slice(&self) -> &[Currency]
+        ensures { result.now ≡ self.now }
     {
-        match Currency::new(name.bytes()) {
-            Some(currency) => self.different.contains(&currency),
-            None => false,
-        }
+        self.listed.as_slice()
     }
 
     /// The same currencies once more. The only error is want of memory.

@@ -17,6 +17,8 @@ pub enum ParamFault {
     BadNumber(Text),
     /// The number at the path is out of its range: ten-thousandths, or whole dollars.
     OutOfRange(Text, i128),
+    /// The matrix at the path isn't symmetric, or it is one of correlations and its diagonal isn't 1.
+    NotSymmetric(Text),
     /// The threshold at the path is too thin beside the weight: the weight in ten-thousandths, the threshold in cents.
     ThinThreshold(Text, i64, i64),
     /// Memory ran out, which says nothing of the file.
@@ -33,6 +35,7 @@ impl ParamFault {
             ParamFault::Missing(_) => Some(2),
             ParamFault::BadNumber(_) => Some(3),
             ParamFault::OutOfRange(_, _) => Some(4),
+            ParamFault::NotSymmetric(_) => Some(5),
             ParamFault::ThinThreshold(_, _, _) => Some(6),
             ParamFault::Memory => None,
         }

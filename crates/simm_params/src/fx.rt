@@ -1,5 +1,7 @@
-ghost use Rattle.std.specs.Prelude.{◌≡◌, IfOk};
+ghost use Rattle.std.specs.Prelude.{◌≡◌, slice_index_or, pos, IfOk};
+ghost use Rattle.simm_params.specs.FxLookups.{pair_rate, category_place};
 
+use crate::category::{ConcentrationCategory, VolatilityCategory};
 use crate::currency_list::CurrencyList;
 use mh_units::Rate4;
 use std::alloc::{AllocError, Global};
@@ -11,12 +13,27 @@ pub struct FxWeights {
     pub high: Rate4,
 }
 
-/// Correlations of two currencies by their volatilities.
+/// Rates by the volatilities of two currencies: both regular, mixed, both high.
 #[derive(Clone, Copy, Debug)]
-pub struct FxRhos {
+pub struct PairRates {
     pub regular: Rate4,
     pub mixed: Rate4,
     pub high: Rate4,
+}
+
+impl PairRates {
+    ghost use Rattle.simm_params.specs.FxView.{rates_view};
+
+    /// The rate of two currencies of these volatility categories.
+    pub fn of(&self, a: VolatilityCategory, b: VolatilityCategory) -> Rate4
+        ensures { result.0 ≡ pair_rate (rates_view self.now) a b }
+    {
+        match (a, b) {
+            (VolatilityCategory::Regular, VolatilityCategory::Regular) => self.regular,
+            (VolatilityCategory::High, VolatilityCategory::High) => self.high,
+            _ => self.mixed,
+        }
+    }
 }
 
 /// Concentration thresholds in cents, by the concentration category of a currency.
@@ -27,22 +44,102 @@ pub struct FxThresholds {
     pub third: i64,
 }
 
+impl FxThresholds {
+    ghost use Rattle.simm_params.specs.Fx.{row};
+    ghost use Rattle.simm_params.specs.FxView.{thresholds_view};
+
+    /// The threshold of a concentration category.
+    pub fn of(&self, category: ConcentrationCategory) -> i64
+        ensures { result ≡ slice_index_or (row (thresholds_view self.now)) (category_place category) (pos 0) }
+    {
+        match category {
+            ConcentrationCategory::First => self.first,
+            ConcentrationCategory::Second => self.second,
+            ConcentrationCategory::Third => self.third,
+        }
+    }
+}
+
+/// Concentration thresholds of a currency pair, by the concentration category of one of its currencies, and behind it of the
+/// other.
+#[derive(Clone, Copy, Debug)]
+pub struct PairThresholds {
+    pub first: FxThresholds,
+    pub second: FxThresholds,
+    pub third: FxThresholds,
+}
+
+impl PairThresholds {
+    ghost use Rattle.simm_params.specs.FxView.{rows_view};
+    ghost use Rattle.simm_params.specs.Matrix.{entry};
+
+    /// The threshold of two currencies of these concentration categories.
+    pub fn of(&self, a: ConcentrationCategory, b: ConcentrationCategory) -> i64
+        ensures { result ≡ entry (rows_view self.now) (category_place a) (category_place b) }
+    {
+        match a {
+            ConcentrationCategory::First => self.first.of(b),
+            ConcentrationCategory::Second => self.second.of(b),
+            ConcentrationCategory::Third => self.third.of(b),
+        }
+    }
+}
+
+/// The parameters of sensitivities to the volatility of a currency pair.
+#[derive(Clone, Copy, Debug)]
+pub struct FxVolatilities {
+    pub thresholds: PairThresholds,
+    /// Volatilities.
+    pub sigmas: PairRates,
+    /// The vega risk weight.
+    pub vrw: Rate4,
+    /// The historical volatility ratio.
+    pub hvr: Rate4,
+    /// The correlation of two pairs.
+    pub rho: Rate4,
+}
+
 /// The parameters of foreign exchange.
 #[derive(Debug, Drop)]
 pub struct FxParams {
     /// The currencies of high volatility; all others are regular.
     pub high: CurrencyList,
     pub weights: FxWeights,
-    pub rhos: FxRhos,
+    /// Correlations of two currencies.
+    pub rhos: PairRates,
     /// The currencies of the first concentration category.
     pub first: CurrencyList,
     /// The currencies of the second concentration category; all others are in the third.
     pub second: CurrencyList,
+    /// Thresholds of sensitivities to a currency.
     pub thresholds: FxThresholds,
+    pub volatilities: FxVolatilities,
 }
 
 impl FxParams {
     ghost use Rattle.simm_params.specs.FxView.{fx_view};
+    ghost use Rattle.simm_params.specs.FxLookups.{pair_rho, pair_sigma, pair_threshold};
+
+    /// The correlation of two different currencies of these volatility categories.
+    pub fn rho(&self, a: VolatilityCategory, b: VolatilityCategory) -> Rate4
+        ensures { result.0 ≡ pair_rho (fx_view self.now) a b }
+    {
+        self.rhos.of(a, b)
+    }
+
+    /// The volatility of a pair whose currencies are of these volatility categories.
+    pub fn sigma(&self, a: VolatilityCategory, b: VolatilityCategory) -> Rate4
+        ensures { result.0 ≡ pair_sigma (fx_view self.now) a b }
+    {
+        self.volatilities.sigmas.of(a, b)
+    }
+
+    /// The vega threshold, in cents, of a pair whose currencies are of these concentration categories.
+    pub fn vega_threshold(&self, a: ConcentrationCategory, b: ConcentrationCategory) -> i64
+        ensures { result ≡ pair_threshold (fx_view self.now) a b }
+    {
+        self.volatilities.thresholds.of(a, b)
+    }
 
     /// The same parameters once more. The only error is want of memory.
     pub fn copy(&self, alloc: Global) -> Result<FxParams, AllocError>
@@ -55,6 +152,7 @@ impl FxParams {
             first: self.first.copy(alloc)?,
             second: self.second.copy(alloc)?,
             thresholds: self.thresholds,
+            volatilities: self.volatilities,
         })
     }
 }

@@ -1,46 +1,24 @@
-ghost use Rattle.std.specs.Prelude.{◌≡◌, IfOk};
+ghost use Rattle.std.specs.Prelude.{◌≡◌};
 ghost use Rattle.toml.specs.View.{table_view};
-ghost use Rattle.toml_values.specs.Answers.{Gives};
 ghost use Rattle.simm_params.specs.Faults.{Finds, Gives as GivesParams};
-ghost use Rattle.simm_params.specs.FxView.{fx_view};
-ghost use Rattle.simm_params.specs.Facts.{IsRanged};
-ghost use Rattle.simm_params.specs.Grammar.{calculation_currency_of, fx_table_of, params_of, params_of_table, params_read};
+ghost use Rattle.simm_params.specs.Grammar.{params_of, params_of_table, params_read};
 
+use crate::checks::{check_symmetry, check_thickness};
 use crate::fault::ParamFault;
-use crate::fx::FxParams;
-use crate::fx_table::read_fx;
 use crate::params::Params;
-use crate::thickness::check_thickness;
-use simm_kinds::Currency;
+use crate::root_table::read_tables;
 use std::alloc::Global;
 use toml::Table;
-use toml_values::{Part, ValueFault, currency, member, read_document, table};
-
-#[tactic(auto, unfolding(crate::specs::Grammar::calculation_currency_of, crate::specs::Grammar::root_path))]
-fn calculation_currency(alloc: Global, root: &Table) -> Result<Currency, ValueFault>
-    ensures { Gives (λ c. c) result (calculation_currency_of (table_view root.now)) }
-{
-    let key = "calculation_currency";
-    currency(alloc, &[Part::Key(key)], member(root, key))
-}
-
-#[tactic(auto, unfolding(crate::specs::Grammar::fx_table_of, crate::specs::Grammar::root_path))]
-fn fx_table(alloc: Global, root: &Table) -> Result<FxParams, ValueFault>
-    ensures value { Gives fx_view result (fx_table_of (table_view root.now)) }
-    ensures ranged { IfOk result (λ fx. IsRanged (fx_view fx)) }
-{
-    let key = "fx";
-    read_fx(alloc, table(alloc, &[Part::Key(key)], member(root, key))?)
-}
+use toml_values::read_document;
 
 #[tactic(auto, unfolding(crate::specs::Grammar::params_of_table))]
 fn read_table(alloc: Global, root: &Table) -> Result<Params, ParamFault>
     ensures { GivesParams (λ p. p) result (params_of_table (table_view root.now)) }
 {
-    let currency = calculation_currency(alloc, root)?;
-    let fx = fx_table(alloc, root)?;
-    check_thickness(alloc, &fx)?;
-    Ok(Params::new(currency, fx))
+    let tables = read_tables(alloc, root)?;
+    check_symmetry(alloc, &tables)?;
+    check_thickness(alloc, &tables)?;
+    Ok(Params::new(tables))
 }
 
 #[tactic(auto, unfolding(crate::specs::Grammar::params_read))]
@@ -57,11 +35,14 @@ fn read_file(alloc: Global, bytes: &[u8]) -> Result<Params, ParamFault>
 ///
 /// # Errors
 ///
-/// A fault is the first of the grammar's tests that fails, with its place. `Toml` comes first. The keys follow in this
-/// order: calculation currency; then of the table `fx` the currencies of high volatility, weights, correlations, the
-/// currencies of the first and the second concentration category, thresholds. A value is `Missing`, `BadNumber` or
-/// `OutOfRange`; a currency that stands twice among the concentration categories is `BadNumber` at its later place.
-/// `ThinThreshold` comes last. `Memory` may come at any test and says nothing of the file.
+/// A fault is the first of the grammar's tests that fails, with its place. `Toml` comes first. The values follow in this
+/// order: calculation currency, base of the curvature scale, correlations of the risk classes; the tables `ir`, `fx`,
+/// `credit_q`, `credit_nq`, `equity`, `commodity`; weight and correlation of base correlations. A value is `Missing`,
+/// `BadNumber` or `OutOfRange`; a currency that stands twice where it may not is `BadNumber` at its later place, and so
+/// is a bucket's id that is none or out of order. Then comes `NotSymmetric`: of the risk classes, the tenors, the
+/// thresholds of currency pairs, and the buckets of each class. `ThinThreshold` comes last: first of delta, then of
+/// vega, each of interest rates, foreign exchange, and each class with buckets. `Memory` may come at any test and says
+/// nothing of the file.
 #[tactic(auto, unfolding(crate::specs::Grammar::params_of))]
 pub fn read_params(alloc: Global, bytes: &[u8]) -> Result<Params, ParamFault>
     ensures exact { GivesParams (λ p. p) result (params_read bytes.now) }

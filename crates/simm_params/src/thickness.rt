@@ -1,12 +1,15 @@
-ghost use Rattle.std.specs.Prelude.{◌≡◌, OnOk};
+ghost use Rattle.std.specs.Prelude.{◌≡◌, map, OnOk};
+ghost use Rattle.toml_values.specs.Paths.{word_of, path_of};
 ghost use Rattle.simm_params.specs.Faults.{Gives};
-ghost use Rattle.simm_params.specs.FxView.{fx_view};
 ghost use Rattle.simm_params.specs.Ranges.{is_thick, IsThick};
-ghost use Rattle.simm_params.specs.Facts.{IsThickFx};
-ghost use Rattle.simm_params.specs.Grammar.{thick_at, thick_fx};
+ghost use Rattle.simm_params.specs.ThresholdKinds.{threshold_in, weight_beside};
+ghost use Rattle.simm_params.specs.ThresholdView.{thresholds_view};
+ghost use Rattle.simm_params.specs.Thickness.{thick_at, thick_in};
 
 use crate::fault::ParamFault;
-use crate::fx::FxParams;
+use crate::place::key_path;
+use crate::thresholds::{ThresholdKind, Thresholds};
+use mh_units::Rate4;
 use std::alloc::Global;
 use toml_values::{Part, path_text};
 
@@ -20,33 +23,39 @@ fn is_thick(weight: i64, threshold: i64) -> bool
     i128::from(weight) * i128::from(threshold) >= THICK
 }
 
-/// Refuses a threshold of foreign exchange that is too thin beside the weight.
-#[tactic(auto, unfolding(crate::specs::Grammar::fx_place))]
-fn check_threshold(
+/// Refuses a threshold that is too thin beside the weight.
+pub fn check_threshold(
     alloc: Global,
-    number: usize,
+    path: &[Part<'_>],
     weight: i64,
     threshold: i64,
 ) -> Result<(), ParamFault>
-    ensures value { Gives (λ u. u) result (thick_at number weight threshold) }
+    ensures value { Gives (λ u. u) result (thick_at (path_of path.now) weight threshold) }
     ensures thick { OnOk result (IsThick weight threshold) }
 {
     if !is_thick(weight, threshold) {
-        let path = [Part::Key("fx"), Part::Key("threshold"), Part::Place(number)];
-        let path = path_text(alloc, &path)?;
+        let path = path_text(alloc, path)?;
         return Err(ParamFault::ThinThreshold(path, weight, threshold));
     }
     Ok(())
 }
 
-/// Refuses parameters of foreign exchange with a threshold that is too thin beside the lesser weight.
-#[tactic(auto, unfolding(crate::specs::Grammar::thick_fx))]
-pub fn check_thickness(alloc: Global, fx: &FxParams) -> Result<(), ParamFault>
-    ensures value { Gives (λ u. u) result (thick_fx (fx_view fx.now)) }
-    ensures thick { OnOk result (IsThickFx (fx_view fx.now)) }
+/// Refuses a threshold of a kind in the table at a path, where `weight` is that of delta.
+pub fn check_kind(
+    alloc: Global,
+    path: &[Part<'_>],
+    kind: ThresholdKind,
+    weight: Rate4,
+    thresholds: Thresholds,
+) -> Result<(), ParamFault>
+    ensures value { Gives (λ u. u) result (thick_in (map word_of path.now) kind weight.0 (thresholds_view thresholds)) }
+    ensures thick { OnOk result (IsThick (weight_beside kind weight.0) (threshold_in kind (thresholds_view thresholds))) }
 {
-    let least = fx.weights.regular.0.min(fx.weights.high.0);
-    check_threshold(alloc, 1, least, fx.thresholds.first)?;
-    check_threshold(alloc, 2, least, fx.thresholds.second)?;
-    check_threshold(alloc, 3, least, fx.thresholds.third)
+    let path = key_path(alloc, path, kind.key())?;
+    check_threshold(
+        alloc,
+        path.as_slice(),
+        kind.weight(weight.0),
+        thresholds.of(kind),
+    )
 }

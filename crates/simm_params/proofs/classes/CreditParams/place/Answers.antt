@@ -1,0 +1,5 @@
+use Rattle.std.proofs.lemmas.Simd.{map-map}
+use Rattle.simm_params.proofs.classes.CreditParams.place.Goals as goal
+
+pub returns : goal.returns
+returns c = rw map-map c.place.ensures.listed

@@ -1,0 +1,95 @@
+ghost use Rattle.std.specs.Prelude.{◌≡◌, IfOk};
+
+use crate::currency_groups::CurrencyGroups;
+use crate::currency_list::CurrencyList;
+use crate::matrix::Matrix;
+use crate::rates::Rates;
+use crate::thresholds::Thresholds;
+use mh_units::Rate4;
+use std::alloc::{AllocError, Global};
+
+/// Risk weights of a curve by tenor, by the volatility of its currency.
+#[derive(Debug, Drop)]
+pub struct CurveWeights {
+    pub regular: Rates,
+    pub low: Rates,
+    pub high: Rates,
+}
+
+impl CurveWeights {
+    ghost use Rattle.simm_params.specs.IrView.{curves_view};
+
+    /// The same weights once more. The only error is want of memory.
+    pub fn copy(&self, alloc: Global) -> Result<CurveWeights, AllocError>
+        ensures { IfOk result (λ w. curves_view w ≡ curves_view self.now) }
+    {
+        Ok(CurveWeights {
+            regular: self.regular.copy(alloc)?,
+            low: self.low.copy(alloc)?,
+            high: self.high.copy(alloc)?,
+        })
+    }
+}
+
+/// Risk weights of inflation and of cross-currency basis.
+#[derive(Clone, Copy, Debug)]
+pub struct FactorWeights {
+    pub inflation: Rate4,
+    pub basis: Rate4,
+}
+
+/// Correlations of sub-curves, with inflation, with cross-currency basis, and of two currencies.
+#[derive(Clone, Copy, Debug)]
+pub struct FactorRhos {
+    pub phi: Rate4,
+    pub inflation: Rate4,
+    pub basis: Rate4,
+    pub gamma: Rate4,
+}
+
+/// The vega risk weight and the historical volatility ratio.
+#[derive(Clone, Copy, Debug)]
+pub struct VolatilityRates {
+    pub vrw: Rate4,
+    pub hvr: Rate4,
+}
+
+/// The parameters of interest rates.
+#[derive(Debug, Drop)]
+pub struct IrParams {
+    /// The currencies of low volatility.
+    pub low: CurrencyList,
+    /// The currencies of regular volatility; all others are of high volatility.
+    pub regular: CurrencyList,
+    pub curves: CurveWeights,
+    pub weights: FactorWeights,
+    /// Correlations of two tenors.
+    pub tenor_rhos: Matrix,
+    pub rhos: FactorRhos,
+    pub volatility: VolatilityRates,
+    /// The thresholds of the currencies in no group.
+    pub other: Thresholds,
+    /// The concentration groups of currencies.
+    pub groups: CurrencyGroups,
+}
+
+impl IrParams {
+    ghost use Rattle.simm_params.specs.IrView.{ir_view};
+
+    /// The same parameters once more. The only error is want of memory.
+    pub fn copy(&self, alloc: Global) -> Result<IrParams, AllocError>
+        ensures { IfOk result (λ ir. ir_view ir ≡ ir_view self.now) }
+    {
+        Ok(IrParams {
+            low: self.low.copy(alloc)?,
+            regular: self.regular.copy(alloc)?,
+            curves: self.curves.copy(alloc)?,
+            weights: self.weights,
+            tenor_rhos: self.tenor_rhos.copy(alloc)?,
+            rhos: self.rhos,
+            volatility: self.volatility,
+            other: self.other,
+            groups: self.groups.copy(alloc)?,
+        })
+    }
+}

@@ -1,0 +1,74 @@
+//! The look-ups of credit.
+ghost use Rattle.std.specs.Prelude.{◌≡◌, ◌<◌, ◌≤◌, length, slice_index_or, option_map, IfSome, unsigned_abs};
+ghost use Rattle.simm_rules.specs.Risks.{CreditClass as RuleClass};
+ghost use Rattle.simm_rules.specs.Credit.{credit_params, listed_credit};
+ghost use Rattle.simm_rules.specs.Lookups.{at_row};
+ghost use Rattle.simm_params.specs.ClassKinds.{credit_class};
+ghost use Rattle.simm_params.specs.ListedBuckets.{credit_bucket_view, credit_bucket_of, listed_place};
+ghost use Rattle.simm_params.specs.Weighed.{IsWeighedCredit, AreWeighedCredit};
+
+use super::Params;
+use crate::class_kind::CreditKind;
+use crate::classes::{CreditBucket, CreditParams};
+use mh_units::Rate4;
+use simm_kinds::Bucket;
+
+impl Params {
+    ghost use Rattle.simm_params.specs.ClassView.{credit_view};
+
+    fn credit(&self, kind: CreditKind) -> &CreditParams
+        ensures value { credit_view result.now ≡ credit_params self.now (credit_class kind) }
+        ensures weighed { AreWeighedCredit (credit_view result.now) }
+    {
+        match kind {
+            CreditKind::Qualifying => &self.tables.classes.credit_q,
+            CreditKind::NonQualifying => &self.tables.classes.credit_nq,
+        }
+    }
+
+    /// What follows at every bucket of credit. It does nothing.
+    pub fn credit_facts(&self)
+        ensures { (class : RuleClass) → AreWeighedCredit (credit_params self.now class) }
+    {
+        let _tables = &self.tables;
+    }
+
+    /// How many buckets the file lists for a class of credit.
+    pub fn credit_count(&self, kind: CreditKind) -> usize
+        ensures { result ≡ length (credit_params self.now (credit_class kind)).buckets }
+    {
+        self.credit(kind).count()
+    }
+
+    /// The bucket at a place of the file's list, counted from 0.
+    pub fn credit_bucket_at(&self, kind: CreditKind, place: usize) -> CreditBucket
+        requires { place < length (credit_params self.now (credit_class kind)).buckets }
+        ensures value { credit_bucket_view result ≡ slice_index_or (credit_params self.now (credit_class kind)).buckets place (credit_bucket_view result) }
+        ensures weighed { IsWeighedCredit (credit_bucket_view result) }
+    {
+        self.credit(kind).bucket_at(place)
+    }
+
+    /// The bucket of an id, where the file lists it.
+    pub fn credit_bucket(&self, kind: CreditKind, id: Bucket) -> Option<CreditBucket>
+        ensures value { option_map credit_bucket_view result ≡ credit_bucket_of (credit_params self.now (credit_class kind)).buckets id }
+        ensures weighed { IfSome result (λ b. IsWeighedCredit (credit_bucket_view b)) }
+    {
+        self.credit(kind).bucket(id)
+    }
+
+    /// The place of a bucket in the file's list, counted from 0, where the file lists it.
+    pub fn credit_place(&self, kind: CreditKind, id: Bucket) -> Option<usize>
+        ensures { result ≡ listed_place (listed_credit (credit_params self.now (credit_class kind))) id }
+    {
+        self.credit(kind).place(id)
+    }
+
+    /// The correlation of the numbered buckets at two places of the file's list, in ten-thousandths.
+    pub fn credit_gamma(&self, kind: CreditKind, row: usize, column: usize) -> Rate4
+        ensures value { result.0 ≡ at_row (credit_params self.now (credit_class kind)).gamma row column }
+        ensures size { unsigned_abs result.0 ≤ 10000 }
+    {
+        self.credit(kind).gamma.rate(row, column)
+    }
+}

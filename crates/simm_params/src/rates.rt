@@ -1,0 +1,150 @@
+ghost use Rattle.std.specs.Prelude.{◌≡◌, ◌<◌, [], ◌∷◌, ◌++◌, length, pos, slice_index_or, map, IfOk, OnOk, OnErr};
+ghost use Rattle.std.specs.Int.{int_min};
+ghost use Rattle.std.specs.List.{fold};
+ghost use Rattle.toml.specs.View.{view, items_view};
+ghost use Rattle.toml_values.specs.Answers.{Gives};
+ghost use Rattle.toml_values.specs.Paths.{word_of};
+ghost use Rattle.toml_values.specs.Places.{each_of};
+ghost use Rattle.toml_values.specs.Values.{found};
+ghost use Rattle.simm_rules.specs.Lookups.{at_place};
+ghost use Rattle.simm_params.specs.Matrix.{AreRates, rate_at, rates_of};
+
+use crate::place::place_path;
+use mh_units::Rate4;
+use std::alloc::{AllocError, Global};
+use std::marker::Model;
+use toml::Value;
+use toml_values::{Part, Range, ValueFault, array_of_length, rate};
+
+/// Rates in the order of the file, which contracts see as the list of their ten-thousandths.
+#[derive(Debug, Drop)]
+pub struct Rates {
+    rates: Vec<Rate4>,
+}
+
+impl Model for Rates {
+    ghost use Rattle.std.specs.Prelude.{List, ℤ};
+    ghost use Rattle.simm_params.specs.RateUnits.{ten_thousandths};
+
+    ghost Value = { List ℤ };
+
+    ghost view = { λ r. ten_thousandths r.rates.items };
+}
+
+impl Rates {
+    /// No rate, with room for `count`. The only error is want of memory.
+    pub fn with_capacity(alloc: Global, count: usize) -> Result<Rates, AllocError>
+        ensures { IfOk result (λ r. r ≡ []) }
+    {
+        Ok(Rates {
+            rates: Vec::with_capacity(alloc, count)?,
+        })
+    }
+
+    /// Adds a rate at the end. The only error is want of memory, and then nothing changes.
+    pub fn push(&mut self, rate: Rate4) -> Result<(), AllocError>
+        ensures ok { OnOk result (self.new ≡ self.old ++ rate.0 ∷ []) }
+        ensures err { OnErr result (self.new ≡ self.old) }
+    {
+        self.rates.push(rate)?;
+        Ok(())
+    }
+
+    /// How many rates there are.
+    pub fn len(&self) -> usize
+        ensures { result ≡ length self.now }
+    {
+        self.rates.len()
+    }
+
+    /// The rate at a place, counted from 0.
+    pub fn at(&self, index: usize) -> Rate4
+        requires { index < length self.now }
+        ensures { result.0 ≡ slice_index_or self.now index (pos 0) }
+    {
+        self.rates[index]
+    }
+
+    /// The rate at a place, counted from 0, or 0 where there is no such place.
+    pub fn rate(&self, index: usize) -> Rate4
+        ensures { result.0 ≡ at_place self.now index }
+    {
+        match self.rates.get(index) {
+            Some(rate) => *rate,
+            None => Rate4(0),
+        }
+    }
+
+    /// The least of a rate and all of these.
+    pub fn least_with(&self, rate: Rate4) -> Rate4
+        ensures { result.0 ≡ fold int_min rate.0 self.now }
+    {
+        let mut least = rate;
+        for rate in &self.rates {
+            least = lesser(least, *rate);
+        }
+        least
+    }
+
+    /// The same rates once more. The only error is want of memory.
+    pub fn copy(&self, alloc: Global) -> Result<Rates, AllocError>
+        ensures { IfOk result (λ r. r ≡ self.now) }
+    {
+        Ok(Rates {
+            rates: Vec::from_slice(alloc, &self.rates)?,
+        })
+    }
+}
+
+fn lesser(a: Rate4, b: Rate4) -> Rate4
+    ensures { result.0 ≡ int_min a.0 b.0 }
+{
+    if b.0 < a.0 { b } else { a }
+}
+
+/// The rate at a place, counted from 1, of the array at a path.
+fn rate_at(
+    alloc: Global,
+    path: &[Part<'_>],
+    range: Range,
+    number: usize,
+    value: &Value,
+) -> Result<Rate4, ValueFault>
+    ensures { Gives (λ r. r.0) result (rate_at (map word_of path.now) range number [] (view value.now)) }
+{
+    let path = place_path(alloc, path, number)?;
+    rate(alloc, path.as_slice(), Some(value), range)
+}
+
+/// The rates at the places of the array at a path.
+fn read_places(
+    alloc: Global,
+    path: &[Part<'_>],
+    range: Range,
+    places: &[Value],
+) -> Result<Rates, ValueFault>
+    ensures { Gives (λ r. r) result (each_of (rate_at (map word_of path.now) range) 1 [] (items_view places.now)) }
+{
+    let mut rates = Rates::with_capacity(alloc, places.len())?;
+    for (index, value) in places.iter().enumerate() {
+        rates.push(rate_at(alloc, path, range, index + 1, value)?)?;
+    }
+    Ok(rates)
+}
+
+/// An array of so many rates in the range. Another array, and any other value, is `Missing`; then each place is tested
+/// in order.
+#[tactic(auto, unfolding(crate::specs::Matrix::rates_of))]
+pub fn read_rates(
+    alloc: Global,
+    path: &[Part<'_>],
+    value: Option<&Value>,
+    count: usize,
+    range: Range,
+) -> Result<Rates, ValueFault>
+    ensures value { Gives (λ r. r) result (rates_of (map word_of path.now) count range (found value.entry)) }
+    ensures rates { IfOk result (AreRates count range) }
+{
+    let places = array_of_length(alloc, path, value, count)?;
+    read_places(alloc, path, range, places)
+}
