@@ -1,33 +1,54 @@
 -- What the grammar has is a batch of FX rows.
-use Rattle.std.proofs.Common.{◌≡◌, ◌==◌, ◌∷◌, [], ◌++◌, ℕ, ◌+◌, ◌<◌, ◌≤◌, ◌^◌, Bool, true, false, not, ◌&&◌, ◌||◌, cond, ltb, ℤ, unsigned_abs, List, length, map, fold, Option, Some, None, option_map, Result, Ok, Err, zero, suc, refl, ap, sym, subst, ◌∙◌, arith, length-append, zero-add}
-use Rattle.std.specs.List.{list_any, AllByRecursion}
-use Rattle.std.proofs.lemmas.Bool.{and_parts, or_from, or_parts, ne_eqb, eqb-false, ltb-false, le-ltb, le-leb, not-true}
+use Rattle.std.proofs.Common.{◌≡◌, ◌==◌, ◌∷◌, [], ◌++◌, ℕ, ◌+◌, ◌<◌, ◌≤◌, ◌^◌, Bool, true, false, not, ◌&&◌, ◌||◌, cond, ltb, ℤ, unsigned_abs, List, length, map, fold, Option, Some, None, ok_or, inl, inr, ◌⊎◌, ◌≢◌, Result, Ok, Err, zero, suc, refl, ap, subst, ◌∙◌, arith, length-append, zero-add}
+use Rattle.std.specs.List.{list_any, list_all, flat_map, AllByRecursion}
+use Rattle.std.proofs.lemmas.Bool.{and_parts, or_from, ne_eqb, eqb-false, ltb-false, le-ltb, le-leb, not-true}
 use Rattle.std.proofs.lemmas.List.{nil_from_length}
-use Rattle.std.proofs.lemmas.Option.{option_and_then_some, cond_some, same_Some}
+use Rattle.std.proofs.lemmas.Option.{cond_some}
+use Rattle.std.specs.Prelude.{codes}
+use Rattle.std.specs.Result.{result_map_both}
 use Rattle.mh_units.specs.declared.quantities.Cents.{Cents}
 use Rattle.mh_units.specs.declared.numeral.NumeralFault.{NumeralFault}
 use Rattle.mh_units.specs.declared.numeral.NumeralFault.TheVariants as faults
 use Rattle.mh_units.specs.declared.scan.Phase.TheVariants as phases
 use Rattle.mh_units.specs.Scan.{is_numeral, reach}
 use Rattle.mh_units.specs.Numeral.{cents_of, number_of, with_sign, signed, is_minus, magnitude}
-use Rattle.std.specs.Result.{result_map_both, result_ok}
-use Rattle.simm_kinds.specs.declared.kinds.RiskType.TheVariants as kind
 use Rattle.simm_kinds.specs.declared.row.CrifRow.{CrifRow}
+use Rattle.simm_kinds.specs.declared.row.CrifRow.TheVariants as row
 use Rattle.simm_kinds.specs.declared.row.TradeRows.{TradeRows}
-use Rattle.simm_kinds.specs.Batch.{IsBatch, rows_of, repeats, single_params, params_in, is_misplaced, is_amount_of, is_param}
-use Rattle.simm_kinds.specs.Order.{same_name, same_key}
-use Rattle.crif_reader.specs.Row.{Entry, entry_of, entry_of_fields, entries_of, risk_type_of, trade_of, product_of, currency_of, amount_of, column}
-use Rattle.crif_reader.specs.Lines.{fields_of}
+use Rattle.simm_kinds.specs.Currency.{currency_text, upper}
+use Rattle.simm_kinds.specs.Built.{is_built_row}
+use Rattle.simm_kinds.specs.Batch.{IsBatch, rows_of, repeats, factor_names, multiplied, is_misplaced, is_in_range, is_param}
+use Rattle.simm_kinds.specs.Order.{same_name, same_product}
+use Rattle.simm_kinds.specs.declared.factor.Factor.{Factor}
+use Rattle.simm_kinds.specs.declared.factor.Factor.TheVariants as factor
+use Rattle.simm_kinds.specs.declared.kinds.RiskType.{RiskType}
+use Rattle.simm_kinds.specs.declared.kinds.RiskType.TheVariants as kind
+use Rattle.simm_kinds.specs.Kinds.{kind_named}
+use Rattle.simm_kinds.specs.Words.{is_word}
+use Rattle.simm_kinds.specs.declared.kinds.ProductClass.{ProductClass}
+use Rattle.simm_kinds.specs.NameText.{is_full_name}
+use Rattle.crif_reader.specs.declared.columns.Columns.{Columns}
+use Rattle.crif_reader.specs.declared.fault.CrifFault.TheVariants.{Row, TooManyRows, EmptyBatch}
+use Rattle.crif_reader.specs.declared.fault.RowFault.{RowFault}
+use Rattle.crif_reader.specs.declared.fault.RowFault.TheVariants as fault
+use Rattle.crif_reader.specs.Reads.{◌>>=◌}
+use Rattle.crif_reader.specs.Fields.{Texts, texts_of, are_text}
+use Rattle.crif_reader.specs.Factor.{factor_of, full_name_of}
+use Rattle.crif_reader.specs.Known.{is_known}
+use Rattle.crif_reader.specs.Row.{Entry, row_of, text_row_of, model_of, typed_of, entry_of, sensitivity_of, is_present_value, trade_of, product_of, amount_of, amount_text}
+use Rattle.crif_reader.specs.Repeated.{is_repeated, once, rows_in}
 use Rattle.crif_reader.specs.Trades.{gathered, trade_names}
-use Rattle.crif_reader.specs.Grammar.{trades_of_lines}
+use Rattle.crif_reader.specs.Grammar.{Kept, Crif, none_kept, with_taken, at_record, kept_of, taken_of}
+use Rattle.crif_reader.specs.Grammar.{rows_of as file_rows_of}
 use Rattle.crif_reader.specs.Growth.{with_entry}
 use Rattle.crif_reader.proofs.Gathered.{grown-gathered, trade_in, repeats-trade_names}
+use Rattle.crif_reader.proofs.Known.{known_fx}
 
 -- ---- rows and trades that may stand in a batch
 
 pub record IsGoodRow (r : CrifRow) : Type 0 where
-  pub fx : r.key.kind ≡ kind.Fx
-  pub size : unsigned_abs r.amount ≤ 10 ^ 15
+  pub built : is_built_row r ≡ true
+  pub size : is_in_range r ≡ true
 
 pub record IsGoodEntry (e : Entry) : Type 0 where
   pub named : 0 < length e.trade
@@ -37,6 +58,19 @@ pub record IsGoodTrade (t : TradeRows) : Type 0 where
   pub named : 0 < length t.trade
   pub some : 0 < length t.rows
   pub rows : AllByRecursion IsGoodRow t.rows
+
+-- a built row is a sensitivity, and no parameter
+pub record IsNoParam (r : CrifRow) : Type 0 where
+  pub param : is_param r ≡ false
+  pub name : factor_names r ≡ []
+  pub product : multiplied r ≡ []
+
+no_param : (r : CrifRow) → is_built_row r ≡ true → IsNoParam r
+no_param (row.Sensitivity key amount) h = record { param = refl; name = refl; product = refl }
+no_param (row.Notional qualifier amount) h = cc
+no_param (row.FixedAmount amount) h = cc
+no_param (row.NotionalFactor qualifier factor) h = cc
+no_param (row.Multiplier product factor) h = cc
 
 all_append : {A : Type 0} (P : A → Type 0) (xs ys : List A) → AllByRecursion P xs → AllByRecursion P ys → AllByRecursion P (xs ++ ys)
 all_append P [] ys h k = k
@@ -80,15 +114,19 @@ good-rows_of : (ts : List TradeRows) → AllByRecursion IsGoodTrade ts → AllBy
 good-rows_of [] h = tt
 good-rows_of (t ∷ ts) h = all_append IsGoodRow t.rows (rows_of ts) h.0.rows (good-rows_of ts h.1)
 
-no_params : (rs : List CrifRow) → AllByRecursion IsGoodRow rs → params_in rs ≡ []
-no_params [] h = refl
-no_params (r ∷ rs) h = rw h.0.fx (no_params rs h.1)
+no_names : (rs : List CrifRow) → AllByRecursion IsGoodRow rs → flat_map factor_names rs ≡ []
+no_names [] h = refl
+no_names (r ∷ rs) h = rw (no_param r h.0.built).name (no_names rs h.1)
 
-in_place : (t : TradeRows) → 0 < length t.trade → (rs : List CrifRow) → AllByRecursion IsGoodRow rs → list_any (λ r. not (is_param r.key.kind) && (length t.trade == 0) || is_param r.key.kind && not (length t.trade == 0)) rs ≡ false
+no_products : (rs : List CrifRow) → AllByRecursion IsGoodRow rs → flat_map multiplied rs ≡ []
+no_products [] h = refl
+no_products (r ∷ rs) h = rw (no_param r h.0.built).product (no_products rs h.1)
+
+in_place : (t : TradeRows) → 0 < length t.trade → (rs : List CrifRow) → AllByRecursion IsGoodRow rs → list_any (λ r. not (is_param r) && (length t.trade == 0) || is_param r && not (length t.trade == 0)) rs ≡ false
 in_place t named [] h = refl
 in_place t named (r ∷ rs) h =
     let other : (length t.trade == 0) ≡ false = ne_eqb (length t.trade) 0 (omega arith) in
-    or_from _ _ (rw (h.0.fx, other) refl) (in_place t named rs h.1)
+    or_from _ _ (rw ((no_param r h.0.built).param, other) refl) (in_place t named rs h.1)
 
 none_misplaced : (ts : List TradeRows) → AllByRecursion IsGoodTrade ts → list_any is_misplaced ts ≡ false
 none_misplaced [] h = refl
@@ -98,9 +136,13 @@ none_empty : (ts : List TradeRows) → AllByRecursion IsGoodTrade ts → list_an
 none_empty [] h = refl
 none_empty (t ∷ ts) h = or_from _ _ (ne_eqb (length t.rows) 0 (omega (arith, h.0.some))) (none_empty ts h.1)
 
-none_large : (rs : List CrifRow) → AllByRecursion IsGoodRow rs → list_any (λ r. not (is_amount_of r.key.kind r.amount)) rs ≡ false
-none_large [] h = refl
-none_large (r ∷ rs) h = or_from _ _ (rw h.0.fx (ap not (le-leb (unsigned_abs r.amount) (10 ^ 15) h.0.size))) (none_large rs h.1)
+all_in_range : (rs : List CrifRow) → AllByRecursion IsGoodRow rs → list_all is_in_range rs ≡ true
+all_in_range [] h = refl
+all_in_range (r ∷ rs) h = rw (h.0.size, all_in_range rs h.1) refl
+
+all_built : (rs : List CrifRow) → AllByRecursion IsGoodRow rs → list_all is_built_row rs ≡ true
+all_built [] h = refl
+all_built (r ∷ rs) h = rw (h.0.built, all_built rs h.1) refl
 
 names_of : (es : List Entry) (ns : List (List ℕ)) → map (λ t. t.trade) (map (trade_in es) ns) ≡ ns
 names_of es [] = refl
@@ -118,11 +160,35 @@ batch-gathered es good some few =
     let rows = good-rows_of trades all in
     let there : (length trades == 0) ≡ false = ne_eqb (length trades) 0 (λ none. let empty = ap (λ ts. length (rows_of ts)) (nil_from_length trades none) in omega arith) in
     let once : repeats same_name (map (λ t. t.trade) trades) ≡ false = rw (names-gathered es) (repeats-trade_names es) in
-    let params : repeats same_key (single_params trades) ≡ false = rw (no_params (rows_of trades) rows) refl in
+    let factors : repeats same_name (flat_map factor_names (rows_of trades)) ≡ false = rw (no_names (rows_of trades) rows) refl in
+    let multipliers : repeats same_product (flat_map multiplied (rows_of trades)) ≡ false = rw (no_products (rows_of trades) rows) refl in
     let fits : ltb 100000 (length (rows_of trades)) ≡ false = le-ltb 100000 (length (rows_of trades)) (omega arith) in
-    rw (there, once, params, fits, none_misplaced trades all, none_empty trades all, none_large (rows_of trades) rows) refl
+    rw (there, once, factors, multipliers, fits, none_misplaced trades all, none_empty trades all, all_in_range (rows_of trades) rows, all_built (rows_of trades) rows) refl
 
--- ---- what a line has
+-- ---- what a record has
+
+bind_ok : {A B E P : Type 0} (f : A → Result B E) (r : Result A E) (y : B) → (r >>= f) ≡ Ok y → ((x : A) → r ≡ Ok x → f x ≡ Ok y → P) → P
+bind_ok f (Ok x) y e k = k x refl e
+bind_ok f (Err d) y e k = cc
+
+same_ok : {A E : Type 0} (x y : A) → ◌≡◌ {A = Result A E} (Ok x) (Ok y) → x ≡ y
+same_ok x y e = cc
+
+either : {A : Type 0} (b : Bool) (x y z : A) → cond b x y ≡ z → ((b ≡ true) × (x ≡ z)) ⊎ ((b ≡ false) × (y ≡ z))
+either true x y z e = inl (refl, e)
+either false x y z e = inr (refl, e)
+
+ok_if : {A E : Type 0} (b : Bool) (x : A) (d : E) (y : A) → cond b (Ok x) (Err d) ≡ Ok y → (b ≡ true) × (x ≡ y)
+ok_if true x d y e = (refl, same_ok x y e)
+ok_if false x d y e = cc
+
+some_ok : {A E : Type 0} (o : Option A) (d : E) (x : A) → ok_or o d ≡ Ok x → o ≡ Some x
+some_ok None d x e = cc
+some_ok (Some y) d x e = ap (λ z. Some z) (same_ok y x e)
+
+mapped_ok : {A E D : Type 0} (g : E → D) (r : Result A E) (x : A) → result_map_both (λ y. y) g r ≡ Ok x → r ≡ Ok x
+mapped_ok g (Ok y) x e = ap (λ z. Ok z) (same_ok y x e)
+mapped_ok g (Err d) x e = cc
 
 size-with_sign : (negative : Bool) (n : ℕ) → unsigned_abs (with_sign negative n) ≡ n
 size-with_sign true zero = refl
@@ -146,70 +212,118 @@ number_size places most text n e =
     let bound : unsigned_abs (signed text (magnitude places text)) ≤ most = rw (size-with_sign (is_minus text) (magnitude places text)) (ltb-false most (magnitude places text) fits.0) in
     subst (λ v. unsigned_abs v ≤ most) (same_value (signed text (magnitude places text)) n _ _ refl refl fits.1) bound
 
-cents_are : (r : Result ℤ NumeralFault) (amount : ℤ) → option_map (λ c. c.0) (result_ok (result_map_both (λ n. let c : Cents = record { 0 = n } in c) (λ e. e) r)) ≡ Some amount → r ≡ Ok amount
-cents_are (Ok n) amount e = ap (λ n. Ok n) (same_Some n amount e)
+cents_are : (r : Result ℤ NumeralFault) (amount : Cents) → result_map_both (λ n. let c : Cents = record { 0 = n } in c) (λ e. e) r ≡ Ok amount → r ≡ Ok amount.0
+cents_are (Ok n) amount e = ap (λ c. Ok c.0) (same_ok (record { 0 = n }) amount e)
 cents_are (Err fault) amount e = cc
 
-amount_size : (field : List ℕ) (amount : ℤ) → amount_of field ≡ Some amount → unsigned_abs amount ≤ 10 ^ 15
+amount_size : (t : Texts) (amount : Cents) → amount_of t ≡ Ok amount → unsigned_abs amount.0 ≤ 10 ^ 15
 unfolding cents_of
-amount_size field amount e = number_size 2 (10 ^ 15) field amount (cents_are (number_of 2 (10 ^ 15) field) amount e)
+amount_size t amount e = number_size 2 (10 ^ 15) (amount_text t) amount.0 (cents_are (number_of 2 (10 ^ 15) (amount_text t)) amount (mapped_ok (λ d. fault.Amount d) (cents_of (amount_text t)) amount e))
 
-trade_named : (field trade : List ℕ) → trade_of field ≡ Some trade → 0 < length trade
-trade_named field trade e =
-    let parts = cond_some _ field trade e in
+trade_named : (text trade : List ℕ) → full_name_of fault.Trade text ≡ Ok trade → 0 < length trade
+trade_named text trade e =
+    let parts = ok_if (is_full_name text) text fault.Trade trade e in
     let tests = and_parts _ _ parts.0 in
-    let some = eqb-false (length field) 0 (not-true _ tests.0) in
+    let some = eqb-false (length text) 0 (not-true _ tests.0) in
     rw (← parts.1) (omega arith)
 
-good_fields : (fields : List (List ℕ)) (entry : Entry) → entry_of_fields fields ≡ Some entry → IsGoodEntry entry
-unfolding entry_of_fields
-good_fields fields entry e =
-    option_and_then_some _ (risk_type_of (column fields 2)) entry e (λ type is_type e1.
-    option_and_then_some _ (trade_of (column fields 0)) entry e1 (λ trade is_trade e2.
-    option_and_then_some _ (product_of (column fields 1)) entry e2 (λ class is_class e3.
-    option_and_then_some _ (currency_of (column fields 3)) entry e3 (λ currency is_currency e4.
-    option_and_then_some _ (amount_of (column fields 9)) entry e4 (λ amount is_amount e5.
-    subst IsGoodEntry (same_Some _ entry e5) (record {
-      named = trade_named (column fields 0) trade is_trade;
-      row = record { fx = sym (cond_some _ kind.Fx type is_type).1; size = amount_size (column fields 9) amount is_amount };
-    }))))))
+-- a factor of a currency is built
+built_currency : (t : Texts) (f : Factor) (product : ProductClass) (amount : Cents) → factor_of kind.Fx t ≡ Ok f → is_built_row (row.Sensitivity (record { product = product; factor = f }) amount) ≡ true
+built_currency t f product amount e =
+    bind_ok _ (ok_or (currency_text t.qualifier) fault.Qualifier) f e (λ currency is_currency e1.
+    let letters = cond_some _ (upper t.qualifier) currency (some_ok (currency_text t.qualifier) fault.Qualifier currency is_currency) in
+    rw (← same_ok (factor.Fx currency) f e1) (rw (← letters.1) letters.0))
 
-good_line : (line : List ℕ) (entry : Entry) → entry_of line ≡ Some entry → IsGoodEntry entry
-unfolding entry_of
-good_line line entry e = good_fields (fields_of line) entry (chosen _ (entry_of_fields (fields_of line)) entry e)
+good_sensitivity : (t : Texts) (e : Entry) → sensitivity_of kind.Fx t ≡ Ok e → IsGoodEntry e
+unfolding sensitivity_of
+good_sensitivity t e h =
+    bind_ok _ (trade_of t) e h (λ trade is_trade h1.
+    bind_ok _ (product_of t) e h1 (λ product is_product h2.
+    bind_ok _ (factor_of kind.Fx t) e h2 (λ f is_factor h3.
+    bind_ok _ (amount_of t) e h3 (λ amount is_amount h4.
+    subst IsGoodEntry (same_ok _ e h4) (record {
+      named = trade_named t.trade_id trade is_trade;
+      row = record { built = built_currency t f product amount is_factor; size = le-leb (unsigned_abs amount.0) (10 ^ 15) (amount_size t amount is_amount) };
+    })))))
+
+good_known : (k : RiskType) (t : Texts) (e : Entry) → is_known k ≡ true → entry_of k t ≡ Ok e → IsGoodEntry e
+good_known k t e known h = good_sensitivity t e (rw (known_fx k known) at h)
+
+good_typed : (t : Texts) (e : Entry) → typed_of t ≡ Ok (Some e) → IsGoodEntry e
+unfolding typed_of
+good_typed t e h =
+    bind_ok _ (ok_or (kind_named t.risk_type) fault.RiskType) (Some e) h (λ k is_kind h1.
+    elim (either (is_present_value k) (Ok None) _ (Ok (Some e)) h1) [
+      | inl passed ↦ cc (passed.1)
+      | inr other ↦ elim (either (is_known k) _ (Err fault.RiskType) (Ok (Some e)) other.1) [
+        | inl known ↦ bind_ok _ (entry_of k t) (Some e) known.1 (λ entry is_entry h2. good_known k t e known.0 (is_entry ∙ ap (λ x. Ok x) (same_some entry e (same_ok (Some entry) (Some e) h2))))
+        | inr unknown ↦ cc (unknown.1)
+      ]
+    ])
   where
-    chosen : (b : Bool) (o : Option Entry) (x : Entry) → cond b o None ≡ Some x → o ≡ Some x
-    chosen true o x e = e
-    chosen false o x e = cc
+    same_some : (x y : Entry) → Some x ≡ Some y → x ≡ y
+    same_some x y p = cc
 
-pub record AreGood (lines : List (List ℕ)) (es : List Entry) : Type 0 where
-  pub count : length es ≡ length lines
-  pub good : AllByRecursion IsGoodEntry es
+good_row : (columns : Columns) (fields : List (List ℕ)) (e : Entry) → row_of columns fields ≡ Ok (Some e) → IsGoodEntry e
+good_row columns fields e h =
+    let t = texts_of columns fields in
+    elim (either (ltb columns.count (length fields)) (Err fault.FieldCount) (text_row_of t) (Ok (Some e)) h) [
+      | inl more ↦ cc (more.1)
+      | inr few ↦ elim (either (are_text t) (model_of t) (Err fault.NotUtf8) (Ok (Some e)) few.1) [
+        | inl text ↦ elim (either (is_word (codes "Schedule") t.im_model) (Ok None) (typed_of t) (Ok (Some e)) text.1) [
+          | inl schedule ↦ cc (schedule.1)
+          | inr model ↦ good_typed t e model.1
+        ]
+        | inr bytes ↦ cc (bytes.1)
+      ]
+    ]
 
-pub good_lines : (lines : List (List ℕ)) (es : List Entry) → entries_of lines ≡ Some es → AreGood lines es
-good_lines [] es e = subst (AreGood []) (same_Some [] es e) (record { count = refl; good = tt })
-good_lines (line ∷ lines) es e =
-    option_and_then_some _ (entry_of line) es e (λ entry is_entry e1.
-    option_and_then_some _ (entries_of lines) es e1 (λ entries is_entries e2.
-    let next = good_lines lines entries is_entries in
-    subst (AreGood (line ∷ lines)) (same_Some _ es e2) (record { count = omega (arith, next.count); good = (good_line line entry is_entry, next.good) })))
+-- what passes the last test was read so
+read_once : (before : List Entry) (read : Result (Option Entry) RowFault) (taken : Option Entry) → (read >>= once before) ≡ Ok taken → read ≡ Ok taken
+read_once before (Err d) taken e = cc
+read_once before (Ok None) taken e = e
+read_once before (Ok (Some entry)) taken e =
+    elim (either (is_repeated (rows_in before) entry.row) (Err fault.DuplicateParam) (Ok (Some entry)) (Ok taken) e) [
+      | inl again ↦ cc (again.1)
+      | inr first ↦ first.1
+    ]
 
--- the trades of lines are a batch
-pub batch_of_lines : (lines : List (List ℕ)) (trades : List TradeRows) → trades_of_lines lines ≡ Some trades → IsBatch trades
-unfolding trades_of_lines
-batch_of_lines lines trades e =
-    in_range ((length lines == 0) || ltb 100000 (length lines)) refl e
+-- ---- what a file has
+
+pub record IsGoodRun (kept : Kept) : Type 0 where
+  pub good : AllByRecursion IsGoodEntry kept.entries
+  pub few : length kept.entries ≤ 100000
+
+good_taken : (kept : Kept) (taken : Option Entry) → AllByRecursion IsGoodEntry kept.entries → ((e : Entry) → taken ≡ Some e → IsGoodEntry e) → AllByRecursion IsGoodEntry (with_taken kept taken).entries
+good_taken kept None h k = h
+good_taken kept (Some e) h k = all_append IsGoodEntry kept.entries (e ∷ []) h (k e refl, tt)
+
+taken_count : (kept : Kept) (taken : Option Entry) → length (with_taken kept taken).entries ≤ length kept.entries + 1
+taken_count kept None = omega arith
+taken_count kept (Some e) = omega (arith, length-append kept.entries (e ∷ []))
+
+good_run : (columns : Columns) (number : ℕ) (kept : Kept) (records : List (List (List ℕ))) (last : Kept) → kept_of columns number kept records ≡ Ok last → AllByRecursion IsGoodEntry kept.entries → length kept.entries + 2 ≤ number → number ≤ 100002 → IsGoodRun last
+good_run columns number kept [] last e good count few = subst IsGoodRun (same_ok kept last e) (record { good = good; few = omega arith })
+good_run columns number kept (fields ∷ more) last e good count few =
+    elim (either (number == 100002) (Err TooManyRows) _ (Ok last) e) [
+      | inl many ↦ cc (many.1)
+      | inr within ↦
+          let not_last : number ≢ 100002 = eqb-false number 100002 within.0 in
+          bind_ok _ (at_record number (taken_of columns kept.entries fields)) last within.1 (λ taken is_taken e1.
+          let row = read_once kept.entries (row_of columns fields) taken (mapped_ok (λ d. Row number d) (taken_of columns kept.entries fields) taken is_taken) in
+          good_run columns (number + 1) (with_taken kept taken) more last e1 (good_taken kept taken good (λ entry t. good_row columns fields entry (row ∙ ap (λ o. Ok o) t))) (omega (arith, taken_count kept taken)) (omega arith))
+    ]
+
+-- the trades of records are a batch
+pub batch_of_rows : (columns : Columns) (records : List (List (List ℕ))) (crif : Crif) → file_rows_of columns records ≡ Ok crif → IsBatch crif.trades
+unfolding file_rows_of
+batch_of_rows columns records crif e =
+    bind_ok _ (kept_of columns 2 none_kept records) crif e (λ kept is_kept e1.
+    let run = good_run columns 2 none_kept records kept is_kept tt (omega arith) (omega arith) in
+    elim (either (length kept.entries == 0) (Err EmptyBatch) _ (Ok crif) e1) [
+      | inl empty ↦ cc (empty.1)
+      | inr some ↦ subst (λ (c : Crif). IsBatch c.trades) (same_ok _ crif some.1) (batch-gathered kept.entries run.good (nonempty (length kept.entries) some.0) run.few)
+    ])
   where
-    of_entries : (o : Option (List Entry)) → entries_of lines ≡ o → 0 < length lines → length lines ≤ 100000 → option_map gathered o ≡ Some trades → IsBatch trades
-    of_entries None h some few k = cc
-    of_entries (Some es) h some few k =
-        let all = good_lines lines es h in
-        subst IsBatch (same_Some (gathered es) trades k) (batch-gathered es all.good (omega (arith, all.count)) (omega (arith, all.count)))
-
-    in_range : (b : Bool) → ((length lines == 0) || ltb 100000 (length lines)) ≡ b → cond b None (option_map gathered (entries_of lines)) ≡ Some trades → IsBatch trades
-    in_range true h k = cc
-    in_range false h k =
-        let parts = or_parts (length lines == 0) (ltb 100000 (length lines)) h in
-        let some = eqb-false (length lines) 0 parts.0 in
-        let few = ltb-false 100000 (length lines) parts.1 in
-        of_entries (entries_of lines) refl (omega arith) few k
+    nonempty : (n : ℕ) → (n == 0) ≡ false → 0 < n
+    nonempty n h = let not_none = eqb-false n 0 h in omega arith

@@ -1,5 +1,5 @@
 -- Growing row by row makes the trades that gathering states.
-use Rattle.std.proofs.Common.{◌≡◌, ◌∷◌, [], ◌++◌, ℕ, Bool, true, false, not, cond, List, map, filter, fold, Option, Some, None, option_map, refl, ap, sym, ◌∙◌, ⊎_elim}
+use Rattle.std.proofs.Common.{◌≡◌, ◌∷◌, [], ◌++◌, ℕ, Bool, true, false, not, cond, List, map, length, filter, fold, arith, refl, ap, sym, ◌∙◌, ⊎_elim}
 use Rattle.std.specs.List.{list_any}
 use Rattle.std.proofs.lemmas.Bool.{cases_Bool, or_parts, or_from, not-false}
 use Rattle.std.proofs.lemmas.List.{append-nil, append_assoc, map-append}
@@ -149,7 +149,7 @@ map-with_name es e (n ∷ ns) once none =
     rw (apart, same, next) refl)
     (cases_Bool (same_name e.trade n))
 
-gathered-push : (es : List Entry) (e : Entry) → gathered (es ++ e ∷ []) ≡ with_entry (gathered es) e
+pub gathered-push : (es : List Entry) (e : Entry) → gathered (es ++ e ∷ []) ≡ with_entry (gathered es) e
 unfolding gathered
 gathered-push es e =
     ap (map (trade_in (es ++ e ∷ []))) (trade_names-push es e) ∙ map-with_name es e (trade_names es) (repeats-trade_names es) (rows_under_none e.trade es)
@@ -167,6 +167,8 @@ gathered_none = refl
 pub grown-gathered : (es : List Entry) → fold with_entry [] es ≡ gathered es
 grown-gathered es = ap (λ trades. fold with_entry trades es) (sym gathered_none) ∙ grown_on [] es
 
-pub grown-gathered_option : (o : Option (List Entry)) → option_map (fold with_entry []) o ≡ option_map gathered o
-grown-gathered_option None = refl
-grown-gathered_option (Some es) = ap (λ (trades : List TradeRows). Some trades) (grown-gathered es)
+-- where there is no trade there is no row
+pub gathered_some : (es : List Entry) → length (gathered es) ≡ 0 → length es ≡ 0
+unfolding gathered
+gathered_some [] h = refl
+gathered_some (e ∷ es) h = absurd (omega (arith, h))

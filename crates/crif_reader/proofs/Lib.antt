@@ -1,5 +1,8 @@
-pub mod FirstLines
-pub mod Currencies
+pub mod RecordsLeft
 pub mod Places
 pub mod Gathered
+pub mod FieldsAt
+pub mod NotedRows
+pub mod Known
 pub mod Batches
+pub mod Runs

@@ -1,11 +1,8 @@
 -- Trades that grow row by row, and an index of their places.
 use Rattle.std.specs.Prelude.{◌≡◌, ℕ, suc, List, [], ◌∷◌, ◌++◌, Option, Some, None, option_map, if◌then◌else◌}
-use Rattle.std.specs.Borrow.{Bor}
-use Rattle.std.specs.Ordering.{nat_cmp}
-use Rattle.std.specs.Cmp.Lexicographic.{slice_cmp}
-use Rattle.std.specs.BTreeMap.{BTreeMap, get_by}
+use Rattle.std.specs.BTreeMap.{BTreeMap, get}
 use Rattle.simm_kinds.specs.declared.row.TradeRows.{TradeRows}
-use Rattle.simm_kinds.specs.Order.{same_name}
+use Rattle.simm_kinds.specs.Order.{name_cmp, same_name}
 use Rattle.crif_reader.specs.Row.{Entry}
 
 -- one more row: at the end of its trade, or as a new trade behind the others
@@ -21,5 +18,5 @@ place_of name [] = None
 place_of name (t ∷ ts) = if same_name name t.trade then Some 0 else option_map (λ n. suc n) (place_of name ts)
 
 -- the map has the place of each trade under its name, and no other name
-abbrev pub IsIndex : BTreeMap (Bor (List ℕ)) ℕ → List TradeRows → Type 0
-IsIndex places trades = (name : List ℕ) → get_by (λ k. slice_cmp nat_cmp name k.now) places ≡ place_of name trades
+abbrev pub IsIndex : BTreeMap (List ℕ) ℕ → List TradeRows → Type 0
+IsIndex places trades = (name : List ℕ) → get name_cmp places name ≡ place_of name trades

@@ -1,7 +1,13 @@
 pub mod Reads
-pub mod Lines
+pub mod Faults
+pub mod Records
 pub mod Columns
+pub mod Fields
+pub mod Known
+pub mod Factor
 pub mod Row
+pub mod Repeated
+pub mod Noted
 pub mod Trades
 pub mod Growth
 pub mod Grammar

@@ -1,86 +1,159 @@
--- The row of a CRIF line: its ten columns, and the test of each column that is read.
-use Rattle.std.specs.Prelude.{ℕ, List, [], ◌∷◌, length, map, Bool, ◌&&◌, ◌||◌, not, nat_lt, ◌==◌, codes, slice_index_or, ℤ, Option, Some, None, option_map, option_and_then, if◌then◌else◌}
-use Rattle.std.specs.List.{list_all}
-use Rattle.std.specs.Char.{is_ascii_alphabetic, to_ascii_uppercase}
-use Rattle.std.specs.Result.{result_ok}
-use Rattle.mh_units.specs.Numeral.{cents_of}
+-- The row of a record: its tests in order, the first fault ends them.
+use Rattle.std.specs.Prelude.{ℕ, List, [], length, Bool, true, false, ◌&&◌, nat_lt, ◌==◌, ℤ, pos, int_le, codes, ok_or, Option, Some, None, Result, Ok, Err, if◌then◌else◌}
+use Rattle.std.specs.Result.{result_map_both}
+use Rattle.mh_units.specs.declared.quantities.Cents.{Cents}
+use Rattle.mh_units.specs.declared.quantities.Rate4.{Rate4}
+use Rattle.mh_units.specs.Numeral.{cents_of, rate4_of}
 use Rattle.simm_kinds.specs.declared.kinds.ProductClass.{ProductClass}
-use Rattle.simm_kinds.specs.declared.kinds.ProductClass.TheVariants as product
 use Rattle.simm_kinds.specs.declared.kinds.RiskType.{RiskType}
 use Rattle.simm_kinds.specs.declared.kinds.RiskType.TheVariants as kind
-use Rattle.simm_kinds.specs.declared.kinds.BucketId.TheVariants as bucket
 use Rattle.simm_kinds.specs.declared.row.CrifRow.{CrifRow}
-use Rattle.simm_kinds.specs.Key.{Key}
-use Rattle.simm_kinds.specs.NameText.{is_full_name}
-use Rattle.crif_reader.specs.Lines.{fields_of, is_word}
+use Rattle.simm_kinds.specs.declared.row.CrifRow.TheVariants as row
+use Rattle.simm_kinds.specs.Kinds.{kind_named, product_named}
+use Rattle.simm_kinds.specs.Words.{is_word}
+use Rattle.crif_reader.specs.declared.columns.Columns.{Columns}
+use Rattle.crif_reader.specs.declared.fault.RowFault.{RowFault}
+use Rattle.crif_reader.specs.declared.fault.RowFault.TheVariants as fault
+use Rattle.crif_reader.specs.Reads.{◌>>=◌}
+use Rattle.crif_reader.specs.Fields.{Texts, texts_of, are_text}
+use Rattle.crif_reader.specs.Factor.{factor_of, full_name_of, name_of}
+use Rattle.crif_reader.specs.Known.{is_known}
 
--- a row, and the trade that it belongs to
+-- a row, and the trade that it belongs to: parameters of add-ons belong to the trade without a name
 pub record Entry : Type 0 where
   pub trade : List ℕ
   pub row : CrifRow
 
-infixl 10 ◌>>=◌
-abbrev pub ◌>>=◌ : {A B : Type 0} → Option A → (A → Option B) → Option B
-o >>= f = option_and_then f o
+-- ---- parts of all rows
 
--- ASCII, and no quote, tab or CR
-abbrev pub is_plain : ℕ → Bool
-is_plain b = nat_lt b 128 && not (b == 34) && not (b == 9) && not (b == 13)
+abbrev pub trade_of : Texts → Result (List ℕ) RowFault
+trade_of t = full_name_of fault.Trade t.trade_id
 
--- ---- the columns that are read, each as the file has it, without spaces at its ends
+abbrev pub product_of : Texts → Result ProductClass RowFault
+product_of t = ok_or (product_named t.product_class) fault.ProductClass
 
-abbrev pub risk_type_of : List ℕ → Option RiskType
-risk_type_of field = if is_word (codes "Risk_FX") field then Some kind.Fx else None
+-- AmountUSD; where that is empty, an Amount in USD
+abbrev pub amount_text : Texts → List ℕ
+amount_text t = if (length t.amount_usd == 0) && is_word (codes "USD") t.amount_currency then t.amount else t.amount_usd
 
--- a name that isn't empty
-abbrev pub trade_of : List ℕ → Option (List ℕ)
-trade_of field = if is_full_name field then Some field else None
+-- in cents
+abbrev pub amount_of : Texts → Result Cents RowFault
+amount_of t = result_map_both (λ c. c) (λ e. fault.Amount e) (cents_of (amount_text t))
 
-abbrev pub product_of : List ℕ → Option ProductClass
-product_of field =
-    if is_word (codes "RatesFX") field || is_word (codes "Rates") field || is_word (codes "FX") field then Some product.RatesFX
-    else (if is_word (codes "Credit") field then Some product.Credit
-    else (if is_word (codes "Equity") field then Some product.Equity
-    else (if is_word (codes "Commodity") field then Some product.Commodity
-    else None)))
+-- a factor or a multiplier, in ten-thousandths
+abbrev pub rate_of : Texts → Result Rate4 RowFault
+rate_of t = result_map_both (λ r. r) (λ e. fault.Amount e) (rate4_of t.amount)
 
--- three letters, kept in upper case
-abbrev pub currency_of : List ℕ → Option (List ℕ)
-currency_of field = if (length field == 3) && list_all is_ascii_alphabetic field then Some (map to_ascii_uppercase field) else None
+-- ---- the rows
 
--- USD cents
-abbrev pub amount_of : List ℕ → Option ℤ
-amount_of field = option_map (λ c. c.0) (result_ok (cents_of field))
+unfoldable pub sensitivity_of : RiskType → Texts → Result Entry RowFault
+sensitivity_of kind t = do
+  trade ← trade_of t
+  product ← product_of t
+  factor ← factor_of kind t
+  amount ← amount_of t
+  Ok (record { trade = trade; row = row.Sensitivity (record { product = product; factor = factor }) amount })
 
--- ---- the row
+unfoldable pub notional_of : Texts → Result Entry RowFault
+notional_of t = do
+  trade ← trade_of t
+  qualifier ← name_of fault.Qualifier t.qualifier
+  amount ← amount_of t
+  Ok (record { trade = trade; row = row.Notional qualifier amount })
 
--- a currency, and no other part
-abbrev pub fx_key : RiskType → ProductClass → List ℕ → Key
-fx_key type class currency = record { product = class; kind = type; qualifier = currency; bucket = bucket.Single; tenor = None; sub = None; label2 = [] }
+-- what a parameter gives where its value lies between these two
+abbrev pub if_within : ℤ → ℤ → ℤ → Entry → Result Entry RowFault
+if_within least most value entry = if int_le least value && int_le value most then Ok entry else Err (fault.ParamRange value)
 
--- the field of a column, by its place
-abbrev pub column : List (List ℕ) → ℕ → List ℕ
-column fields place = slice_index_or fields place []
+-- not below 0
+unfoldable pub fixed_amount_of : Texts → Result Entry RowFault
+fixed_amount_of t = do
+  amount ← amount_of t
+  if int_le (pos 0) amount.0 then Ok (record { trade = []; row = row.FixedAmount amount }) else Err (fault.ParamRange amount.0)
 
--- The columns are TradeID, ProductClass, RiskType, Qualifier, Bucket, Label1, Label2, Amount, AmountCurrency, AmountUSD. Those
--- that are read are tested in this order; the others are passed over.
-unfoldable pub entry_of_fields : List (List ℕ) → Option Entry
-entry_of_fields fields = do
-  type ← risk_type_of (column fields 2)
-  trade ← trade_of (column fields 0)
-  class ← product_of (column fields 1)
-  currency ← currency_of (column fields 3)
-  amount ← amount_of (column fields 9)
-  Some (record { trade = trade; row = record { key = fx_key type class currency; amount = amount } })
+-- 0 to 100
+unfoldable pub notional_factor_of : Texts → Result Entry RowFault
+notional_factor_of t = do
+  qualifier ← full_name_of fault.Qualifier t.qualifier
+  factor ← rate_of t
+  if_within (pos 0) (pos 1000000) factor.0 (record { trade = []; row = row.NotionalFactor qualifier factor })
 
--- A line is one row: plain bytes, and nine commas.
-unfoldable pub entry_of : List ℕ → Option Entry
-entry_of line = if list_all is_plain line && (length (fields_of line) == 10) then entry_of_fields (fields_of line) else None
+-- 1 to 10
+unfoldable pub multiplier_of : Texts → Result Entry RowFault
+multiplier_of t = do
+  product ← ok_or (product_named t.qualifier) fault.Qualifier
+  factor ← rate_of t
+  if_within (pos 10000) (pos 100000) factor.0 (record { trade = []; row = row.Multiplier product factor })
 
--- the rows of all lines; none where a line is none
-abbrev pub entries_of : List (List ℕ) → Option (List Entry)
-entries_of [] = Some []
-entries_of (line ∷ lines) = do
-  entry ← entry_of line
-  entries ← entries_of lines
-  Some (entry ∷ entries)
+-- by risk type; present values have no row
+abbrev pub entry_of : RiskType → Texts → Result Entry RowFault
+entry_of kind.IrCurve t = sensitivity_of kind.IrCurve t
+entry_of kind.Inflation t = sensitivity_of kind.Inflation t
+entry_of kind.XccyBasis t = sensitivity_of kind.XccyBasis t
+entry_of kind.IrVol t = sensitivity_of kind.IrVol t
+entry_of kind.InflationVol t = sensitivity_of kind.InflationVol t
+entry_of kind.CreditQ t = sensitivity_of kind.CreditQ t
+entry_of kind.CreditVol t = sensitivity_of kind.CreditVol t
+entry_of kind.CreditNonQ t = sensitivity_of kind.CreditNonQ t
+entry_of kind.CreditVolNonQ t = sensitivity_of kind.CreditVolNonQ t
+entry_of kind.BaseCorr t = sensitivity_of kind.BaseCorr t
+entry_of kind.Equity t = sensitivity_of kind.Equity t
+entry_of kind.EquityVol t = sensitivity_of kind.EquityVol t
+entry_of kind.Commodity t = sensitivity_of kind.Commodity t
+entry_of kind.CommodityVol t = sensitivity_of kind.CommodityVol t
+entry_of kind.Fx t = sensitivity_of kind.Fx t
+entry_of kind.FxVol t = sensitivity_of kind.FxVol t
+entry_of kind.Notional t = notional_of t
+entry_of kind.AddOnNotionalFactor t = notional_factor_of t
+entry_of kind.AddOnFixedAmount t = fixed_amount_of t
+entry_of kind.ProductClassMultiplier t = multiplier_of t
+entry_of kind.Pv t = Err fault.RiskType
+
+-- ---- the way of a record
+
+abbrev pub is_present_value : RiskType → Bool
+is_present_value kind.IrCurve = false
+is_present_value kind.Inflation = false
+is_present_value kind.XccyBasis = false
+is_present_value kind.IrVol = false
+is_present_value kind.InflationVol = false
+is_present_value kind.CreditQ = false
+is_present_value kind.CreditVol = false
+is_present_value kind.CreditNonQ = false
+is_present_value kind.CreditVolNonQ = false
+is_present_value kind.BaseCorr = false
+is_present_value kind.Equity = false
+is_present_value kind.EquityVol = false
+is_present_value kind.Commodity = false
+is_present_value kind.CommodityVol = false
+is_present_value kind.Fx = false
+is_present_value kind.FxVol = false
+is_present_value kind.Notional = false
+is_present_value kind.AddOnNotionalFactor = false
+is_present_value kind.AddOnFixedAmount = false
+is_present_value kind.ProductClassMultiplier = false
+is_present_value kind.Pv = true
+
+-- a present value is passed over, and a type that is not read is refused
+abbrev pub kept_as : RiskType → Texts → Result (Option Entry) RowFault
+kept_as kind t =
+    if is_present_value kind then Ok None
+    else if is_known kind then (entry_of kind t >>= λ entry. Ok (Some entry))
+    else Err fault.RiskType
+
+unfoldable pub typed_of : Texts → Result (Option Entry) RowFault
+typed_of t = do
+  kind ← ok_or (kind_named t.risk_type) fault.RiskType
+  kept_as kind t
+
+-- and so is a record of the schedule, in any case: it is no part of this model
+abbrev pub model_of : Texts → Result (Option Entry) RowFault
+model_of t = if is_word (codes "Schedule") t.im_model then Ok None else typed_of t
+
+abbrev pub text_row_of : Texts → Result (Option Entry) RowFault
+text_row_of t = if are_text t then model_of t else Err fault.NotUtf8
+
+-- a record has at most as many fields as the header
+abbrev pub row_of : Columns → List (List ℕ) → Result (Option Entry) RowFault
+row_of columns fields =
+    if nat_lt columns.count (length fields) then Err fault.FieldCount else text_row_of (texts_of columns fields)

@@ -1,5 +1,5 @@
+//! Rows gathered by trade.
 ghost use Rattle.std.specs.Prelude.{◌≡◌, ◌∷◌, [], IfOk, OnOk};
-ghost use Rattle.simm_kinds.specs.NameText.{IsName};
 ghost use Rattle.crif_reader.specs.Growth.{with_entry, IsIndex};
 
 use crate::row::Entry;
@@ -8,11 +8,9 @@ use std::alloc::{AllocError, Global};
 use std::collections::BTreeMap;
 
 /// A trade with one row.
-fn started_trade(alloc: Global, name: &[u8], row: CrifRow) -> Result<TradeRows, AllocError>
-    requires { IsName name.now }
-    ensures { IfOk result (λ t. t ≡ record { trade = name.now; rows = row ∷ [] }) }
+fn started_trade(alloc: Global, trade: Name, row: CrifRow) -> Result<TradeRows, AllocError>
+    ensures { IfOk result (λ t. t ≡ record { trade = trade; rows = row ∷ [] }) }
 {
-    let trade = Name::of_bytes(alloc, name)?;
     let mut rows = Listed::with_capacity(alloc, 1)?;
     rows.push(row)?;
     Ok(TradeRows { trade, rows })
@@ -20,23 +18,23 @@ fn started_trade(alloc: Global, name: &[u8], row: CrifRow) -> Result<TradeRows, 
 
 /// Adds a row at the end of its trade, or with a new trade behind the others. `places` has the place of each trade. The name is
 /// copied for a new trade alone.
-pub fn add_entry<'a>(
+pub fn add_entry(
     alloc: Global,
     trades: &mut Vec<TradeRows>,
-    places: &mut BTreeMap<&'a [u8], usize>,
-    added: Entry<'a>,
+    places: &mut BTreeMap<Name, usize>,
+    added: Entry,
 ) -> Result<(), AllocError>
-    requires index { IsIndex places.old trades.old.items }
-    requires name { IsName added.trade.now }
-    ensures trades { OnOk result (trades.new.items ≡ with_entry trades.old.items (record { trade = added.entry.trade.now; row = added.entry.row })) }
+    requires { IsIndex places.old trades.old.items }
+    ensures trades { OnOk result (trades.new.items ≡ with_entry trades.old.items (record { trade = added.trade; row = added.row })) }
     ensures index { OnOk result (IsIndex places.new trades.new.items) }
 {
     let Entry { trade, row } = added;
     match places.get(&trade).copied() {
         Some(place) => trades[place].rows.push(row)?,
         None => {
+            let name = trade.copy(alloc)?;
             let started = started_trade(alloc, trade, row)?;
-            places.insert(trade, trades.len())?;
+            places.insert(name, trades.len())?;
             trades.push(started)?;
         }
     }

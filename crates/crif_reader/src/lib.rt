@@ -1,11 +1,19 @@
-//! Reads CRIF files in their plain form: the header, and lines that are each one FX sensitivity of a trade.
+//! Reads CRIF files: tables of sensitivities, a record each, in comma- or tab-separated text with a header.
 #![tactic(auto)]
 
+mod column;
+mod columns;
+mod factor;
 mod fault;
+mod fields;
 mod gather;
+mod names;
+mod params;
 mod read;
+mod records;
 mod row;
-mod text;
+mod row_stop;
 
-pub use fault::CrifFault;
-pub use read::read_batch;
+pub use column::Column;
+pub use fault::{CrifFault, RowFault};
+pub use read::{ReadBatch, read_batch};

@@ -1,70 +1,114 @@
-ghost use Rattle.std.specs.Prelude.{◌≡◌};
-ghost use Rattle.crif_reader.specs.Lines.{lines_of};
+ghost use Rattle.std.specs.Prelude.{◌≡◌, option_map};
+ghost use Rattle.csv.specs.Records.{fields_of};
 ghost use Rattle.crif_reader.specs.Reads.{Gives};
-ghost use Rattle.std.specs.Str.{bytes_eq};
-ghost use Rattle.crif_reader.specs.Grammar.{crif_of, trades_of_lines, header};
+ghost use Rattle.crif_reader.specs.Records.{records_left, IsReading};
+ghost use Rattle.crif_reader.specs.Row.{row_of};
+ghost use Rattle.crif_reader.specs.Grammar.{at_record, crif_of, rows_of};
 
-use crate::CrifFault;
+use crate::columns::{Columns, columns_of};
 use crate::gather::add_entry;
-use crate::row::read_entry;
-use crate::text::cut_line;
+use crate::params::Params;
+use crate::records::{next_record, open};
+use crate::row::{Entry, row_of};
+use crate::row_stop::RowStop;
+use crate::{CrifFault, RowFault};
+use csv::{ByteRecord, Reader};
 use simm_kinds::{Batch, Listed, TradeRows};
 use std::alloc::Global;
 use std::collections::BTreeMap;
 
-/// The first line.
-const HEADER: &str =
-    "TradeID,ProductClass,RiskType,Qualifier,Bucket,Label1,Label2,Amount,AmountCurrency,AmountUSD";
+/// The number of the first record that is one too many: the header is the first, and 100,000 may follow it.
+const TOO_MANY: u32 = 100_002;
 
-/// How many lines may follow it.
-const MOST_LINES: usize = 100_000;
-
-fn is_header(line: &[u8]) -> bool
-    ensures { result ≡ bytes_eq line.now header }
-{
-    line == HEADER.as_bytes()
+/// What a CRIF file has: its rows, and how many records were passed over, being present values or of the schedule.
+#[derive(Debug, Drop)]
+pub struct ReadBatch {
+    pub batch: Batch,
+    pub passed_over: u32,
 }
 
-/// Reads the lines behind the header, and gathers their rows by trade.
-#[tactic(auto, unfolding(crate::specs::Grammar::trades_of_lines))]
-fn read_lines(alloc: Global, further: &[u8]) -> Result<Vec<TradeRows>, CrifFault>
-    ensures { Gives (λ trades. trades.items) result (trades_of_lines (lines_of further.now)) }
+/// The rows of a file by trade, before they are known to be a batch.
+#[derive(Drop)]
+struct Gathered {
+    trades: Vec<TradeRows>,
+    passed_over: u32,
+}
+
+/// The row of the record with this number, or `None` where it is passed over.
+fn read_row(
+    alloc: Global,
+    number: u32,
+    columns: &Columns,
+    fields: &ByteRecord,
+) -> Result<Option<Entry>, CrifFault>
+    ensures { Gives (λ o. option_map (λ e. record { trade = e.trade; row = e.row }) o) result (at_record number (row_of columns.now (fields_of fields.now))) }
+{
+    match row_of(alloc, columns, fields) {
+        Ok(row) => Ok(row),
+        Err(RowStop::Fault(fault)) => Err(CrifFault::Row { number, fault }),
+        Err(RowStop::Memory) => Err(CrifFault::Memory),
+    }
+}
+
+/// Reads the records behind the header, and gathers their rows by trade.
+fn read_rows(
+    alloc: Global,
+    reader: &mut Reader<&[u8]>,
+    columns: &Columns,
+) -> Result<Gathered, CrifFault>
+    requires { IsReading reader.old }
+    ensures { Gives (λ g. record { trades = g.trades.items; passed_over = g.passed_over }) result (rows_of columns.now (records_left reader.old)) }
 {
     let mut trades = Vec::new(alloc);
     let mut places = BTreeMap::new(alloc);
-    let mut count = 0usize;
-    let mut rest = further;
-    while !rest.is_empty() {
-        let (line, after) = cut_line(rest);
-        if count == MOST_LINES {
-            return Err(CrifFault::Refused);
+    let mut params = Params::new(alloc);
+    let mut fields = ByteRecord::new(alloc);
+    let mut number = 2u32;
+    let mut passed_over = 0u32;
+    while next_record(reader, &mut fields)? {
+        if number == TOO_MANY {
+            return Err(CrifFault::TooManyRows);
         }
-        let entry = read_entry(alloc, line)?;
-        add_entry(alloc, &mut trades, &mut places, entry)?;
-        rest = after;
-        count += 1;
+        match read_row(alloc, number, columns, &fields)? {
+            Some(entry) => {
+                if !params.note(alloc, &entry.row)? {
+                    let fault = RowFault::DuplicateParam;
+                    return Err(CrifFault::Row { number, fault });
+                }
+                add_entry(alloc, &mut trades, &mut places, entry)?;
+            }
+            None => passed_over += 1,
+        }
+        number += 1;
     }
-    if count == 0 {
-        return Err(CrifFault::Refused);
+    if trades.is_empty() {
+        return Err(CrifFault::EmptyBatch);
     }
-    Ok(trades)
+    Ok(Gathered {
+        trades,
+        passed_over,
+    })
 }
 
-/// Reads a CRIF file in the plain form: ASCII without quotes, tabs and CRs; the header line as the standard spells it; and 1 to
-/// 100,000 lines of ten columns, each a `Risk_FX` row of a trade. Spaces at the ends of a field are left off. Rows of one trade
-/// stand together, under the place of its first row. Amounts are in USD cents.
+/// Reads a CRIF file: a header and 1 to 100,000 records, in comma- or tab-separated text with or without quotes, as csv reads
+/// them. The first line decides which of the two parts the fields. Columns stand in any order and are named in any case; those
+/// that are not read are passed over, and so are present values and records of the schedule. Each other record is a row of the
+/// trade that it names, and rows of one trade stand together, under the place of its first row. Amounts are in USD cents.
 ///
-/// Every other text is `Refused`; `Memory` may come at any text.
-pub fn read_batch(alloc: Global, bytes: &[u8]) -> Result<Batch, CrifFault>
-    ensures { Gives (λ trades. trades) result (crif_of bytes.now) }
+/// The fault is the first in reading order; `Memory` may come at any text.
+pub fn read_batch(alloc: Global, bytes: &[u8]) -> Result<ReadBatch, CrifFault>
+    ensures { Gives (λ r. record { trades = r.batch; passed_over = r.passed_over }) result (crif_of bytes.now) }
 {
-    if bytes.is_empty() {
-        return Err(CrifFault::Refused);
+    let mut reader = open(alloc, bytes);
+    let mut header = ByteRecord::new(alloc);
+    if !next_record(&mut reader, &mut header)? {
+        return Err(CrifFault::NoHeader);
     }
-    let (first, further) = cut_line(bytes);
-    if !is_header(first) {
-        return Err(CrifFault::Refused);
-    }
-    let trades = read_lines(alloc, further)?;
-    Ok(Batch::from_trades(Listed::from_vec(trades)))
+    let columns = columns_of(&header)?;
+    let gathered = read_rows(alloc, &mut reader, &columns)?;
+    let batch = Batch::from_trades(Listed::from_vec(gathered.trades));
+    Ok(ReadBatch {
+        batch,
+        passed_over: gathered.passed_over,
+    })
 }

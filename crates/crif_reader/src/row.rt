@@ -1,185 +1,227 @@
-ghost use Rattle.std.specs.Prelude.{◌≡◌, ◌≢◌, length, map, MatchOption, IfOk, IsTrue};
-ghost use Rattle.mh_units.specs.Cut.{parts_at};
-ghost use Rattle.crif_reader.specs.Lines.{trimmed};
-ghost use Rattle.crif_reader.specs.Columns.{parts_of};
-ghost use Rattle.crif_reader.specs.Reads.{Gives};
-ghost use Rattle.crif_reader.specs.Row.{risk_type_of, trade_of, product_of, currency_of, amount_of, fx_key, entry_of, entry_of_fields};
-ghost use Rattle.simm_kinds.specs.NameText.{is_currency, IsName};
+//! The row of a record.
+ghost use Rattle.std.specs.Prelude.{◌≡◌, IfOk, option_map};
+ghost use Rattle.csv.specs.Records.{fields_of};
+ghost use Rattle.simm_kinds.specs.Words.{is_word};
+ghost use Rattle.crif_reader.specs.Reads.{GivesRow};
+ghost use Rattle.crif_reader.specs.Fields.{texts};
+ghost use Rattle.crif_reader.specs.Known.{is_known};
+ghost use Rattle.crif_reader.specs.Row.{trade_of, product_of, amount_text, amount_of, rate_of, sensitivity_of, notional_of, fixed_amount_of, notional_factor_of, multiplier_of, entry_of, is_present_value, typed_of, model_of, text_row_of, row_of};
 
-use crate::CrifFault;
-use crate::text::{are_plain, is_word, trim_spaces};
-use mh_units::{cut_at, read_cents};
-use simm_kinds::{BucketId, CrifRow, FactorKey, Name, ProductClass, RiskType};
-use std::alloc::{AllocError, Global};
+use crate::RowFault;
+use crate::columns::Columns;
+use crate::factor::factor_of;
+use crate::fields::Fields;
+use crate::names::{read_full_name, read_name};
+use crate::row_stop::RowStop;
+use csv::ByteRecord;
+use mh_units::{Cents, Rate4, read_cents, read_rate4};
+use simm_kinds::{CrifRow, FactorKey, Name, ProductClass, RiskType};
+use std::alloc::Global;
 
-/// A row, and the name of the trade that it belongs to, as the file has it.
+/// A row, and the name of the trade that it belongs to; it is empty for a parameter of an add-on.
 #[derive(Drop)]
-pub struct Entry<'a> {
-    pub trade: &'a [u8],
+pub struct Entry {
+    pub trade: Name,
     pub row: CrifRow,
 }
 
-/// The parts of a line that its commas cut, in the order of the columns.
-#[derive(Clone, Copy)]
-struct Columns<'a> {
-    trade_id: &'a [u8],
-    product_class: &'a [u8],
-    risk_type: &'a [u8],
-    qualifier: &'a [u8],
-    bucket: &'a [u8],
-    label1: &'a [u8],
-    label2: &'a [u8],
-    amount: &'a [u8],
-    amount_currency: &'a [u8],
-    amount_usd: &'a [u8],
-}
-
-/// The columns of a line that has nine commas.
-fn cut_columns(line: &[u8]) -> Option<Columns<'_>>
-    ensures { MatchOption result (length (parts_at 44 line.now) ≢ 10) (λ columns. parts_at 44 line.now ≡ parts_of columns) }
+/// The name of the row's trade: it isn't empty.
+fn trade_of(alloc: Global, fields: &Fields) -> Result<Name, RowStop>
+    ensures { GivesRow (λ n. n) result (trade_of (texts fields.now)) }
 {
-    let (trade_id, rest) = cut_at(line, b',')?;
-    let (product_class, rest) = cut_at(rest, b',')?;
-    let (risk_type, rest) = cut_at(rest, b',')?;
-    let (qualifier, rest) = cut_at(rest, b',')?;
-    let (bucket, rest) = cut_at(rest, b',')?;
-    let (label1, rest) = cut_at(rest, b',')?;
-    let (label2, rest) = cut_at(rest, b',')?;
-    let (amount, rest) = cut_at(rest, b',')?;
-    let (amount_currency, amount_usd) = cut_at(rest, b',')?;
-    match cut_at(amount_usd, b',') {
-        Some(_) => None,
-        None => Some(Columns {
-            trade_id,
-            product_class,
-            risk_type,
-            qualifier,
-            bucket,
-            label1,
-            label2,
-            amount,
-            amount_currency,
-            amount_usd,
-        }),
-    }
-}
-
-fn read_risk_type(field: &[u8]) -> Result<RiskType, CrifFault>
-    ensures value { Gives (λ k. k) result (risk_type_of field.now) }
-    ensures fx { IfOk result (λ k. k ≡ RiskType.Fx) }
-{
-    if is_word("Risk_FX", field) {
-        Ok(RiskType::Fx)
+    if Name::is_full_name(fields.trade_id) {
+        Ok(Name::of_bytes(alloc, fields.trade_id)?)
     } else {
-        Err(CrifFault::Refused)
+        Err(RowStop::Fault(RowFault::Trade))
     }
 }
 
-/// Tests a name that isn't empty.
-fn read_trade(field: &[u8]) -> Result<&[u8], CrifFault>
-    ensures value { Gives (λ n. n.now) result (trade_of field.now) }
-    ensures name { IfOk result (λ n. IsName n.now) }
+fn product_of(fields: &Fields) -> Result<ProductClass, RowFault>
+    ensures { result ≡ product_of (texts fields.now) }
 {
-    if Name::is_full_name(field) {
-        Ok(field)
+    ProductClass::read(fields.product_class).ok_or(RowFault::ProductClass)
+}
+
+fn is_word(word: &str, field: &[u8]) -> bool
+    ensures { result ≡ is_word word.now field.now }
+{
+    field.eq_ignore_ascii_case(word.as_bytes())
+}
+
+/// The amount in USD, as the file has it.
+fn amount_text<'a>(fields: &Fields<'a>) -> &'a [u8]
+    ensures { result.now ≡ amount_text (texts fields.now) }
+{
+    if fields.amount_usd.is_empty() && is_word("USD", fields.amount_currency) {
+        fields.amount
     } else {
-        Err(CrifFault::Refused)
+        fields.amount_usd
     }
 }
 
-/// Reads a product class: its word, or `Rates` or `FX`, which name one class together.
-fn read_product(field: &[u8]) -> Result<ProductClass, CrifFault>
-    ensures { Gives (λ p. p) result (product_of field.now) }
+fn amount_of(fields: &Fields) -> Result<Cents, RowFault>
+    ensures { result ≡ amount_of (texts fields.now) }
 {
-    if is_word("Rates", field) || is_word("FX", field) {
-        return Ok(ProductClass::RatesFX);
+    read_cents(amount_text(fields)).map_err(RowFault::Amount)
+}
+
+fn rate_of(fields: &Fields) -> Result<Rate4, RowFault>
+    ensures { result ≡ rate_of (texts fields.now) }
+{
+    read_rate4(fields.amount).map_err(RowFault::Amount)
+}
+
+#[tactic(auto, unfolding(crate::specs::Row::sensitivity_of))]
+fn sensitivity_of(alloc: Global, kind: RiskType, fields: &Fields) -> Result<Entry, RowStop>
+    ensures { GivesRow (λ e. record { trade = e.trade; row = e.row }) result (sensitivity_of kind (texts fields.now)) }
+{
+    let trade = trade_of(alloc, fields)?;
+    let product = product_of(fields)?;
+    let factor = factor_of(alloc, kind, fields)?;
+    let amount = amount_of(fields)?;
+    let key = FactorKey { product, factor };
+    Ok(Entry {
+        trade,
+        row: CrifRow::Sensitivity { key, amount },
+    })
+}
+
+#[tactic(auto, unfolding(crate::specs::Row::notional_of))]
+fn notional_of(alloc: Global, fields: &Fields) -> Result<Entry, RowStop>
+    ensures { GivesRow (λ e. record { trade = e.trade; row = e.row }) result (notional_of (texts fields.now)) }
+{
+    let trade = trade_of(alloc, fields)?;
+    let qualifier = read_name(alloc, RowFault::Qualifier, fields.qualifier)?;
+    let amount = amount_of(fields)?;
+    Ok(Entry {
+        trade,
+        row: CrifRow::Notional { qualifier, amount },
+    })
+}
+
+#[tactic(auto, unfolding(crate::specs::Row::fixed_amount_of))]
+fn fixed_amount_of(alloc: Global, fields: &Fields) -> Result<Entry, RowStop>
+    ensures { GivesRow (λ e. record { trade = e.trade; row = e.row }) result (fixed_amount_of (texts fields.now)) }
+{
+    let amount = amount_of(fields)?;
+    if amount.0 < 0 {
+        return Err(RowStop::Fault(RowFault::ParamRange(amount.0)));
     }
-    ProductClass::ALL
-        .into_iter()
-        .find(|class| is_word(class.word(), field))
-        .ok_or(CrifFault::Refused)
+    Ok(Entry {
+        trade: Name::empty(alloc),
+        row: CrifRow::FixedAmount(amount),
+    })
 }
 
-/// The name of a currency, by its letters.
-#[tactic(auto, using(crate::proofs::Currencies::currency_is_name))]
-fn currency_name(alloc: Global, letters: &[u8]) -> Result<Name, AllocError>
-    requires { IsTrue (is_currency letters.now) }
-    ensures { IfOk result (λ q. q ≡ letters.now) }
+#[tactic(auto, unfolding(crate::specs::Row::notional_factor_of))]
+fn notional_factor_of(alloc: Global, fields: &Fields) -> Result<Entry, RowStop>
+    ensures { GivesRow (λ e. record { trade = e.trade; row = e.row }) result (notional_factor_of (texts fields.now)) }
 {
-    Name::of_bytes(alloc, letters)
-}
-
-/// Reads a currency, in upper case.
-fn read_currency(alloc: Global, field: &[u8]) -> Result<Name, CrifFault>
-    ensures value { Gives (λ q. q) result (currency_of field.now) }
-    ensures currency { IfOk result (λ q. IsTrue (is_currency q)) }
-{
-    let [a, b, c] = field else {
-        return Err(CrifFault::Refused);
-    };
-    if !(a.is_ascii_alphabetic() && b.is_ascii_alphabetic() && c.is_ascii_alphabetic()) {
-        return Err(CrifFault::Refused);
+    let qualifier = read_full_name(alloc, RowFault::Qualifier, fields.qualifier)?;
+    let factor = rate_of(fields)?;
+    if !(0..=1_000_000).contains(&factor.0) {
+        return Err(RowStop::Fault(RowFault::ParamRange(i128::from(factor.0))));
     }
-    let upper = [
-        a.to_ascii_uppercase(),
-        b.to_ascii_uppercase(),
-        c.to_ascii_uppercase(),
-    ];
-    let currency = currency_name(alloc, &upper)?;
-    Ok(currency)
+    Ok(Entry {
+        trade: Name::empty(alloc),
+        row: CrifRow::NotionalFactor { qualifier, factor },
+    })
 }
 
-/// Reads USD cents.
-fn read_amount(field: &[u8]) -> Result<i64, CrifFault>
-    ensures { Gives (λ a. a) result (amount_of field.now) }
+#[tactic(auto, unfolding(crate::specs::Row::multiplier_of))]
+fn multiplier_of(alloc: Global, fields: &Fields) -> Result<Entry, RowStop>
+    ensures { GivesRow (λ e. record { trade = e.trade; row = e.row }) result (multiplier_of (texts fields.now)) }
 {
-    let cents = read_cents(field).map_err(|_| CrifFault::Refused)?;
-    Ok(cents.0 as i64)
-}
-
-/// The key of an exchange rate.
-fn make_fx_key(alloc: Global, kind: RiskType, class: ProductClass, currency: Name) -> FactorKey
-    requires kind { kind ≡ RiskType.Fx }
-    requires currency { IsTrue (is_currency currency) }
-    ensures { result ≡ fx_key kind class currency }
-{
-    let single = BucketId::Single;
-    FactorKey::make(
-        class,
-        kind,
-        currency,
-        single,
-        None,
-        None,
-        Name::empty(alloc),
-    )
-    .unwrap()
-}
-
-#[tactic(auto, unfolding(crate::specs::Row::entry_of_fields))]
-fn read_columns<'a>(alloc: Global, columns: &Columns<'a>) -> Result<Entry<'a>, CrifFault>
-    ensures value { Gives (λ e. record { trade = e.trade.now; row = e.row }) result (entry_of_fields (map trimmed (parts_of columns.now))) }
-    ensures name { IfOk result (λ e. IsName e.trade.now) }
-{
-    let kind = read_risk_type(trim_spaces(columns.risk_type))?;
-    let trade = read_trade(trim_spaces(columns.trade_id))?;
-    let class = read_product(trim_spaces(columns.product_class))?;
-    let currency = read_currency(alloc, trim_spaces(columns.qualifier))?;
-    let amount = read_amount(trim_spaces(columns.amount_usd))?;
-    let key = make_fx_key(alloc, kind, class, currency);
-    let row = CrifRow { key, amount };
-    Ok(Entry { trade, row })
-}
-
-/// Reads a line that is one row.
-#[tactic(auto, unfolding(crate::specs::Row::entry_of))]
-pub fn read_entry(alloc: Global, line: &[u8]) -> Result<Entry<'_>, CrifFault>
-    ensures value { Gives (λ e. record { trade = e.trade.now; row = e.row }) result (entry_of line.now) }
-    ensures name { IfOk result (λ e. IsName e.trade.now) }
-{
-    if !are_plain(line) {
-        return Err(CrifFault::Refused);
+    let product = ProductClass::read(fields.qualifier).ok_or(RowFault::Qualifier)?;
+    let factor = rate_of(fields)?;
+    if !(10_000..=100_000).contains(&factor.0) {
+        return Err(RowStop::Fault(RowFault::ParamRange(i128::from(factor.0))));
     }
-    let columns = cut_columns(line).ok_or(CrifFault::Refused)?;
-    read_columns(alloc, &columns)
+    Ok(Entry {
+        trade: Name::empty(alloc),
+        row: CrifRow::Multiplier { product, factor },
+    })
+}
+
+/// The row of a record of this risk type.
+fn entry_of(alloc: Global, kind: RiskType, fields: &Fields) -> Result<Entry, RowStop>
+    ensures { GivesRow (λ e. record { trade = e.trade; row = e.row }) result (entry_of kind (texts fields.now)) }
+{
+    match kind {
+        RiskType::IrCurve
+        | RiskType::Inflation
+        | RiskType::XccyBasis
+        | RiskType::IrVol
+        | RiskType::InflationVol
+        | RiskType::CreditQ
+        | RiskType::CreditVol
+        | RiskType::CreditNonQ
+        | RiskType::CreditVolNonQ
+        | RiskType::BaseCorr
+        | RiskType::Equity
+        | RiskType::EquityVol
+        | RiskType::Commodity
+        | RiskType::CommodityVol
+        | RiskType::Fx
+        | RiskType::FxVol => sensitivity_of(alloc, kind, fields),
+        RiskType::Notional => notional_of(alloc, fields),
+        RiskType::AddOnNotionalFactor => notional_factor_of(alloc, fields),
+        RiskType::AddOnFixedAmount => fixed_amount_of(alloc, fields),
+        RiskType::ProductClassMultiplier => multiplier_of(alloc, fields),
+        RiskType::Pv => Err(RowStop::Fault(RowFault::RiskType)),
+    }
+}
+
+fn is_known(kind: RiskType) -> bool
+    ensures { result ≡ is_known kind }
+{
+    matches!(kind, RiskType::Fx)
+}
+
+fn is_present_value(kind: RiskType) -> bool
+    ensures { result ≡ is_present_value kind }
+{
+    matches!(kind, RiskType::Pv)
+}
+
+/// The row of a record of the model, or `None` where it is passed over.
+#[tactic(auto, unfolding(crate::specs::Row::typed_of))]
+fn typed_of(alloc: Global, fields: &Fields) -> Result<Option<Entry>, RowStop>
+    ensures { GivesRow (λ o. option_map (λ e. record { trade = e.trade; row = e.row }) o) result (typed_of (texts fields.now)) }
+{
+    let kind = RiskType::read(fields.risk_type).ok_or(RowFault::RiskType)?;
+    if is_present_value(kind) {
+        return Ok(None);
+    }
+    if !is_known(kind) {
+        return Err(RowStop::Fault(RowFault::RiskType));
+    }
+    let entry = entry_of(alloc, kind, fields)?;
+    Ok(Some(entry))
+}
+
+fn text_row_of(alloc: Global, fields: &Fields) -> Result<Option<Entry>, RowStop>
+    ensures { GivesRow (λ o. option_map (λ e. record { trade = e.trade; row = e.row }) o) result (text_row_of (texts fields.now)) }
+{
+    if !fields.are_text() {
+        return Err(RowStop::Fault(RowFault::NotUtf8));
+    }
+    if is_word("Schedule", fields.im_model) {
+        return Ok(None);
+    }
+    typed_of(alloc, fields)
+}
+
+/// The row of a record, or `None` where the record is passed over: a present value, or a record of the schedule.
+pub fn row_of(
+    alloc: Global,
+    columns: &Columns,
+    fields: &ByteRecord,
+) -> Result<Option<Entry>, RowStop>
+    ensures { GivesRow (λ o. option_map (λ e. record { trade = e.trade; row = e.row }) o) result (row_of columns.now (fields_of fields.now)) }
+{
+    if fields.len() > columns.count {
+        return Err(RowStop::Fault(RowFault::FieldCount));
+    }
+    text_row_of(alloc, &Fields::of(columns, fields))
 }

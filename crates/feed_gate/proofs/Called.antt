@@ -1,7 +1,8 @@
 -- One message as a call on the one set of its name.
-use Rattle.std.proofs.Common.{◌≡◌, ℕ, zero, suc, ◌<◌, ◌≤◌, arith, List, [], ◌∷◌, Bool, true, false, cond, map, length, get_or, set, Some, None, position, refl, sym, ap, ◌∙◌, nat_lt}
+use Rattle.std.proofs.Common.{◌≡◌, ◌≢◌, ℕ, zero, suc, ◌<◌, ◌≤◌, arith, List, [], ◌∷◌, Bool, true, false, cond, map, length, get_or, set, Some, None, Result, Ok, Err, position, refl, sym, ap, ◌∙◌, nat_lt}
 use Rattle.std.specs.List.{AllByRecursion, IsDistinct, position_or_len, filter_map}
 use Rattle.std.specs.Option.{is_some}
+use Rattle.std.specs.Result.{result_ok}
 use Rattle.std.proofs.lemmas.Bool.{true≢false, false≢true, ltb-false}
 use Rattle.std.proofs.lemmas.Option.{slice_get-get_or}
 use Rattle.std.proofs.lemmas.List.Quantifiers.{position-Some}
@@ -10,6 +11,9 @@ use Rattle.std.proofs.lemmas.Slice.Eq.{bytes_eq-Decides}
 use Rattle.std.proofs.lemmas.Map.Text.{is_eq-slice_cmp}
 use Rattle.std.proofs.lemmas.Cmp.{eq_by_cmp_equiv, nat_list_cmp_total}
 use Rattle.simm_kinds.specs.Order.{same_name}
+use Rattle.crif_reader.specs.declared.fault.CrifFault.{CrifFault}
+use Rattle.crif_reader.specs.declared.fault.CrifFault.TheVariants as crif
+use Rattle.crif_reader.specs.Reads.{Fails}
 use Rattle.feed_reader.specs.declared.message.Fed.{Fed}
 use Rattle.feed_reader.specs.Feed.{Sent}
 use Rattle.set_core.specs.declared.event.Event.{Event}
@@ -74,28 +78,28 @@ put_at g name (s ∷ sets) (suc i) d lt h apart other =
 -- ---- a set after one message
 
 not_named : (fed : Fed) (s : Set) → has_name (set_of fed.message) s ≡ false → after_feed (Sent fed ∷ []) s ≡ s
-not_named fed s h = ap (λ b. after_calls s (filter_map (λ x. x) (cond b (event_of fed.message) None ∷ []))) h
+not_named fed s h = ap (λ b. after_calls s (filter_map (λ x. x) (cond b (result_ok (event_of fed.message)) None ∷ []))) h
 
-no_event : (fed : Fed) (s : Set) → event_of fed.message ≡ None → after_feed (Sent fed ∷ []) s ≡ s
-no_event fed s h = at (has_name (set_of fed.message) s)
+no_event : (fed : Fed) (fault : CrifFault) (s : Set) → event_of fed.message ≡ Err fault → after_feed (Sent fed ∷ []) s ≡ s
+no_event fed fault s h = at (has_name (set_of fed.message) s)
   where
-    at : (b : Bool) → after_calls s (filter_map (λ x. x) (cond b (event_of fed.message) None ∷ [])) ≡ s
-    at true = ap (λ e. after_calls s (filter_map (λ x. x) (e ∷ []))) h
+    at : (b : Bool) → after_calls s (filter_map (λ x. x) (cond b (result_ok (event_of fed.message)) None ∷ [])) ≡ s
+    at true = ap (λ e. after_calls s (filter_map (λ x. x) (result_ok e ∷ []))) h
     at false = refl
 
-named : (fed : Fed) (e : Event) (s : Set) → has_name (set_of fed.message) s ≡ true → event_of fed.message ≡ Some e → after_feed (Sent fed ∷ []) s ≡ called s e
-named fed e s h is = ap (λ b. after_calls s (filter_map (λ x. x) (cond b (event_of fed.message) None ∷ []))) h ∙ ap (λ o. after_calls s (filter_map (λ x. x) (o ∷ []))) is
+named : (fed : Fed) (e : Event) (s : Set) → has_name (set_of fed.message) s ≡ true → event_of fed.message ≡ Ok e → after_feed (Sent fed ∷ []) s ≡ called s e
+named fed e s h is = ap (λ b. after_calls s (filter_map (λ x. x) (cond b (result_ok (event_of fed.message)) None ∷ []))) h ∙ ap (λ o. after_calls s (filter_map (λ x. x) (result_ok o ∷ []))) is
 
 -- ---- all sets after one message
 
 pub unknown_stays : (fed : Fed) (sets : List Set) → place_of (set_of fed.message) sets ≡ None → map (after_feed (Sent fed ∷ [])) sets ≡ sets
 unknown_stays fed sets h = map_stays (after_feed (Sent fed ∷ [])) (set_of fed.message) sets (not_named fed) (none_named (set_of fed.message) sets h)
 
-pub no_batch_stays : (fed : Fed) (sets : List Set) → event_of fed.message ≡ None → map (after_feed (Sent fed ∷ [])) sets ≡ sets
-no_batch_stays fed [] h = refl
-no_batch_stays fed (s ∷ sets) h = ap (λ t. t ∷ map (after_feed (Sent fed ∷ [])) sets) (no_event fed s h) ∙ ap (λ ts. s ∷ ts) (no_batch_stays fed sets h)
+pub no_batch_stays : (fed : Fed) (fault : CrifFault) (sets : List Set) → event_of fed.message ≡ Err fault → map (after_feed (Sent fed ∷ [])) sets ≡ sets
+no_batch_stays fed fault [] h = refl
+no_batch_stays fed fault (s ∷ sets) h = ap (λ t. t ∷ map (after_feed (Sent fed ∷ [])) sets) (no_event fed fault s h) ∙ ap (λ ts. s ∷ ts) (no_batch_stays fed fault sets h)
 
-pub call_changes : (fed : Fed) (e : Event) (sets : List Set) (i : ℕ) (d : Set) → IsDistinct same_name (map (λ t. t.terms.name) sets) → place_of (set_of fed.message) sets ≡ Some i → event_of fed.message ≡ Some e → set sets i (called (get_or sets i d) e) ≡ map (after_feed (Sent fed ∷ [])) sets
+pub call_changes : (fed : Fed) (e : Event) (sets : List Set) (i : ℕ) (d : Set) → IsDistinct same_name (map (λ t. t.terms.name) sets) → place_of (set_of fed.message) sets ≡ Some i → event_of fed.message ≡ Ok e → set sets i (called (get_or sets i d) e) ≡ map (after_feed (Sent fed ∷ [])) sets
 call_changes fed e sets i d apart place is =
     let found = position-Some (has_name (set_of fed.message)) sets i d place in
     ap (set sets i) (sym (named fed e (get_or sets i d) found.1 is))
@@ -106,6 +110,15 @@ refusal_at fed sets i d place =
     let found = position-Some (has_name (set_of fed.message)) sets i d place in
     ap (λ o. unless_unknown fed o (set_at sets o)) place ∙ ap (unless_unknown fed (Some i)) (slice_get-get_or sets i d found.0)
 
-pub refusal_none : (fed : Fed) (sets : List Set) (i : ℕ) → place_of (set_of fed.message) sets ≡ Some i → event_of fed.message ≡ None → refusal sets (Sent fed) ≡ Some (refused.BadBatch fed.line)
-refusal_none fed [] i place none = absurd (false≢true (ap is_some place))
-refusal_none fed (s ∷ sets) i place none = refusal_at fed (s ∷ sets) i s place ∙ ap (unless_no_batch fed.line i (get_or (s ∷ sets) i s)) none
+pub refusal_bad : (fed : Fed) (fault : CrifFault) (sets : List Set) (i : ℕ) → place_of (set_of fed.message) sets ≡ Some i → event_of fed.message ≡ Err fault → refusal sets (Sent fed) ≡ Some (refused.BadBatch fed.line fault)
+refusal_bad fed fault [] i place bad = absurd (false≢true (ap is_some place))
+refusal_bad fed fault (s ∷ sets) i place bad = refusal_at fed (s ∷ sets) i s place ∙ ap (unless_no_batch fed.line i (get_or (s ∷ sets) i s)) bad
+
+-- a fault that is told is the grammar's
+pub fault_read : {A : Type 0} (fault : CrifFault) (read : Result A CrifFault) → Fails fault read → fault ≢ crif.Memory → read ≡ Err fault
+fault_read crif.NoHeader read h told = h
+fault_read (crif.MissingColumn column) read h told = h
+fault_read (crif.Row number why) read h told = h
+fault_read crif.TooManyRows read h told = h
+fault_read crif.EmptyBatch read h told = h
+fault_read crif.Memory read h told = absurd (told refl)

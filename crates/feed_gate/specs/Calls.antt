@@ -1,7 +1,9 @@
 -- The calls of a feed on a set, and the journal that they make.
-use Rattle.std.specs.Prelude.{ℕ, List, [], ◌∷◌, Option, Some, None, option_map, if◌then◌else◌}
+use Rattle.std.specs.Prelude.{ℕ, List, [], ◌∷◌, Option, None, Result, Ok, if◌then◌else◌}
 use Rattle.std.specs.List.{filter_map}
+use Rattle.std.specs.Result.{result_map_both, result_ok}
 use Rattle.simm_kinds.specs.Order.{same_name}
+use Rattle.crif_reader.specs.declared.fault.CrifFault.{CrifFault}
 use Rattle.crif_reader.specs.Grammar.{crif_of}
 use Rattle.feed_reader.specs.declared.message.Message.{Message}
 use Rattle.feed_reader.specs.declared.message.Message.TheVariants as message
@@ -23,20 +25,24 @@ set_of (message.Close set number) = set
 set_of (message.Ask set) = set
 set_of (message.Call set moment) = set
 
+-- the submit of a block of records, as a CRIF file of its own, or the first fault of its grammar
+abbrev pub submit_of : List ℕ → Result Event CrifFault
+submit_of block = result_map_both (λ crif. event.Submit crif.trades) (λ fault. fault) (crif_of block)
+
 -- the event of a message; a block of records that is no batch has none
-abbrev pub event_of : Message → Option Event
-event_of (message.Crif set block) = option_map event.Submit (crif_of block)
-event_of (message.Withdraw set names) = Some (event.Withdraw names)
-event_of (message.Put set lot class value currency) = Some (event.PutLot lot class value currency)
-event_of (message.Take set lot) = Some (event.TakeLot lot)
-event_of (message.Mark set lot value) = Some (event.MarkLot lot value)
-event_of (message.Close set number) = Some (event.CloseCall number)
-event_of (message.Ask set) = Some event.AskMargin
-event_of (message.Call set moment) = Some (event.AskCall moment)
+abbrev pub event_of : Message → Result Event CrifFault
+event_of (message.Crif set block) = submit_of block
+event_of (message.Withdraw set names) = Ok (event.Withdraw names)
+event_of (message.Put set lot class value currency) = Ok (event.PutLot lot class value currency)
+event_of (message.Take set lot) = Ok (event.TakeLot lot)
+event_of (message.Mark set lot value) = Ok (event.MarkLot lot value)
+event_of (message.Close set number) = Ok (event.CloseCall number)
+event_of (message.Ask set) = Ok event.AskMargin
+event_of (message.Call set moment) = Ok (event.AskCall moment)
 
 -- the call of an item on the set of this name, if it makes one
 abbrev pub call_on : List ℕ → Item → Option Event
-call_on name (Sent fed) = if same_name (set_of fed.message) name then event_of fed.message else None
+call_on name (Sent fed) = if same_name (set_of fed.message) name then result_ok (event_of fed.message) else None
 call_on name (BadAt line) = None
 
 -- the calls on a set: each message that names it makes its one call, in the feed's order

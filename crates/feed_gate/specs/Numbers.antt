@@ -6,5 +6,5 @@ use Rattle.feed_gate.specs.declared.report.RefusedMessage.TheVariants as refused
 abbrev pub refused_number : RefusedMessage → ℕ
 refused_number (refused.BadLine line) = 1
 refused_number (refused.UnknownSet line) = 2
-refused_number (refused.BadBatch line) = 3
+refused_number (refused.BadBatch line fault) = 3
 refused_number (refused.Full line set entries rows) = 4

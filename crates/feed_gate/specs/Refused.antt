@@ -1,7 +1,8 @@
 -- The messages of a feed that make no call, each with its cause.
-use Rattle.std.specs.Prelude.{ℕ, List, [], ◌∷◌, ◌++◌, length, Option, Some, None, is_none, position, map, slice_get, if◌then◌else◌}
+use Rattle.std.specs.Prelude.{ℕ, List, [], ◌∷◌, ◌++◌, length, Option, Some, None, is_none, Result, Ok, Err, position, map, slice_get, if◌then◌else◌}
 use Rattle.std.specs.List.{filter_map, count_by}
 use Rattle.simm_kinds.specs.Order.{same_name}
+use Rattle.crif_reader.specs.declared.fault.CrifFault.{CrifFault}
 use Rattle.feed_reader.specs.declared.message.Fed.{Fed}
 use Rattle.feed_reader.specs.Feed.{Item, Sent, BadAt}
 use Rattle.set_core.specs.declared.event.Event.{Event}
@@ -19,10 +20,10 @@ place_of name sets = position (λ s. same_name name s.terms.name) sets
 abbrev pub unless_full : ℕ → ℕ → Set → Event → Option RefusedMessage
 unless_full line place s e = if is_full s.journal e then Some (refused.Full line place (length s.journal) (journal_rows s.journal)) else None
 
--- a block of records that is no batch
-abbrev pub unless_no_batch : ℕ → ℕ → Set → Option Event → Option RefusedMessage
-unless_no_batch line place s None = Some (refused.BadBatch line)
-unless_no_batch line place s (Some e) = unless_full line place s e
+-- a block of records that is no batch, with the first fault of its grammar
+abbrev pub unless_no_batch : ℕ → ℕ → Set → Result Event CrifFault → Option RefusedMessage
+unless_no_batch line place s (Err fault) = Some (refused.BadBatch line fault)
+unless_no_batch line place s (Ok e) = unless_full line place s e
 
 -- a set that isn't there
 abbrev pub unless_unknown : Fed → Option ℕ → Option Set → Option RefusedMessage

@@ -1,9 +1,10 @@
 //! One message as a call on the set that it names.
-ghost use Rattle.std.specs.Prelude.{◌≡◌, ◌∷◌, [], map, option_map, IfOk, IfSome, OnOk, OnErr};
+ghost use Rattle.std.specs.Prelude.{◌≡◌, ◌≢◌, ◌∷◌, [], Some, map, IfOk, IfSome, OnOk, OnErr};
+ghost use Rattle.crif_reader.specs.declared.fault.CrifFault.TheVariants as crif;
+ghost use Rattle.crif_reader.specs.Reads.{Gives};
 ghost use Rattle.feed_reader.specs.Feed.{Sent};
-ghost use Rattle.crif_reader.specs.Grammar.{crif_of};
-ghost use Rattle.set_core.specs.declared.event.Event.TheVariants as events;
-ghost use Rattle.feed_gate.specs.Calls.{set_of, event_of, called, after_feed};
+ghost use Rattle.feed_gate.specs.declared.report.RefusedMessage.TheVariants as refused;
+ghost use Rattle.feed_gate.specs.Calls.{set_of, submit_of, event_of, called, after_feed};
 ghost use Rattle.feed_gate.specs.Refused.{place_of, unless_full, refusal};
 ghost use Rattle.feed_gate.specs.Sets.{AreApart};
 
@@ -31,10 +32,10 @@ pub(crate) fn make_call(
     let Some(place) = find_set(sets, set_of(&fed.message)) else {
         return Ok(Some(RefusedMessage::UnknownSet { line }));
     };
-    let Some(event) = event_of(alloc, fed.message)? else {
-        return Ok(Some(RefusedMessage::BadBatch { line }));
-    };
-    call(alloc, &mut sets[place], line, place as u32, event)
+    match event_of(alloc, fed.message) {
+        Ok(event) => call(alloc, &mut sets[place], line, place as u32, event),
+        Err(fault) => refuse_block(line, fault),
+    }
 }
 
 /// The set that a message names.
@@ -60,40 +61,49 @@ fn find_set(sets: &[SetState], name: &Name) -> Option<usize>
         .position(|set| name.cmp(set.terms().name()).is_eq())
 }
 
-/// The event of a message; `None` where its block is no batch.
-fn event_of(alloc: Global, message: Message) -> Result<Option<Event>, AllocError>
-    ensures { IfOk result (λ event. event ≡ event_of message) }
+/// The event of a message; the fault is that of its block, which is no batch.
+fn event_of(alloc: Global, message: Message) -> Result<Event, CrifFault>
+    ensures { Gives (λ e. e) result (event_of message) }
 {
     match message {
         Message::Crif { block, .. } => submit_of(alloc, &block),
-        Message::Withdraw { names, .. } => Ok(Some(Event::Withdraw(names))),
+        Message::Withdraw { names, .. } => Ok(Event::Withdraw(names)),
         Message::Put {
             lot,
             class,
             value,
             currency,
             ..
-        } => Ok(Some(Event::PutLot {
+        } => Ok(Event::PutLot {
             lot,
             class,
             value,
             currency,
-        })),
-        Message::Take { lot, .. } => Ok(Some(Event::TakeLot { lot })),
-        Message::Mark { lot, value, .. } => Ok(Some(Event::MarkLot { lot, value })),
-        Message::Close { number, .. } => Ok(Some(Event::CloseCall { number })),
-        Message::Ask { .. } => Ok(Some(Event::AskMargin)),
-        Message::Call { moment, .. } => Ok(Some(Event::AskCall { moment })),
+        }),
+        Message::Take { lot, .. } => Ok(Event::TakeLot { lot }),
+        Message::Mark { lot, value, .. } => Ok(Event::MarkLot { lot, value }),
+        Message::Close { number, .. } => Ok(Event::CloseCall { number }),
+        Message::Ask { .. } => Ok(Event::AskMargin),
+        Message::Call { moment, .. } => Ok(Event::AskCall { moment }),
     }
 }
 
-fn submit_of(alloc: Global, block: &Bytes) -> Result<Option<Event>, AllocError>
-    ensures { IfOk result (λ event. event ≡ option_map events.Submit (crif_of block.now)) }
+/// The submit of a block of CRIF records.
+fn submit_of(alloc: Global, block: &Bytes) -> Result<Event, CrifFault>
+    ensures { Gives (λ e. e) result (submit_of block.now) }
 {
-    match read_batch(alloc, block.as_slice()) {
-        Ok(batch) => Ok(Some(Event::Submit(batch))),
-        Err(CrifFault::Refused) => Ok(None),
-        Err(CrifFault::Memory) => Err(AllocError),
+    let read = read_batch(alloc, block.as_slice())?;
+    Ok(Event::Submit(read.batch))
+}
+
+/// Refuses a block for the first fault of its records. Want of memory is none of theirs.
+fn refuse_block(line: u32, fault: CrifFault) -> Result<Option<RefusedMessage>, AllocError>
+    ensures refused { IfOk result (λ answer. answer ≡ Some (refused.BadBatch line fault)) }
+    ensures read { OnOk result (fault ≢ crif.Memory) }
+{
+    match fault {
+        CrifFault::Memory => Err(AllocError),
+        _ => Ok(Some(RefusedMessage::BadBatch { line, fault })),
     }
 }
 

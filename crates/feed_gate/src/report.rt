@@ -2,6 +2,7 @@ ghost use Rattle.std.specs.Prelude.{◌≡◌};
 ghost use Rattle.feed_gate.specs.Numbers.{refused_number};
 ghost use Rattle.feed_gate.specs.Run.{no_report};
 
+use crif_reader::CrifFault;
 use simm_kinds::Listed;
 use std::alloc::Global;
 
@@ -16,9 +17,11 @@ pub enum RefusedMessage {
     UnknownSet {
         line: u32,
     },
-    /// Its block of CRIF records is no batch.
+    /// Its block of CRIF records is no batch: the first fault, its records counted from the block's header. It is never want
+    /// of memory, which ends the feed.
     BadBatch {
         line: u32,
+        fault: CrifFault,
     },
     /// The journal of its set, the `set`-th from 0, was full, with so many entries and rows.
     Full {

@@ -6,7 +6,9 @@ use Rattle.feed_gate.specs.declared.report.RefusedMessage.TheVariants as refused
 use Rattle.feed_gate.specs.declared.report.FeedEnd.{FeedEnd}
 use Rattle.feed_gate.specs.declared.report.FeedEnd.TheVariants as end
 use Rattle.feed_gate.specs.Numbers.{refused_number}
-use Rattle.margin_text.specs.Fields.{field, last_field}
+use Rattle.crif_reader.specs.Faults.{crif_fault_number}
+use Rattle.margin_text.specs.Fields.{field, last_field, numbered_line}
+use Rattle.margin_text.specs.CrifLine.{crif_fields}
 
 abbrev pub if_named : Option (List ℕ) → List ℕ
 if_named None = []
@@ -20,11 +22,14 @@ name_at names place = if_named (slice_get names place)
 abbrev pub refused_fields : ℕ → ℕ → List ℕ
 refused_fields feed line = field (codes "REFUSED") ++ field (decimal feed) ++ field (decimal line)
 
--- the number of a refused message; where the journal was full, the set's name and the journal's entries and rows
+-- the number of a refused message; of a block the fault of its records, as a CRIF file has it; where the journal was full,
+-- the set's name and the journal's entries and rows
 abbrev pub refused_line : ℕ → List (List ℕ) → RefusedMessage → List ℕ
 refused_line feed names (refused.BadLine line) = refused_fields feed line ++ last_field (decimal (refused_number (refused.BadLine line)))
 refused_line feed names (refused.UnknownSet line) = refused_fields feed line ++ last_field (decimal (refused_number (refused.UnknownSet line)))
-refused_line feed names (refused.BadBatch line) = refused_fields feed line ++ last_field (decimal (refused_number (refused.BadBatch line)))
+refused_line feed names (refused.BadBatch line fault) =
+    numbered_line (refused_fields feed line ++ field (decimal (refused_number (refused.BadBatch line fault)))) (crif_fault_number fault)
+    (λ code. crif_fields code fault)
 refused_line feed names (refused.Full line set entries rows) =
     refused_fields feed line ++ field (decimal (refused_number (refused.Full line set entries rows)))
     ++ field (name_at names set) ++ field (decimal entries) ++ last_field (decimal rows)

@@ -17,7 +17,11 @@ is_zero amount = unsigned_abs amount == 0
 abbrev pub amount_line : List ℕ → ℤ → List ℕ
 amount_line fields amount = if is_zero amount then [] else fields ++ last_field (money_text amount)
 
--- the line of a fault of the file that the word names, by its number; want of memory has no number, and no line
+-- the line of a fault by its number, behind what it begins with; want of memory has no number, and no line
+abbrev pub numbered_line : List ℕ → Option ℕ → (ℕ → List ℕ) → List ℕ
+numbered_line begun None fields = []
+numbered_line begun (Some number) fields = begun ++ fields number
+
+-- the line of a fault of the file that the word names
 abbrev pub fault_line : List ℕ → Option ℕ → (ℕ → List ℕ) → List ℕ
-fault_line word None fields = []
-fault_line word (Some number) fields = field (codes "FAULT") ++ field word ++ fields number
+fault_line word number fields = numbered_line (field (codes "FAULT") ++ field word) number fields

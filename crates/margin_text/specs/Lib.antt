@@ -1,8 +1,8 @@
 pub mod Fields
 pub mod Margins
-pub mod KindWords
 pub mod Rows
 pub mod Journal
-pub mod Feeds
-pub mod TermsLine
 pub mod ParamsLine
+pub mod TermsLine
+pub mod CrifLine
+pub mod Feeds

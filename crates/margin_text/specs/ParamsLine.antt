@@ -13,7 +13,9 @@ params_fields number (params.BadNumber path) = field (decimal number) ++ last_fi
 params_fields number (params.OutOfRange path value) = field (decimal number) ++ field path ++ last_field (signed_decimal value)
 params_fields number (params.ThinThreshold path weight threshold) =
     field (decimal number) ++ field path ++ field (signed_decimal weight) ++ last_field (signed_decimal threshold)
-params_fields number _ = last_field (decimal number)
+params_fields number (params.NotSymmetric path) = field (decimal number) ++ last_field path
+params_fields number params.Toml = last_field (decimal number)
+params_fields number params.Memory = last_field (decimal number)
 
 abbrev pub params_fault : ParamFault → List ℕ
 params_fault e = fault_line (codes "PARAMS") (param_fault_number e) (λ number. params_fields number e)

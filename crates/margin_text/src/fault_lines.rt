@@ -3,11 +3,15 @@ ghost use Rattle.std.specs.Prelude.{◌≡◌, ◌≢◌, ◌++◌, codes, decim
 ghost use Rattle.std.specs.Fmt.{signed_decimal};
 ghost use Rattle.simm_params.specs.declared.fault.ParamFault.TheVariants as params;
 ghost use Rattle.csa_terms.specs.declared.fault.TermsFault.TheVariants as terms;
+ghost use Rattle.crif_reader.specs.declared.fault.CrifFault.TheVariants as crif;
 ghost use Rattle.margin_text.specs.Fields.{field, last_field};
 ghost use Rattle.margin_text.specs.ParamsLine.{params_fields, params_fault};
 ghost use Rattle.margin_text.specs.TermsLine.{terms_fields, terms_fault};
+ghost use Rattle.margin_text.specs.CrifLine.{crif_fault};
 
+use crate::crif_fields::push_crif_fields;
 use crate::pieces::{push_field, push_last, push_last_number, push_number};
+use crif_reader::CrifFault;
 use csa_terms::TermsFault;
 use mh_units::Text;
 use simm_params::ParamFault;
@@ -47,6 +51,23 @@ pub fn terms_line(alloc: Global, fault: &TermsFault) -> Result<Text, AllocError>
     Ok(line)
 }
 
+/// The line of a CRIF file's fault.
+///
+/// # Errors
+///
+/// For want of memory, of the file's reader too.
+pub fn crif_line(alloc: Global, fault: &CrifFault) -> Result<Text, AllocError>
+    ensures line { IfOk result (λ line. line ≡ crif_fault fault.now) }
+    ensures refused { OnOk result (fault.now ≢ crif.Memory) }
+{
+    let Some(number) = fault.number() else {
+        return Err(AllocError);
+    };
+    let mut line = begun_line(alloc, b"CRIF")?;
+    push_crif_fields(&mut line, number, *fault)?;
+    Ok(line)
+}
+
 /// The first fields of a fault's line, of the file that the word names.
 fn begun_line(alloc: Global, word: &[u8]) -> Result<Text, AllocError>
     ensures { IfOk result (λ line. line ≡ field (codes "FAULT") ++ field word.now) }
@@ -62,9 +83,8 @@ fn push_params_fields(line: &mut Text, number: u8, fault: &ParamFault) -> Result
     ensures { OnOk result (line.new ≡ line.old ++ params_fields number fault.now) }
 {
     match fault {
-        ParamFault::Missing(path) | ParamFault::BadNumber(path) => {
-            push_named(line, number, path.as_slice())
-        }
+        ParamFault::Missing(path) | ParamFault::BadNumber(path) | ParamFault::NotSymmetric(path) =>
+            push_named(line, number, path.as_slice()),
         ParamFault::OutOfRange(path, value) => push_valued(line, number, path, *value),
         ParamFault::ThinThreshold(path, weight, threshold) => {
             push_number(line, number)?;

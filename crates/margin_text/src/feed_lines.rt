@@ -1,9 +1,13 @@
 ghost use Rattle.std.specs.Prelude.{◌≡◌, ◌++◌, OnOk, codes, decimal, map};
 ghost use Rattle.std.specs.List.{flat_map};
-ghost use Rattle.margin_text.specs.Fields.{field, last_field};
+ghost use Rattle.crif_reader.specs.Faults.{crif_fault_number};
+ghost use Rattle.margin_text.specs.Fields.{field, last_field, numbered_line};
+ghost use Rattle.margin_text.specs.CrifLine.{crif_fields};
 ghost use Rattle.margin_text.specs.Feeds.{name_at, refused_fields, refused_line, end_field, feed_line, feed_text};
 
+use crate::crif_fields::push_crif_fields;
 use crate::pieces::{push_field, push_last, push_last_number, push_number};
+use crif_reader::CrifFault;
 use csa_terms::SetTerms;
 use feed_gate::{FeedEnd, FeedReport, RefusedMessage};
 use mh_units::Text;
@@ -24,6 +28,24 @@ fn push_refused_number(text: &mut Text, feed: u32, line: u32, number: u8) -> Res
 {
     push_refused_fields(text, feed, line)?;
     push_last_number(text, number)
+}
+
+/// Adds the line of a block that was refused with this number, and with the first fault of its records.
+fn push_refused_block(
+    text: &mut Text,
+    feed: u32,
+    line: u32,
+    number: u8,
+    fault: CrifFault,
+) -> Result<(), AllocError>
+    ensures { OnOk result (text.new ≡ text.old ++ numbered_line (refused_fields feed line ++ field (decimal number)) (crif_fault_number fault) (λ code. crif_fields code fault)) }
+{
+    let Some(code) = fault.number() else {
+        return Ok(());
+    };
+    push_refused_fields(text, feed, line)?;
+    push_number(text, number)?;
+    push_crif_fields(text, code, fault)
 }
 
 /// Adds the field of the name of the set at a place, from 0.
@@ -47,9 +69,12 @@ fn push_refused(
 {
     let number = message.number();
     match *message {
-        RefusedMessage::BadLine { line }
-        | RefusedMessage::UnknownSet { line }
-        | RefusedMessage::BadBatch { line } => push_refused_number(text, feed, line, number),
+        RefusedMessage::BadLine { line } | RefusedMessage::UnknownSet { line } => {
+            push_refused_number(text, feed, line, number)
+        }
+        RefusedMessage::BadBatch { line, fault } => {
+            push_refused_block(text, feed, line, number, fault)
+        }
         RefusedMessage::Full {
             line,
             set,

@@ -1,60 +1,54 @@
 //! The lines of trades and their rows.
 ghost use Rattle.std.specs.Prelude.{◌≡◌, ◌++◌, OnOk};
 ghost use Rattle.std.specs.List.{flat_map};
-ghost use Rattle.margin_text.specs.Fields.{field, last_field};
-ghost use Rattle.margin_text.specs.KindWords.{bucket_word};
-ghost use Rattle.margin_text.specs.Rows.{row_amount, key_fields, row_line, trade_lines};
+ghost use Rattle.margin_text.specs.Rows.{row_line, row_start, trade_lines};
 
-use crate::kind_words::{kind_word, sub_word, tenor_word};
-use crate::pieces::{push_field, push_last, push_last_amount, push_last_number, push_number};
+use crate::factor_fields::{push_factor, push_parts};
+use crate::pieces::{push_field, push_last_amount, push_last_number};
 use mh_units::Text;
-use simm_kinds::{BucketId, CrifRow, FactorKey, RiskType, TradeRows};
+use simm_kinds::{CrifRow, ProductClass, RiskType, TradeRows};
 use std::alloc::AllocError;
-
-/// Adds the field of a bucket.
-fn push_bucket(text: &mut Text, bucket: BucketId) -> Result<(), AllocError>
-    ensures { OnOk result (text.new ≡ text.old ++ field (bucket_word bucket)) }
-{
-    match bucket {
-        BucketId::Number(number) => push_number(text, number),
-        BucketId::Residual => push_field(text, b"Residual"),
-        BucketId::Currency(letters) => push_field(text, &letters),
-        BucketId::Single => push_field(text, b""),
-    }
-}
-
-/// Adds the fields of a factor's key.
-fn push_key(text: &mut Text, key: &FactorKey) -> Result<(), AllocError>
-    ensures { OnOk result (text.new ≡ text.old ++ key_fields key.now) }
-{
-    push_field(text, key.product().word().as_bytes())?;
-    push_field(text, kind_word(key.kind()).as_bytes())?;
-    push_field(text, key.qualifier().bytes())?;
-    push_bucket(text, key.bucket())?;
-    push_field(text, tenor_word(key.tenor()).as_bytes())?;
-    push_field(text, sub_word(key.sub()).as_bytes())?;
-    push_field(text, key.label2().bytes())
-}
-
-/// Adds a row's amount as the last field of its line.
-fn push_row_amount(text: &mut Text, kind: RiskType, amount: i64) -> Result<(), AllocError>
-    ensures { OnOk result (text.new ≡ text.old ++ last_field (row_amount kind amount)) }
-{
-    match kind {
-        RiskType::ProductClassMultiplier | RiskType::AddOnNotionalFactor => {
-            push_last_number(text, amount)
-        }
-        _ => push_last_amount(text, i128::from(amount)),
-    }
-}
 
 /// Adds the line of a row.
 fn push_row(text: &mut Text, row: &CrifRow) -> Result<(), AllocError>
     ensures { OnOk result (text.new ≡ text.old ++ row_line row.now) }
 {
+    match row {
+        CrifRow::Sensitivity { key, amount } => {
+            push_start(text, key.product, key.kind())?;
+            push_factor(text, &key.factor)?;
+            push_last_amount(text, amount.0)
+        }
+        CrifRow::Notional { qualifier, amount } => {
+            push_start(text, ProductClass::RatesFX, RiskType::Notional)?;
+            push_parts(text, qualifier.bytes(), b"", "", "", b"")?;
+            push_last_amount(text, amount.0)
+        }
+        CrifRow::FixedAmount(amount) => {
+            push_start(text, ProductClass::RatesFX, RiskType::AddOnFixedAmount)?;
+            push_parts(text, b"", b"", "", "", b"")?;
+            push_last_amount(text, amount.0)
+        }
+        CrifRow::NotionalFactor { qualifier, factor } => {
+            push_start(text, ProductClass::RatesFX, RiskType::AddOnNotionalFactor)?;
+            push_parts(text, qualifier.bytes(), b"", "", "", b"")?;
+            push_last_number(text, factor.0)
+        }
+        CrifRow::Multiplier { product, factor } => {
+            push_start(text, *product, RiskType::ProductClassMultiplier)?;
+            push_parts(text, b"", b"", "", "", b"")?;
+            push_last_number(text, factor.0)
+        }
+    }
+}
+
+/// Adds the first fields of a row's line.
+fn push_start(text: &mut Text, product: ProductClass, kind: RiskType) -> Result<(), AllocError>
+    ensures { OnOk result (text.new ≡ text.old ++ row_start product kind) }
+{
     push_field(text, b"ROW")?;
-    push_key(text, &row.key)?;
-    push_row_amount(text, row.key.kind(), row.amount)
+    push_field(text, product.word().as_bytes())?;
+    push_field(text, kind.word().as_bytes())
 }
 
 /// Adds the lines of rows.

@@ -1,30 +1,41 @@
-use Rattle.std.proofs.Common.{◌≡◌, [], sym, refl}
-use Rattle.std.proofs.lemmas.Bool.{eqb-true}
-use Rattle.std.proofs.lemmas.List.{nil_from_length}
+use Rattle.std.proofs.Common.{◌≡◌, ◌∷◌, [], true, false, sym, ap, ◌∙◌}
 use Rattle.std.proofs.lemmas.Result.{err_from_is_err_and}
-use Rattle.crif_reader.specs.Grammar.{crif_of}
-use Rattle.crif_reader.proofs.Batches.{batch_of_lines}
+use Rattle.csv.specs.Records.{fields_of}
+use Rattle.crif_reader.specs.Grammar.{crif_of, crif_of_records}
+use Rattle.crif_reader.specs.Records.{records_left, records_of}
+use Rattle.crif_reader.proofs.Batches.{batch_of_rows}
+use Rattle.crif_reader.proofs.Runs.{fails_same}
 use Rattle.crif_reader.proofs.read.read_batch.Goals as goal
 
-pub returns-then-is_empty : goal.returns-then-is_empty
+pub returns-then-not-branch : goal.returns-then-not-branch
 unfolding crif_of
-returns-then-is_empty c =
-    let empty : c.args.bytes.now ≡ [] = nil_from_length _ (eqb-true _ _ (sym c.if-is_empty.ensures)) in
-    rw empty refl
+returns-then-not-branch c =
+    let gone : c.in_ok-next_record.field-0 ≡ false = c.if-not-branch.true in
+    let all : records_of c.args.bytes.now ≡ [] = sym c.open-reader.ensures.records ∙ rw gone at c.in_ok-next_record.ensures.record in
+    ap crif_of_records all
 
-pub returns-then-not-is_header : goal.returns-then-not-is_header
+pub returns-in_err-columns : goal.returns-in_err-columns
 unfolding crif_of
-returns-then-not-is_header c = rw (c.cut_line.ensures.lines, sym c.if-not-is_header.ensures) refl
+returns-in_err-columns c =
+    let found : c.in_ok-next_record.field-0 ≡ true = c.if-not-branch.false in
+    let all : records_of c.args.bytes.now ≡ fields_of c.next_record.new.taken ∷ records_left c.next_record.new.reader = sym c.open-reader.ensures.records ∙ rw found at c.in_ok-next_record.ensures.record in
+    let p = err_from_is_err_and c.from_residual-in_err-columns.result c.from_residual-in_err-columns.ensures.1 in
+    rw (p.1, p.2, all, sym c.in_err-columns.ensures) (fails_same _ _)
 
-pub returns-in_err-trades : goal.returns-in_err-trades
+pub returns-in_err-gathered : goal.returns-in_err-gathered
 unfolding crif_of
-returns-in_err-trades c =
-    let fault = err_from_is_err_and c.from_residual.result c.from_residual.ensures.1 in
-    rw (c.cut_line.ensures.lines, sym c.if-not-is_header.ensures, fault.1, fault.2) c.in_err-trades.ensures
+returns-in_err-gathered c =
+    let found : c.in_ok-next_record.field-0 ≡ true = c.if-not-branch.false in
+    let all : records_of c.args.bytes.now ≡ fields_of c.next_record.new.taken ∷ records_left c.next_record.new.reader = sym c.open-reader.ensures.records ∙ rw found at c.in_ok-next_record.ensures.record in
+    let p = err_from_is_err_and c.from_residual-in_err-gathered.result c.from_residual-in_err-gathered.ensures.1 in
+    rw (p.1, p.2, all, sym c.in_ok-columns.ensures) c.in_err-gathered.ensures
 
-pub from_trades-requires : goal.from_trades-requires
-from_trades-requires c = rw c.from_vec.ensures (batch_of_lines _ _ c.in_ok-trades.ensures)
+pub from_trades-batch-requires : goal.from_trades-batch-requires
+from_trades-batch-requires c = rw c.from_vec.ensures (batch_of_rows _ _ _ c.in_ok-gathered.ensures)
 
 pub returns : goal.returns
 unfolding crif_of
-returns c = rw (c.cut_line.ensures.lines, sym c.if-not-is_header.ensures, c.from_trades.ensures, c.from_vec.ensures) c.in_ok-trades.ensures
+returns c =
+    let found : c.in_ok-next_record.field-0 ≡ true = c.if-not-branch.false in
+    let all : records_of c.args.bytes.now ≡ fields_of c.next_record.new.taken ∷ records_left c.next_record.new.reader = sym c.open-reader.ensures.records ∙ rw found at c.in_ok-next_record.ensures.record in
+    rw (all, sym c.in_ok-columns.ensures, c.from_trades-batch.ensures, c.from_vec.ensures) c.in_ok-gathered.ensures

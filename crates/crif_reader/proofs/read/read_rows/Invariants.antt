@@ -1,0 +1,16 @@
+use Rattle.std.proofs.Common.{◌≤◌, length}
+use Rattle.crif_reader.specs.Records.{records_left, IsReading}
+use Rattle.crif_reader.specs.Growth.{IsIndex}
+use Rattle.crif_reader.proofs.Runs.{IsUnderWay}
+use Rattle.crif_reader.proofs.read.read_rows.Given as goal
+
+abbrev pub invariant-loop-fields : goal.invariant-loop-fields
+invariant-loop-fields l = record {
+  reading : IsReading l.reader;
+  index : IsIndex l.places l.trades.items;
+  way : IsUnderWay l.columns (records_left l.fn.reader) l.number l.passed_over l.params l.trades.items (records_left l.reader);
+  few : l.number ≤ 100002;
+}
+
+abbrev pub decreases-loop-fields : goal.decreases-loop-fields
+decreases-loop-fields l = length (records_left l.reader)

@@ -1,0 +1,77 @@
+-- The fields of a record that are read.
+use Rattle.std.specs.Prelude.{ℕ, List, [], ◌∷◌, reverse, Bool, ◌&&◌, ◌==◌, Option, Some, None, unwrap_or, if◌then◌else◌}
+use Rattle.std.specs.Str.{is_utf8}
+use Rattle.csv.specs.Records.{field_at}
+use Rattle.crif_reader.specs.declared.columns.Columns.{Columns}
+use Rattle.crif_reader.specs.declared.fields.Fields.{Fields}
+
+abbrev pub without_leading_spaces : List ℕ → List ℕ
+without_leading_spaces [] = []
+without_leading_spaces (b ∷ bs) = if b == 32 then without_leading_spaces bs else b ∷ bs
+
+-- without the ASCII spaces at both ends
+abbrev pub trimmed : List ℕ → List ℕ
+trimmed bytes = reverse (without_leading_spaces (reverse (without_leading_spaces bytes)))
+
+-- what a record has in each column
+pub record Texts : Type 0 where
+  pub trade_id : List ℕ
+  pub product_class : List ℕ
+  pub risk_type : List ℕ
+  pub qualifier : List ℕ
+  pub bucket : List ℕ
+  pub label1 : List ℕ
+  pub label2 : List ℕ
+  pub amount : List ℕ
+  pub amount_currency : List ℕ
+  pub amount_usd : List ℕ
+  pub im_model : List ℕ
+
+-- a field that is missing at the end is empty
+abbrev pub text_at : List (List ℕ) → ℕ → List ℕ
+text_at fields place = trimmed (unwrap_or (field_at fields place) [])
+
+-- and so is that of a column that the header lacks
+abbrev pub text_if : List (List ℕ) → Option ℕ → List ℕ
+text_if fields None = []
+text_if fields (Some place) = text_at fields place
+
+abbrev pub texts_of : Columns → List (List ℕ) → Texts
+texts_of columns fields =
+    record {
+      trade_id = text_at fields columns.trade_id;
+      product_class = text_at fields columns.product_class;
+      risk_type = text_at fields columns.risk_type;
+      qualifier = text_at fields columns.qualifier;
+      bucket = text_at fields columns.bucket;
+      label1 = text_at fields columns.label1;
+      label2 = text_at fields columns.label2;
+      amount = text_at fields columns.amount;
+      amount_currency = text_at fields columns.amount_currency;
+      amount_usd = text_at fields columns.amount_usd;
+      im_model = text_if fields columns.im_model;
+    }
+
+-- each of them is UTF-8
+abbrev pub are_text : Texts → Bool
+are_text t =
+    is_utf8 t.trade_id && is_utf8 t.product_class && is_utf8 t.risk_type && is_utf8 t.qualifier && is_utf8 t.bucket
+    && is_utf8 t.label1 && is_utf8 t.label2 && is_utf8 t.amount && is_utf8 t.amount_currency && is_utf8 t.amount_usd
+    && is_utf8 t.im_model
+
+-- the texts that are lent
+abbrev pub texts : Fields → Texts
+texts f =
+    record {
+      trade_id = f.trade_id.now;
+      product_class = f.product_class.now;
+      risk_type = f.risk_type.now;
+      qualifier = f.qualifier.now;
+      bucket = f.bucket.now;
+      label1 = f.label1.now;
+      label2 = f.label2.now;
+      amount = f.amount.now;
+      amount_currency = f.amount_currency.now;
+      amount_usd = f.amount_usd.now;
+      im_model = f.im_model.now;
+    }

@@ -1,0 +1,85 @@
+//! Where a file's header has the columns.
+ghost use Rattle.std.specs.Prelude.{◌≡◌};
+ghost use Rattle.csv.specs.Records.{fields_of};
+ghost use Rattle.crif_reader.specs.Columns.{is_column, place_of, required, columns_of};
+
+use crate::{Column, CrifFault};
+use csv::ByteRecord;
+
+/// The places of the columns in a record, from 0; that of the margin model where the header has it. `count` is how many fields
+/// the header has.
+#[derive(Clone, Copy)]
+pub struct Columns {
+    pub count: usize,
+    pub trade_id: usize,
+    pub product_class: usize,
+    pub risk_type: usize,
+    pub qualifier: usize,
+    pub bucket: usize,
+    pub label1: usize,
+    pub label2: usize,
+    pub amount: usize,
+    pub amount_currency: usize,
+    pub amount_usd: usize,
+    pub im_model: Option<usize>,
+}
+
+/// Whether a field of the header is the column's name, in any case, without spaces and underscores.
+fn is_column(column: Column, field: &[u8]) -> bool
+    ensures { result ≡ is_column column field.now }
+{
+    let mut rest = column.name().as_bytes();
+    for byte in field {
+        if *byte == b' ' || *byte == b'_' {
+            continue;
+        }
+        let [first, others @ ..] = rest else {
+            return false;
+        };
+        if !byte.eq_ignore_ascii_case(first) {
+            return false;
+        }
+        rest = others;
+    }
+    rest.is_empty()
+}
+
+/// The first place in the header with the column's name.
+fn place_of(header: &ByteRecord, column: Column) -> Option<usize>
+    ensures { result ≡ place_of (fields_of header.now) column }
+{
+    for place in 0..header.len() {
+        let field = header.get(place)?;
+        if is_column(column, field) {
+            return Some(place);
+        }
+    }
+    None
+}
+
+fn required(header: &ByteRecord, column: Column) -> Result<usize, CrifFault>
+    ensures { result ≡ required (fields_of header.now) column }
+{
+    place_of(header, column).ok_or(CrifFault::MissingColumn(column))
+}
+
+/// The places of the columns in a header; the fault is the first required column that it lacks.
+#[tactic(auto, unfolding(crate::specs::Columns::columns_of))]
+pub fn columns_of(header: &ByteRecord) -> Result<Columns, CrifFault>
+    ensures { result ≡ columns_of (fields_of header.now) }
+{
+    Ok(Columns {
+        count: header.len(),
+        trade_id: required(header, Column::TradeId)?,
+        product_class: required(header, Column::ProductClass)?,
+        risk_type: required(header, Column::RiskType)?,
+        qualifier: required(header, Column::Qualifier)?,
+        bucket: required(header, Column::Bucket)?,
+        label1: required(header, Column::Label1)?,
+        label2: required(header, Column::Label2)?,
+        amount: required(header, Column::Amount)?,
+        amount_currency: required(header, Column::AmountCurrency)?,
+        amount_usd: required(header, Column::AmountUsd)?,
+        im_model: place_of(header, Column::ImModel),
+    })
+}

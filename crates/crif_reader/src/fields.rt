@@ -1,0 +1,98 @@
+//! The fields of a record that are read.
+ghost use Rattle.std.specs.Prelude.{◌≡◌};
+ghost use Rattle.std.specs.Str.{is_utf8};
+ghost use Rattle.csv.specs.Records.{fields_of};
+ghost use Rattle.crif_reader.specs.Fields.{trimmed, text_at, text_if, texts, texts_of, are_text};
+
+use crate::columns::Columns;
+use csv::ByteRecord;
+use std::str;
+
+/// The fields in the columns that are read, without spaces at their ends. A field that is missing at the end is empty.
+#[derive(Clone, Copy)]
+pub struct Fields<'a> {
+    pub trade_id: &'a [u8],
+    pub product_class: &'a [u8],
+    pub risk_type: &'a [u8],
+    pub qualifier: &'a [u8],
+    pub bucket: &'a [u8],
+    pub label1: &'a [u8],
+    pub label2: &'a [u8],
+    pub amount: &'a [u8],
+    pub amount_currency: &'a [u8],
+    pub amount_usd: &'a [u8],
+    pub im_model: &'a [u8],
+}
+
+/// Leaves the spaces at both ends off.
+fn trim_spaces(field: &[u8]) -> &[u8]
+    ensures { result.now ≡ trimmed field.now }
+{
+    let mut rest = field;
+    while let [b' ', inner @ ..] = rest {
+        rest = inner;
+    }
+    while let [inner @ .., b' '] = rest {
+        rest = inner;
+    }
+    rest
+}
+
+fn text_at(fields: &ByteRecord, place: usize) -> &[u8]
+    ensures { result.now ≡ text_at (fields_of fields.now) place }
+{
+    trim_spaces(fields.get(place).unwrap_or(&[]))
+}
+
+fn text_if(fields: &ByteRecord, place: Option<usize>) -> &[u8]
+    ensures { result.now ≡ text_if (fields_of fields.now) place }
+{
+    match place {
+        Some(place) => text_at(fields, place),
+        None => &[],
+    }
+}
+
+impl<'a> Fields<'a> {
+    /// Lends the fields of a record that stand in the columns.
+    pub fn of(columns: &Columns, fields: &'a ByteRecord) -> Fields<'a>
+        ensures { texts result ≡ texts_of columns.now (fields_of fields.now) }
+    {
+        Fields {
+            trade_id: text_at(fields, columns.trade_id),
+            product_class: text_at(fields, columns.product_class),
+            risk_type: text_at(fields, columns.risk_type),
+            qualifier: text_at(fields, columns.qualifier),
+            bucket: text_at(fields, columns.bucket),
+            label1: text_at(fields, columns.label1),
+            label2: text_at(fields, columns.label2),
+            amount: text_at(fields, columns.amount),
+            amount_currency: text_at(fields, columns.amount_currency),
+            amount_usd: text_at(fields, columns.amount_usd),
+            im_model: text_if(fields, columns.im_model),
+        }
+    }
+
+    /// Whether each of them is UTF-8.
+    pub fn are_text(&self) -> bool
+        ensures { result ≡ are_text (texts self.now) }
+    {
+        is_utf8(self.trade_id)
+            && is_utf8(self.product_class)
+            && is_utf8(self.risk_type)
+            && is_utf8(self.qualifier)
+            && is_utf8(self.bucket)
+            && is_utf8(self.label1)
+            && is_utf8(self.label2)
+            && is_utf8(self.amount)
+            && is_utf8(self.amount_currency)
+            && is_utf8(self.amount_usd)
+            && is_utf8(self.im_model)
+    }
+}
+
+fn is_utf8(field: &[u8]) -> bool
+    ensures { result ≡ is_utf8 field.now }
+{
+    str::from_utf8(field).is_ok()
+}

@@ -1,0 +1,10 @@
+pub mod All
+pub mod TabRecords
+pub mod Numerals
+pub mod Plain
+pub mod Texts
+pub mod RowReads
+pub mod FirstOfKind
+pub mod Gathers
+pub mod Writes
+pub mod ReadsBack

@@ -1,0 +1,4 @@
+pub mod Amounts
+pub mod Parts
+pub mod Rows
+pub mod Text
