@@ -1,6 +1,7 @@
 pub mod Viewed
-pub mod Entries
+pub mod Sorted
+pub mod Totals
 pub mod Sums
+pub mod Entries
 pub mod Numbers
 pub mod Shares
-pub mod CallSums

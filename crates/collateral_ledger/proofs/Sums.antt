@@ -1,33 +1,28 @@
--- Sums of what lots count for, as far as a loop has come.
-use Rattle.std.proofs.Common.{◌≡◌, ℕ, List, [], ◌∷◌, map, length, ◌+◌, ◌*◌, ◌^◌, ◌≤◌, ℤ, pos, ◌+ℤ◌, unsigned_abs, FitsSigned, arith, subst, ap}
+-- Sums and differences of numbers that stay far from the ends of an i128.
+use Rattle.std.proofs.Common.{◌≡◌, ◌≤◌, ◌^◌, ℤ, ◌+ℤ◌, ◌-ℤ◌, unsigned_abs, FitsSigned, arith, refl}
 use Rattle.std.proofs.lemmas.Int.{ints, fits_signed_from_abs}
-use Rattle.std.proofs.lemmas.List.{length-map}
-use Rattle.std.specs.Int.{w128}
-use Rattle.std.specs.Map.{values_of}
-use Rattle.collateral_ledger.specs.Holdings.{Lot}
-use Rattle.collateral_ledger.specs.Booked.{total, counted, counted_at}
-use Rattle.collateral_ledger.specs.Kept.{Rated, AreRated}
-use Rattle.collateral_ledger.proofs.Entries.{lots_at, counted_rated, total-lots_at}
+use Rattle.std.specs.Int.{w128, cast_signed, cast_unsigned}
+use Rattle.mh_units.proofs.Integers.{same128}
 
--- the sum so far and what the rest counts for are what all lots count for, and the sum has room for the rest
-pub record IsCountedSoFar (held : List Lot) (sum : ℤ) (rest : List Rated) : Type 0 where
-  pub whole : sum +ℤ total (map counted_rated rest) ≡ total (map counted held)
-  pub room : unsigned_abs sum + 10 ^ 15 * length rest ≤ 4096 * 10 ^ 15
+abbrev pub IsSmall : ℤ → Type 0
+IsSmall z = unsigned_abs z ≤ 2 ^ 100
 
-pub counted_none : (es : List (List ℕ × Rated)) (held : List Lot) (rest : List Rated) → lots_at es ≡ held → AreRated es → rest ≡ values_of es → IsCountedSoFar held (pos 0) rest
-counted_none es held rest seen h is = subst (λ (ls : List Lot). IsCountedSoFar ls (pos 0) rest) seen record {
-  whole = omega (arith, ints, ap (λ ls. total (map counted_rated ls)) is, total-lots_at es);
-  room = omega (arith, ap length is, length-map es (λ (e : List ℕ × Rated). e.1), h.few);
-}
+-- a number as it is read where it is kept
+abbrev pub kept128 : ℤ → ℤ
+kept128 z = cast_signed w128 (cast_unsigned w128 z)
 
-pub counted_more : (held : List Lot) (sum next added : ℤ) (lot : Rated) (before rest : List Rated) → before ≡ lot ∷ rest → added ≡ counted_at lot.value lot.rate → unsigned_abs added ≤ 10 ^ 15 → next ≡ sum +ℤ added → IsCountedSoFar held sum before → IsCountedSoFar held next rest
-counted_more held sum next added lot before rest is value small e h = record {
-  whole = omega (arith, ints, h.whole, ap (λ ls. total (map counted_rated ls)) is, value);
-  room = omega (arith, ints, h.room, ap length is);
-}
+pub kept_is : (z : ℤ) → IsSmall z → kept128 z ≡ z
+kept_is z small = same128 z (fits_signed_from_abs w128 z (omega (arith, small)))
 
-pub counted_fits : (held : List Lot) (sum added : ℤ) (before : List Rated) → unsigned_abs added ≤ 10 ^ 15 → IsCountedSoFar held sum before → FitsSigned w128 (sum +ℤ added)
-counted_fits held sum added before small h = fits_signed_from_abs w128 (sum +ℤ added) (omega (arith, ints, h.room))
+module _ (a b : ℤ) (small_a : IsSmall a) (small_b : IsSmall b) where
+  pub sum_fits : FitsSigned w128 (kept128 a +ℤ kept128 b)
+  sum_fits = rw (kept_is a small_a, kept_is b small_b) (fits_signed_from_abs w128 (a +ℤ b) (omega (arith, ints, small_a, small_b)))
 
-pub counted_all : (held : List Lot) (sum : ℤ) (rest : List Rated) → rest ≡ [] → IsCountedSoFar held sum rest → sum ≡ total (map counted held)
-counted_all held sum rest none h = omega (arith, ints, h.whole, ap (λ ls. total (map counted_rated ls)) none)
+  pub sum_is : kept128 (kept128 a +ℤ kept128 b) ≡ a +ℤ b
+  sum_is = rw (same128 (kept128 a +ℤ kept128 b) sum_fits, kept_is a small_a, kept_is b small_b) refl
+
+  pub difference_fits : FitsSigned w128 (kept128 a -ℤ kept128 b)
+  difference_fits = rw (kept_is a small_a, kept_is b small_b) (fits_signed_from_abs w128 (a -ℤ b) (omega (arith, ints, small_a, small_b)))
+
+  pub difference_is : kept128 (kept128 a -ℤ kept128 b) ≡ a -ℤ b
+  difference_is = rw (same128 (kept128 a -ℤ kept128 b) difference_fits, kept_is a small_a, kept_is b small_b) refl

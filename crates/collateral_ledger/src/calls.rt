@@ -10,11 +10,13 @@ use std::alloc::{AllocError, Global};
 use std::collections::BTreeMap;
 use std::marker::Model;
 
-/// The calls that are outstanding, each found by its number, and how many were ever added.
+/// The calls that are outstanding, each found by its number, how many were ever added, and what is booked for the
+/// outstanding ones together.
 #[derive(Debug, Drop)]
 pub struct Calls {
     outstanding: BTreeMap<u32, OpenCall>,
     added: u32,
+    settled: i128,
 }
 
 impl Model for Calls {
@@ -25,7 +27,7 @@ impl Model for Calls {
 
     ghost view = { λ c. record { calls = map call_at c.outstanding.entries; added = c.added } };
 
-    ghost invariant = { λ c. AreAdded c.added c.outstanding.entries };
+    ghost invariant = { λ c. AreAdded c.added c.settled c.outstanding.entries };
 }
 
 impl Calls {
@@ -36,6 +38,7 @@ impl Calls {
         Calls {
             outstanding: BTreeMap::new(alloc),
             added: 0,
+            settled: 0,
         }
     }
 
@@ -51,9 +54,11 @@ impl Calls {
         ensures err { OnErr result (self.new ≡ self.old) }
     {
         let number = self.added + 1;
-        self.outstanding
-            .insert(number, OpenCall::new(flow, amount))?;
+        let call = OpenCall::new(flow, amount);
+        let settled = call.settled();
+        self.outstanding.insert(number, call)?;
         self.added = number;
+        self.settled += settled;
         Ok(number)
     }
 
@@ -65,7 +70,11 @@ impl Calls {
     {
         // The numbers ascend, so they are different.
         let _count = self.outstanding.len();
-        self.outstanding.remove(&number).is_some()
+        let Some(call) = self.outstanding.remove(&number) else {
+            return false;
+        };
+        self.settled -= call.settled();
+        true
     }
 
     /// What is booked for the outstanding calls.
@@ -75,13 +84,9 @@ impl Calls {
         ensures few { length self.now.calls ≤ self.now.added }
         ensures fits { unsigned_abs result ≤ 2 ^ 126 }
     {
-        // There are no more than were added.
+        // There are no more calls than were added.
         let _added = self.added;
-        let mut sum = 0;
-        for call in self.outstanding.values() {
-            sum += call.settled();
-        }
-        sum
+        self.settled
     }
 
     /// What each ledger's calls keep. It does nothing.

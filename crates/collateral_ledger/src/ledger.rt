@@ -7,7 +7,6 @@ ghost use Rattle.collateral_ledger.specs.Refusals.{IsCause, close_refusal, is_lo
 use crate::LedgerFault;
 use crate::calls::Calls;
 use crate::lots::Lots;
-use crate::rated_lot::RatedLot;
 use crate::rates::rate_for;
 use csa_terms::{Flow, LotCurrency, SetTerms};
 use mh_units::Rate4;
@@ -25,8 +24,8 @@ const GREATEST_VALUE: i64 = 1_000_000_000_000_000;
 /// the calls that are outstanding, in the order of their numbers. There are 0 to 4,096 lots of different names, each with a value of
 /// 0 to 10^15 cents and the rate of what counts of it, which was looked up when it was put. Contracts see the plain record.
 ///
-/// A lot is found by its name in O(1) steps on average; to take one out moves those after it. A call is found in
-/// O(log n) steps for n calls.
+/// To put, mark or take a lot costs O(log n) steps for n lots, and to add or close a call O(log n) for n calls. What is booked
+/// for them is kept, so that to ask for it costs the same however many there are.
 #[derive(Drop)]
 pub struct Ledger {
     terms: SetTerms,
@@ -73,7 +72,7 @@ impl Ledger {
     ///
     /// It is refused, in this order, as LotKnown where a lot of this name is there, ClassUnknown where the terms have no haircut
     /// for the class, LotRange where the value is below 0 or above 10^15, and LotsFull where 4,096 lots are there. Memory comes
-    /// last. After each of these the ledger is unchanged.
+    /// last, and also where 2^64 - 1 lots were ever put. After each of these the ledger is unchanged.
     pub fn put_lot(
         &mut self,
         alloc: Global,
@@ -90,8 +89,7 @@ impl Ledger {
         ensures err { OnErr result (self.new ≡ self.old) }
     {
         let rate = self.rate_to_put(lot, class, value, currency)?;
-        self.lots
-            .push(lot.copy(alloc)?, RatedLot::new(value, rate))?;
+        self.lots.push(lot.copy(alloc)?, value, rate)?;
         Ok(())
     }
 
@@ -160,7 +158,7 @@ impl Ledger {
 
     /// What is booked, in cents: what the lots count for, with the outstanding deliveries, less the outstanding returns; so it may be
     /// below 0. Its size is at most 4,096 times the greatest value of a lot, and 10^18 for each outstanding call, of which there are
-    /// no more than were ever added. It costs a step for each lot and each outstanding call, and takes no memory.
+    /// no more than were ever added. It is kept, and not added up anew. It takes no memory.
     pub fn booked(&self) -> i128
         ensures value { result ≡ booked_of self.now }
         ensures size { unsigned_abs result ≤ 4096 * 10 ^ 15 + 10 ^ 18 * length self.now.calls }

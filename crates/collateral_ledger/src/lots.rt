@@ -3,30 +3,34 @@ ghost use Rattle.std.specs.Bool.{OnTrue, OnFalse};
 ghost use Rattle.collateral_ledger.specs.Holdings.{AreLots, IsLotValue};
 ghost use Rattle.collateral_ledger.specs.Booked.{total, counted};
 ghost use Rattle.collateral_ledger.specs.Changes.{has_lot, with_value, without_lot};
-ghost use Rattle.collateral_ledger.specs.Kept.{IsRated, lot_at};
 
 use crate::rated_lot::RatedLot;
-use indexmap::IndexMap;
+use mh_units::Rate4;
 use simm_kinds::Name;
 use std::alloc::{AllocError, Global};
+use std::collections::BTreeMap;
 use std::marker::Model;
 
-/// The lots that are held, in the order in which they were put, each found by its name.
+/// The lots that are held, each found by its name, and what they count for together. Contracts see them in the order in
+/// which they were put.
 #[derive(Drop)]
 pub struct Lots {
-    by_name: IndexMap<Name, RatedLot>,
+    by_name: BTreeMap<Name, RatedLot>,
+    // Above the place of each lot.
+    next_place: u64,
+    counted: i128,
 }
 
 impl Model for Lots {
-    ghost use Rattle.std.specs.Prelude.{List, map};
+    ghost use Rattle.std.specs.Prelude.{List};
     ghost use Rattle.collateral_ledger.specs.Holdings.{Lot};
-    ghost use Rattle.collateral_ledger.specs.Kept.{AreRated, lot_at};
+    ghost use Rattle.collateral_ledger.specs.Kept.{AreRated, lots_at};
 
     ghost Value = { List Lot };
 
-    ghost view = { λ l. map lot_at l.by_name.entries };
+    ghost view = { λ l. lots_at l.by_name.entries };
 
-    ghost invariant = { λ l. AreRated l.by_name.entries };
+    ghost invariant = { λ l. AreRated l.next_place l.counted l.by_name.entries };
 }
 
 impl Lots {
@@ -35,7 +39,9 @@ impl Lots {
         ensures { result ≡ [] }
     {
         Lots {
-            by_name: IndexMap::new(alloc),
+            by_name: BTreeMap::new(alloc),
+            next_place: 0,
+            counted: 0,
         }
     }
 
@@ -53,15 +59,25 @@ impl Lots {
         self.by_name.contains_key(name)
     }
 
-    /// Adds a lot behind the others. For want of memory nothing changes, and the lot is dropped.
-    pub fn push(&mut self, name: Name, lot: RatedLot) -> Result<(), AllocError>
+    /// Adds a lot behind the others. For want of memory nothing changes, and the name is dropped; so it is where 2^64 - 1 lots
+    /// were added, and no place is left.
+    pub fn push(&mut self, name: Name, value: i64, rate: Rate4) -> Result<(), AllocError>
         requires new { has_lot name self.old ≡ false }
         requires room { length self.old < 4096 }
-        requires rated { IsRated lot }
-        ensures ok { OnOk result (self.new ≡ self.old ++ lot_at (name, lot) ∷ []) }
+        requires in_range { IsLotValue value }
+        requires small { unsigned_abs rate.0 ≤ 10000 }
+        ensures ok { OnOk result (self.new ≡ self.old ++ record { name = name; value = value; rate = rate.0 } ∷ []) }
         ensures err { OnErr result (self.new ≡ self.old) }
     {
+        let place = self.next_place;
+        let Some(next_place) = place.checked_add(1) else {
+            return Err(AllocError);
+        };
+        let lot = RatedLot::new(place, value, rate);
+        let counted = lot.counted();
         self.by_name.insert(name, lot)?;
+        self.next_place = next_place;
+        self.counted += counted;
         Ok(())
     }
 
@@ -71,9 +87,13 @@ impl Lots {
         ensures taken { OnTrue result (self.new ≡ without_lot name.now self.old) }
         ensures unchanged { OnFalse result (self.new ≡ self.old) }
     {
-        // The names are different.
+        // The names ascend, so they are different.
         let _count = self.by_name.len();
-        self.by_name.shift_remove(name).is_some()
+        let Some(lot) = self.by_name.remove(name) else {
+            return false;
+        };
+        self.counted -= lot.counted();
+        true
     }
 
     /// Changes the value of the lot of this name. It takes no memory.
@@ -85,7 +105,8 @@ impl Lots {
         let Some(lot) = self.by_name.get_mut(name) else {
             return;
         };
-        lot.set_value(value);
+        let more = lot.set_value(value);
+        self.counted += more;
     }
 
     /// What the lots count for together.
@@ -93,18 +114,14 @@ impl Lots {
         ensures value { result ≡ total (map counted self.now) }
         ensures size { unsigned_abs result ≤ 4096 * 10 ^ 15 }
     {
-        let mut sum = 0;
-        for lot in self.by_name.values() {
-            sum += lot.counted();
-        }
-        sum
+        self.counted
     }
 
     /// What each ledger's lots keep. It does nothing.
     pub fn facts(&self)
         ensures { AreLots self.now }
     {
-        // The names are different.
+        // The names ascend, so they are different.
         let _count = self.by_name.len();
     }
 }
