@@ -1,8 +1,11 @@
-//! The program: runs the words of the command line over the file system and standard output.
+//! The program: runs the words of the command line over the file system, prints to standard output, and tells of calls by
+//! lines on standard error.
 #![tactic(auto)]
 
+use call_desk::{Desk, SinkDesk};
 use margin_top::{Status, margin_house};
 use mh_io::{RealFolder, RealSink};
+use std::alloc::AllocError;
 use std::process::ExitCode;
 use std::rt::Env;
 use std::{env, io};
@@ -16,13 +19,30 @@ fn words(rt: &(impl Env + AllocGlobal)) -> io::Result<Vec<String>> {
     Ok(words)
 }
 
-fn main(rt: HostRuntime) -> ExitCode {
+/// Runs the words, with standard error as the one desk. The only error is want of memory.
+fn run(rt: HostRuntime, words: &[String]) -> Result<Status, AllocError> {
+    let alloc = rt.alloc();
     let mut folder = RealFolder::new(rt);
     let mut out = RealSink::new(rt.stdout());
-    let status = match words(&rt) {
-        Ok(words) => margin_house(rt.alloc(), words.as_slice(), &mut folder, &mut out),
-        Err(error) if error.kind() == io::ErrorKind::OutOfMemory => Status::Memory,
-        Err(_) => margin_house(rt.alloc(), &[], &mut folder, &mut out),
+    let desk = SinkDesk::new(alloc, RealSink::new(rt.stderr()));
+    let mut desks: Vec<Box<dyn Desk>> = Vec::new(alloc);
+    desks.push(Box::new(alloc, desk)?)?;
+    let mut retired = Vec::new(alloc);
+    Ok(margin_house(
+        alloc,
+        words,
+        &mut folder,
+        &mut out,
+        &mut desks,
+        &mut retired,
+    ))
+}
+
+fn main(rt: HostRuntime) -> ExitCode {
+    let outcome = match words(&rt) {
+        Ok(words) => run(rt, words.as_slice()),
+        Err(error) if error.kind() == io::ErrorKind::OutOfMemory => Err(AllocError),
+        Err(_) => run(rt, &[]),
     };
-    ExitCode::from(status.code())
+    ExitCode::from(outcome.unwrap_or(Status::Memory).code())
 }

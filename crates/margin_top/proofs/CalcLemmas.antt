@@ -7,7 +7,6 @@ use Rattle.simm_kinds.specs.declared.row.TradeRows.{TradeRows}
 use Rattle.simm_rules.specs.declared.values.Breakdown.{Breakdown}
 use Rattle.simm_rules.specs.Params.{Params}
 use Rattle.simm_params.specs.Grammar.{params_of}
-use Rattle.crif_reader.specs.Grammar.{crif_of}
 use Rattle.margin_top.specs.declared.status.Status.{Status}
 use Rattle.margin_top.specs.declared.status.Status.TheVariants as status
 use Rattle.margin_top.specs.declared.fault.FileFault.{FileFault}
@@ -17,7 +16,7 @@ use Rattle.margin_top.specs.declared.fault.ValueFault.TheVariants as value
 use Rattle.margin_top.specs.declared.fault.CalcFault.{CalcFault}
 use Rattle.margin_top.specs.declared.fault.CalcFault.TheVariants as fault
 use Rattle.margin_top.specs.Files.{Deeds, no_deeds, with_reading, told_after, Did, IsWhole, IsTooLong, IsRead, Failed, NoValue}
-use Rattle.margin_top.specs.Grammars.{RefusesTrades}
+use Rattle.margin_top.specs.Grammars.{GivesTrades, RefusesTrades}
 use Rattle.margin_top.specs.Calc.{GotLine, HasBoth, HasMargin, CrifFails, Cause, MarginPrints, status_of, fault_text, CalcEnds}
 use Rattle.margin_top.proofs.FileLemmas.{did_more, rises_earlier}
 
@@ -65,7 +64,7 @@ crif_failed old mid new params_name crif_name p f first finds reads h = record {
 }
 
 -- both files were read
-pub both_read : (old mid new : FolderSeen) (params_name crif_name : List ℕ) (p : Params) (trades : List TradeRows) → IsRead old mid no_deeds params_name (λ bytes. params_of bytes ≡ Some p) → IsRead mid new no_deeds crif_name (λ bytes. crif_of bytes ≡ Some trades) → HasBoth params_name crif_name old new p trades
+pub both_read : (old mid new : FolderSeen) (params_name crif_name : List ℕ) (p : Params) (trades : List TradeRows) → IsRead old mid no_deeds params_name (λ bytes. params_of bytes ≡ Some p) → IsRead mid new no_deeds crif_name (λ bytes. GivesTrades bytes trades) → HasBoth params_name crif_name old new p trades
 both_read old mid new params_name crif_name p trades first second = record {
   param_bytes = first.bytes;
   param_faults = first.faults;
@@ -97,6 +96,7 @@ ends_with_margin params_name crif_name old new out_old out_new b status.Terms ma
 ends_with_margin params_name crif_name old new out_old out_new b status.Find margin h = absurd h
 ends_with_margin params_name crif_name old new out_old out_new b status.Read margin h = absurd h
 ends_with_margin params_name crif_name old new out_old out_new b status.Feed margin h = absurd h
+ends_with_margin params_name crif_name old new out_old out_new b status.Desk margin h = absurd h
 
 -- how a calculation with a fault ends, where this line was printed
 pub ends_at_fault : (params_name crif_name : List ℕ) (old new : FolderSeen) (out_old out_new : SinkSeen) (f : CalcFault) (s : Status) (line : List ℕ) → Cause params_name crif_name old new f → s ≡ status_of f → line ≡ fault_text params_name crif_name f → GotLine out_old out_new line → CalcEnds params_name crif_name old new out_old out_new s

@@ -1,5 +1,5 @@
 -- A calculation for which all is well succeeds, or finds no memory.
-use Rattle.std.proofs.Common.{◌≡◌, ℕ, List, Some, None, ap, sym, refl, subst, ◌∙◌}
+use Rattle.std.proofs.Common.{◌≡◌, ℕ, List, Some, None, Result, Ok, Err, IsOkAnd, ap, sym, refl, subst, ◌∙◌}
 use Rattle.mh_io.specs.Sink.{SinkSeen}
 use Rattle.mh_io.specs.Folder.{FolderSeen}
 use Rattle.simm_kinds.specs.declared.row.TradeRows.{TradeRows}
@@ -7,16 +7,17 @@ use Rattle.simm_kinds.specs.Batch.{rows_of}
 use Rattle.simm_rules.specs.Params.{Params}
 use Rattle.simm_rules.specs.Range.{range}
 use Rattle.simm_params.specs.Grammar.{params_of}
-use Rattle.crif_reader.specs.Grammar.{crif_of}
+use Rattle.crif_reader.specs.declared.fault.CrifFault.{CrifFault}
+use Rattle.crif_reader.specs.Grammar.{Crif, crif_of}
 use Rattle.margin_top.specs.declared.status.Status.{Status}
 use Rattle.margin_top.specs.declared.status.Status.TheVariants as status
 use Rattle.margin_top.specs.declared.fault.CalcFault.{CalcFault}
 use Rattle.margin_top.specs.declared.fault.CalcFault.TheVariants as fault
 use Rattle.margin_top.specs.Files.{IsWhole, no_deeds, with_reading}
-use Rattle.margin_top.specs.Grammars.{RefusesParams, RefusesTrades}
+use Rattle.margin_top.specs.Grammars.{RefusesParams, GivesTrades, RefusesTrades}
 use Rattle.margin_top.specs.Calc.{Cause, status_of, status_of_value, CalcEnds}
 use Rattle.margin_top.specs.Complete.{IsWell, EndsWell}
-use Rattle.margin_top.proofs.KnownFiles.{same_bytes, only_memory_for, params_taken}
+use Rattle.margin_top.proofs.KnownFiles.{same_bytes, only_memory_for, params_taken, trades_taken}
 
 -- parameters that were read are those of the file
 same_params : (pn cn : List ℕ) (old new : FolderSeen) (out_old out_new : SinkSeen) (w : IsWell pn cn old new out_old out_new) (bytes : List ℕ) (p : Params) → IsWhole old pn bytes → params_of bytes ≡ Some p → p ≡ w.p
@@ -26,12 +27,15 @@ same_params pn cn old new out_old out_new w bytes p whole read =
     let known : params_of w.param_bytes ≡ Some w.p = w.params_read in
     cc
 
-same_trades : (pn cn : List ℕ) (old new : FolderSeen) (out_old out_new : SinkSeen) (w : IsWell pn cn old new out_old out_new) (bytes : List ℕ) (trades : List TradeRows) → IsWhole old cn bytes → crif_of bytes ≡ Some trades → trades ≡ w.trades
+-- a file has one batch
+one_batch : (read : Result Crif CrifFault) (a b : List TradeRows) → IsOkAnd read (λ crif. crif.trades ≡ a) → IsOkAnd read (λ crif. crif.trades ≡ b) → a ≡ b
+one_batch (Ok crif) a b h g = sym h ∙ g
+one_batch (Err e) a b h g = absurd h
+
+same_trades : (pn cn : List ℕ) (old new : FolderSeen) (out_old out_new : SinkSeen) (w : IsWell pn cn old new out_old out_new) (bytes : List ℕ) (trades : List TradeRows) → IsWhole old cn bytes → GivesTrades bytes trades → trades ≡ w.trades
 same_trades pn cn old new out_old out_new w bytes trades whole read =
     let same : bytes ≡ w.crif_bytes = same_bytes old.told w.t cn bytes w.crif_bytes w.told whole.whole w.has_crif in
-    let read' : crif_of w.crif_bytes ≡ Some trades = subst (λ b. crif_of b ≡ Some trades) same read in
-    let known : crif_of w.crif_bytes ≡ Some w.trades = w.crif_read in
-    cc
+    one_batch (crif_of w.crif_bytes) trades w.trades (subst (λ b. GivesTrades b trades) same read) w.crif_read
 
 -- no fault comes but want of memory
 only_memory : (pn cn : List ℕ) (old new : FolderSeen) (out_old out_new : SinkSeen)
@@ -41,11 +45,10 @@ only_memory pn cn old new out_old out_new w (fault.OfParams f) h =
     (only_memory_for old new no_deeds pn w.param_bytes RefusesParams w.t f w.told w.has_params w.params_fit
     (params_taken w.param_bytes w.p w.params_read) w.finds_stood w.reads_stood h)
 only_memory pn cn old new out_old out_new w (fault.OfCrif f) h =
-    let known : crif_of w.crif_bytes ≡ Some w.trades = w.crif_read in
-    let taken : (line : List ℕ) → RefusesTrades w.crif_bytes line → ⊥ = λ line refused. let none = refused.0 in cc in
     let before = with_reading no_deeds pn h.param_bytes h.param_faults in
     ap (status_of_value status.Terms)
-    (only_memory_for old new before cn w.crif_bytes RefusesTrades w.t f w.told w.has_crif w.crif_fits taken
+    (only_memory_for old new before cn w.crif_bytes RefusesTrades w.t f w.told w.has_crif w.crif_fits
+    (trades_taken w.crif_bytes w.trades w.crif_read)
     w.finds_stood w.reads_stood h.failed)
 only_memory pn cn old new out_old out_new w fault.OutOfRange h =
     let b = h.both in
@@ -62,6 +65,7 @@ ends_well pn cn old new out_old out_new status.Done h w = tt
 ends_well pn cn old new out_old out_new status.Memory h w = tt
 ends_well pn cn old new out_old out_new status.Words h w = absurd h
 ends_well pn cn old new out_old out_new status.Feed h w = absurd h
+ends_well pn cn old new out_old out_new status.Desk h w = absurd h
 ends_well pn cn old new out_old out_new status.Write h w = absurd (w.puts_stood (h.printed).rose)
 ends_well pn cn old new out_old out_new status.Params h w = let e : status.Params ≡ status.Memory = sym h.status ∙ only_memory pn cn old new out_old out_new w h.f h.cause in cc
 ends_well pn cn old new out_old out_new status.Terms h w = let e : status.Terms ≡ status.Memory = sym h.status ∙ only_memory pn cn old new out_old out_new w h.f h.cause in cc

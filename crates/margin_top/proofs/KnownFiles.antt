@@ -1,5 +1,5 @@
 -- What a folder that tells a file excludes: what was read is the file, and where it fits no fault of it comes.
-use Rattle.std.proofs.Common.{◌≡◌, ℕ, ◌≤◌, List, ◌++◌, length, Option, Some, IfSome, Result, Ok, Err, IsErrAnd, ap, refl, subst, length-append, arith}
+use Rattle.std.proofs.Common.{◌≡◌, ℕ, ◌≤◌, List, ◌++◌, length, Option, Some, IfSome, Result, Ok, Err, IsOkAnd, IsErrAnd, ap, refl, subst, length-append, arith}
 use Rattle.std.specs.Result.{result_ok}
 use Rattle.mh_io.specs.Faults.{Rises}
 use Rattle.mh_io.specs.Folder.{Telling, file_of, FolderSeen}
@@ -7,8 +7,12 @@ use Rattle.mh_io.specs.Limits.{most_bytes}
 use Rattle.simm_rules.specs.Params.{Params}
 use Rattle.simm_params.specs.declared.fault.ParamFault.{ParamFault}
 use Rattle.simm_params.specs.Grammar.{params_of, params_read}
+use Rattle.simm_kinds.specs.declared.row.TradeRows.{TradeRows}
+use Rattle.crif_reader.specs.declared.fault.CrifFault.{CrifFault}
+use Rattle.crif_reader.specs.Grammar.{Crif, crif_of}
 use Rattle.csa_terms.specs.Grammar.{terms_of}
 use Rattle.csa_terms.specs.Terms.{Agreement}
+use Rattle.margin_text.specs.CrifLine.{crif_fault}
 use Rattle.margin_text.specs.ParamsLine.{params_fault}
 use Rattle.margin_text.specs.TermsLine.{terms_fault}
 use Rattle.margin_top.specs.declared.fault.FileFault.{FileFault}
@@ -16,7 +20,7 @@ use Rattle.margin_top.specs.declared.fault.FileFault.TheVariants as file
 use Rattle.margin_top.specs.declared.fault.ValueFault.{ValueFault}
 use Rattle.margin_top.specs.declared.fault.ValueFault.TheVariants as value
 use Rattle.margin_top.specs.Files.{Deeds, Failed, NoValue}
-use Rattle.margin_top.specs.Grammars.{RefusesParams, RefusesTerms}
+use Rattle.margin_top.specs.Grammars.{RefusesParams, RefusesTerms, GivesTrades, RefusesTrades}
 
 -- what was read whole of a file is the file
 pub same_bytes : (told : Option Telling) (t : Telling) (name a b : List ℕ) → told ≡ Some t
@@ -69,6 +73,14 @@ params_taken bytes p known line refused = at (params_read bytes) known refused
     at : (read : Result Params ParamFault) → result_ok read ≡ Some p → IsErrAnd read (λ e. line ≡ params_fault e) → ⊥
     at (Ok q) known refused = absurd refused
     at (Err e) known refused = cc
+
+-- bytes that give a batch are not refused
+pub trades_taken : (bytes : List ℕ) (trades : List TradeRows) → GivesTrades bytes trades → (line : List ℕ) → RefusesTrades bytes line → ⊥
+trades_taken bytes trades known line refused = at (crif_of bytes) known refused
+  where
+    at : (read : Result Crif CrifFault) → IsOkAnd read (λ crif. crif.trades ≡ trades) → IsErrAnd read (λ e. line ≡ crif_fault e) → ⊥
+    at (Ok crif) known refused = absurd refused
+    at (Err e) known refused = absurd known
 
 -- bytes that give terms are not refused
 pub terms_taken : (bytes : List ℕ) (agreements : List Agreement) → terms_of bytes ≡ Ok agreements → (line : List ℕ) → RefusesTerms bytes line → ⊥

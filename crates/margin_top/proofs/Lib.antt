@@ -6,4 +6,7 @@ pub mod RunLemmas
 pub mod KnownFiles
 pub mod LongLines
 pub mod FeedStops
+pub mod DeskLemmas
+pub mod NoticeLemmas
+pub mod RunEndLemmas
 pub mod RunComplete

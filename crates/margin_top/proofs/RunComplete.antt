@@ -18,12 +18,15 @@ use Rattle.margin_top.specs.declared.run_fault.RunFault.TheVariants as fault
 use Rattle.margin_top.specs.Files.{no_deeds, with_reading}
 use Rattle.margin_top.specs.Grammars.{RefusesParams, RefusesTerms}
 use Rattle.margin_top.specs.Calc.{status_of_value}
-use Rattle.margin_top.specs.Run.{HasRun, RunCause, RunPrints, RunEnds, status_of_end, status_of_run}
+use Rattle.margin_top.specs.Notices.{notices}
+use Rattle.margin_top.specs.Desks.{Desks}
+use Rattle.margin_top.specs.Run.{HasRun, RunCause, RunLeaves, RunEnds, status_of_end, status_of_run}
 use Rattle.margin_top.specs.Complete.{IsWellRun, EndsWell}
 use Rattle.margin_top.proofs.FileLemmas.{rises_earlier}
 use Rattle.margin_top.proofs.CalcLemmas.{files_before}
 use Rattle.margin_top.proofs.KnownFiles.{same_bytes, front_bytes, only_memory_for, params_taken, terms_taken}
 use Rattle.margin_top.proofs.FeedStops.{not_cut, not_long, not_over}
+use Rattle.margin_top.proofs.DeskLemmas.{none_failed}
 
 -- the end of a feed that is whole and fits, of which a front was taken
 whole_end : (end : FeedEnd) (items : List Item) (taken rest bytes : List ℕ) (ended : Bool)
@@ -41,8 +44,8 @@ whole_end (end_at.TooLong n) items taken rest bytes ended is front all few whole
 whole_end end_at.ReadFault items taken rest bytes ended is front all few whole e = cc e
 whole_end (end_at.Memory line) items taken rest bytes ended is front all few whole e = cc e
 
-module _ {pn tn fn : List ℕ} {old new : FolderSeen} {out_old out_new : SinkSeen}
-    (w : IsWellRun pn tn fn old new out_old out_new) where
+module _ {B : Type 0} {pn tn fn : List ℕ} {old new : FolderSeen} {out_old out_new : SinkSeen} {d : Desks B}
+    (w : IsWellRun pn tn fn old new out_old out_new d) where
   -- no fault comes but want of memory
   only_memory : (f : RunFault) → RunCause pn tn fn old new f → status_of_run f ≡ status.Memory
   only_memory (fault.OfParams f) h =
@@ -75,22 +78,26 @@ module _ {pn tn fn : List ℕ} {old new : FolderSeen} {out_old out_new : SinkSee
       let ran = fed.ran in
       whole_end r.end ran.items fed.taken front.0 w.feed_bytes fed.ended ran.stop front.1 all w.feed_fits w.feed_whole e
 
-  -- what a run that reached its feed prints
-  prints_well : (sets : List Set) (r : FeedReport) (s : Status) → HasRun pn tn fn old new sets r
-      → RunPrints sets r out_old out_new s → EndsWell s
-  prints_well sets r status.Done run h = tt
-  prints_well sets r status.Memory run h = tt
-  prints_well sets r status.Write run h = absurd (w.puts_stood (h.1).rose)
-  prints_well sets r status.Feed run h = absurd (to_the_end sets r run h.0)
-  prints_well sets r status.Read run h =
+  -- what a run that reached its feed leaves
+  leaves_well : (sets : List Set) (r : FeedReport) (s : Status) → HasRun pn tn fn old new sets r
+      → RunLeaves sets r out_old out_new d s → EndsWell s
+  leaves_well sets r status.Done run h = tt
+  leaves_well sets r status.Memory run h = tt
+  leaves_well sets r status.Write run h = absurd (w.puts_stood (h.1).rose)
+  leaves_well sets r status.Feed run h = absurd (to_the_end sets r run h.0)
+  leaves_well sets r status.Read run h =
       let failed = (run.fed).failed h.0 in
       absurd (w.reads_stood (rises_earlier old.read_faults (run.mid).read_faults new.read_faults (run.inputs).reads failed.1))
-  prints_well sets r status.Words run h = absurd h
-  prints_well sets r status.Params run h = absurd h
-  prints_well sets r status.Terms run h = absurd h
-  prints_well sets r status.Find run h = absurd h
+  leaves_well sets r status.Desk run h =
+      let one = h.2 in
+      let told = one.told in
+      absurd (none_failed (notices sets) d told.published told.outcomes told.publishes w.desks_stay one.o one.there one.failed)
+  leaves_well sets r status.Words run h = absurd h
+  leaves_well sets r status.Params run h = absurd h
+  leaves_well sets r status.Terms run h = absurd h
+  leaves_well sets r status.Find run h = absurd h
 
   -- no other status than Done and Memory comes
-  pub run_ends_well : (s : Status) → RunEnds pn tn fn old new out_old out_new s → EndsWell s
-  run_ends_well s (inl h) = prints_well h.sets h.r s h.run h.printed
+  pub run_ends_well : (s : Status) → RunEnds pn tn fn old new out_old out_new d s → EndsWell s
+  run_ends_well s (inl h) = leaves_well h.sets h.r s h.run h.leaves
   run_ends_well s (inr h) = subst EndsWell (sym (only_memory h.f h.cause) ∙ h.status) tt

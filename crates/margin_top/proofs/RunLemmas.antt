@@ -22,6 +22,7 @@ use Rattle.margin_top.specs.declared.fault.ValueFault.{ValueFault}
 use Rattle.margin_top.specs.Files.{no_deeds, with_reading, IsRead, NoValue}
 use Rattle.margin_top.specs.Grammars.{RefusesTerms}
 use Rattle.margin_top.specs.Calc.{GotLine}
+use Rattle.margin_top.specs.Desks.{Desks, AreUntold}
 use Rattle.margin_top.specs.Run.{start, HasInputs, IsFed, HasRun, TermsFail, FindEnds, FeedFails, RunCause, RunEnds, status_of_run, run_fault_text}
 use Rattle.margin_top.proofs.FileLemmas.{did_ask, did_nothing, did_more}
 use Rattle.margin_top.proofs.CalcLemmas.{whole_before, no_value_after}
@@ -105,16 +106,17 @@ written new old n same e =
     ∙ take_all n new (omega (arith, same, e))
 
 -- the feed was run on the sets of the terms
-pub has_run : (old mid new : FolderSeen) (pn tn fn : List ℕ) (p : Params) (agreements : List Agreement) (started sets : List Set) (r : FeedReport) → HasInputs pn tn old mid p agreements → started ≡ map (start p) agreements → IsFed fn mid new started sets r → AreKept started sets → HasRun pn tn fn old new sets r × (agreements ≡ map (λ s. s.terms) sets)
-has_run old mid new pn tn fn p agreements started sets r inputs begun fed kept = (
+pub has_run : (old mid new : FolderSeen) (pn tn fn : List ℕ) (p : Params) (agreements : List Agreement) (started sets : List Set) (r : FeedReport) → HasInputs pn tn old mid p agreements → started ≡ map (start p) agreements → IsFed fn mid new started sets r → AreApart started → AreKept started sets → HasRun pn tn fn old new sets r × (agreements ≡ map (λ s. s.terms) sets) × (length sets ≤ 16)
+has_run old mid new pn tn fn p agreements started sets r inputs begun fed apart kept = (
   record { p = p; agreements = agreements; mid = mid; inputs = inputs; fed = subst (λ ss. IsFed fn mid new ss sets r) begun fed; legal = kept.legal },
   sym (kept.terms ∙ ap (map (λ s. s.terms)) begun ∙ start_terms p agreements),
+  omega (arith, apart.few, ap length kept.terms, length-map sets (λ (s : Set). s.terms), length-map started (λ (s : Set). s.terms)),
 )
 
 pub feed_failed : (old mid new : FolderSeen) (pn tn fn : List ℕ) (p : Params) (agreements : List Agreement) (why : FindRefused) → HasInputs pn tn old mid p agreements → FindEnds mid new fn why → FeedFails pn tn fn old new why
 feed_failed old mid new pn tn fn p agreements why inputs h = record { p = p; agreements = agreements; mid = mid; inputs = inputs; missing = h }
 
--- a run ended before its feed, and this line was printed
-pub at_fault : (pn tn fn : List ℕ) (old new : FolderSeen) (out_old out_new : SinkSeen) (f : RunFault) (s : Status) (line : List ℕ) → RunCause pn tn fn old new f → s ≡ status_of_run f → line ≡ run_fault_text pn tn fn f → GotLine out_old out_new line → RunEnds pn tn fn old new out_old out_new s
-at_fault pn tn fn old new out_old out_new f s line cause status is printed =
-    inr (record { f = f; cause = cause; status = sym status; printed = subst (GotLine out_old out_new) is printed })
+-- a run ended before its feed, this line was printed, and the desks stand
+pub at_fault : {B : Type 0} (pn tn fn : List ℕ) (old new : FolderSeen) (out_old out_new : SinkSeen) (d : Desks B) (f : RunFault) (s : Status) (line : List ℕ) → RunCause pn tn fn old new f → s ≡ status_of_run f → line ≡ run_fault_text pn tn fn f → GotLine out_old out_new line → AreUntold d → RunEnds pn tn fn old new out_old out_new d s
+at_fault pn tn fn old new out_old out_new d f s line cause status is printed untold =
+    inr (record { f = f; cause = cause; status = sym status; printed = subst (GotLine out_old out_new) is printed; untold = untold })

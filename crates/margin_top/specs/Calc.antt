@@ -12,7 +12,6 @@ use Rattle.simm_rules.specs.Params.{Params}
 use Rattle.simm_rules.specs.Simm.{simm}
 use Rattle.simm_rules.specs.Range.{range}
 use Rattle.simm_params.specs.Grammar.{params_of}
-use Rattle.crif_reader.specs.Grammar.{crif_of}
 use Rattle.margin_top.specs.declared.status.Status.{Status}
 use Rattle.margin_top.specs.declared.status.Status.TheVariants as status
 use Rattle.margin_top.specs.declared.fault.FileFault.{FileFault}
@@ -24,7 +23,7 @@ use Rattle.margin_top.specs.declared.fault.CalcFault.TheVariants as fault
 use Rattle.margin_text.specs.Margins.{margin_text}
 use Rattle.margin_top.specs.Lines.{refused_fault, find_fault, read_fault, long_fault}
 use Rattle.margin_top.specs.Files.{no_deeds, with_reading, Did, IsWhole, NoValue}
-use Rattle.margin_top.specs.Grammars.{RefusesParams, RefusesTrades}
+use Rattle.margin_top.specs.Grammars.{RefusesParams, GivesTrades, RefusesTrades}
 
 -- the sink got the whole text
 abbrev pub Got : SinkSeen → SinkSeen → List ℕ → Type 0
@@ -57,7 +56,7 @@ pub record HasBoth (params_name crif_name : List ℕ) (old new : FolderSeen) (p 
   pub did : Did old new (with_reading (with_reading no_deeds params_name param_bytes param_faults) crif_name crif_bytes crif_faults)
   pub params : HasParams old params_name param_bytes p
   pub whole : IsWhole old crif_name crif_bytes
-  pub values : crif_of crif_bytes ≡ Some trades
+  pub values : GivesTrades crif_bytes trades
 
 -- The margin is that of the written rule, over the parameters and the book that the two files have by their grammars.
 pub record HasMargin (params_name crif_name : List ℕ) (old new : FolderSeen) (b : Breakdown) : Type 0 where
@@ -166,5 +165,6 @@ abbrev pub CalcEnds : List ℕ → List ℕ → FolderSeen → FolderSeen → Si
 CalcEnds params_name crif_name old new out_old out_new status.Done = EndsDone params_name crif_name old new out_old out_new
 CalcEnds params_name crif_name old new out_old out_new status.Words = ⊥
 CalcEnds params_name crif_name old new out_old out_new status.Feed = ⊥
+CalcEnds params_name crif_name old new out_old out_new status.Desk = ⊥
 CalcEnds params_name crif_name old new out_old out_new status.Write = EndsAtWrite params_name crif_name old new out_old out_new
 CalcEnds params_name crif_name old new out_old out_new s = EndsAtFault params_name crif_name old new out_old out_new s

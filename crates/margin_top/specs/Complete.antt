@@ -9,12 +9,13 @@ use Rattle.simm_kinds.specs.Batch.{rows_of}
 use Rattle.simm_rules.specs.Params.{Params}
 use Rattle.simm_rules.specs.Range.{range}
 use Rattle.simm_params.specs.Grammar.{params_of}
-use Rattle.crif_reader.specs.Grammar.{crif_of}
 use Rattle.csa_terms.specs.Grammar.{terms_of}
 use Rattle.csa_terms.specs.Terms.{Agreement}
 use Rattle.feed_reader.specs.Feed.{Whole, feed}
 use Rattle.margin_top.specs.declared.status.Status.{Status}
 use Rattle.margin_top.specs.declared.status.Status.TheVariants as status
+use Rattle.margin_top.specs.Grammars.{GivesTrades}
+use Rattle.margin_top.specs.Desks.{Desks}
 use Rattle.margin_top.specs.Words.{Form, Calc, Run, form_of}
 
 -- the folder has both files, neither is too long, both are inside their grammars, the book is in range, and no count
@@ -31,16 +32,17 @@ pub record IsWell (params_name crif_name : List ℕ) (old new : FolderSeen) (out
   pub params_fit : length param_bytes ≤ most_bytes
   pub crif_fits : length crif_bytes ≤ most_bytes
   pub params_read : params_of param_bytes ≡ Some p
-  pub crif_read : crif_of crif_bytes ≡ Some trades
+  pub crif_read : GivesTrades crif_bytes trades
   pub in_range : range p (rows_of trades) ≡ None
   pub finds_stood : Rises old.find_faults new.find_faults → ⊥
   pub reads_stood : Rises old.read_faults new.read_faults → ⊥
   pub puts_stood : Rises out_old.faults out_new.faults → ⊥
 
 -- The folder has the three files, none is too long, parameters and terms are inside their grammars, the feed stops
--- whole, and no count of faults rose. A feed may have lines that are no message, and messages that are refused.
-pub record IsWellRun (params_name terms_name feed_name : List ℕ) (old new : FolderSeen)
-    (out_old out_new : SinkSeen) : Type 0 where
+-- whole, no count of faults rose, and no desk was retired. A feed may have lines that are no message, and messages that are
+-- refused.
+pub record IsWellRun {B : Type 0} (params_name terms_name feed_name : List ℕ) (old new : FolderSeen)
+    (out_old out_new : SinkSeen) (d : Desks B) : Type 0 where
   pub t : Telling
   pub param_bytes : List ℕ
   pub terms_bytes : List ℕ
@@ -60,15 +62,16 @@ pub record IsWellRun (params_name terms_name feed_name : List ℕ) (old new : Fo
   pub finds_stood : Rises old.find_faults new.find_faults → ⊥
   pub reads_stood : Rises old.read_faults new.read_faults → ⊥
   pub puts_stood : Rises out_old.faults out_new.faults → ⊥
+  pub desks_stay : d.retired ≡ d.retired_before
 
 -- the words are a command, and all is well for it
-abbrev pub IsWellForm : Option Form → FolderSeen → FolderSeen → SinkSeen → SinkSeen → Type 0
-IsWellForm None old new out_old out_new = ⊥
-IsWellForm (Some (Calc params crif)) old new out_old out_new = IsWell params crif old new out_old out_new
-IsWellForm (Some (Run params terms feed)) old new out_old out_new = IsWellRun params terms feed old new out_old out_new
+abbrev pub IsWellForm : {B : Type 0} → Option Form → FolderSeen → FolderSeen → SinkSeen → SinkSeen → Desks B → Type 0
+IsWellForm None old new out_old out_new d = ⊥
+IsWellForm (Some (Calc params crif)) old new out_old out_new d = IsWell params crif old new out_old out_new
+IsWellForm (Some (Run params terms feed)) old new out_old out_new d = IsWellRun params terms feed old new out_old out_new d
 
-abbrev pub IsWellHouse : List (List ℕ) → FolderSeen → FolderSeen → SinkSeen → SinkSeen → Type 0
-IsWellHouse words old new out_old out_new = IsWellForm (form_of words) old new out_old out_new
+abbrev pub IsWellHouse : {B : Type 0} → List (List ℕ) → FolderSeen → FolderSeen → SinkSeen → SinkSeen → Desks B → Type 0
+IsWellHouse words old new out_old out_new d = IsWellForm (form_of words) old new out_old out_new d
 
 -- all of it is printed, or memory ran out
 abbrev pub EndsWell : Status → Type 0

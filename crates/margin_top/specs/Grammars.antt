@@ -1,5 +1,5 @@
 -- What the bytes of a file are by its grammar: a value, or refused with the line that tells their first fault.
-use Rattle.std.specs.Prelude.{ℕ, ◌≡◌, List, Some, None, Ok, IsErrAnd}
+use Rattle.std.specs.Prelude.{ℕ, ◌≡◌, List, Some, Ok, IsOkAnd, IsErrAnd}
 use Rattle.simm_kinds.specs.declared.row.TradeRows.{TradeRows}
 use Rattle.simm_rules.specs.Params.{Params}
 use Rattle.simm_params.specs.Grammar.{params_of, params_read}
@@ -8,7 +8,7 @@ use Rattle.csa_terms.specs.Grammar.{terms_of}
 use Rattle.csa_terms.specs.Terms.{Agreement}
 use Rattle.margin_text.specs.ParamsLine.{params_fault}
 use Rattle.margin_text.specs.TermsLine.{terms_fault}
-use Rattle.margin_top.specs.Lines.{crif_fault}
+use Rattle.margin_text.specs.CrifLine.{crif_fault}
 
 abbrev pub GivesParams : List ℕ → Params → Type 0
 GivesParams bytes p = params_of bytes ≡ Some p
@@ -16,11 +16,12 @@ GivesParams bytes p = params_of bytes ≡ Some p
 abbrev pub RefusesParams : List ℕ → List ℕ → Type 0
 RefusesParams bytes line = IsErrAnd (params_read bytes) (λ e. line ≡ params_fault e)
 
+-- the batch of a CRIF file, however many records were passed over
 abbrev pub GivesTrades : List ℕ → List TradeRows → Type 0
-GivesTrades bytes trades = crif_of bytes ≡ Some trades
+GivesTrades bytes trades = IsOkAnd (crif_of bytes) (λ crif. crif.trades ≡ trades)
 
 abbrev pub RefusesTrades : List ℕ → List ℕ → Type 0
-RefusesTrades bytes line = (crif_of bytes ≡ None) × (line ≡ crif_fault)
+RefusesTrades bytes line = IsErrAnd (crif_of bytes) (λ e. line ≡ crif_fault e)
 
 abbrev pub GivesTerms : List ℕ → List Agreement → Type 0
 GivesTerms bytes agreements = terms_of bytes ≡ Ok agreements

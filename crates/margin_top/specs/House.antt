@@ -7,19 +7,21 @@ use Rattle.margin_top.specs.declared.status.Status.TheVariants as status
 use Rattle.margin_top.specs.Words.{Form, Calc, Run, form_of}
 use Rattle.margin_top.specs.Lines.{words_fault}
 use Rattle.margin_top.specs.Calc.{GotLine, CalcEnds}
+use Rattle.margin_top.specs.Desks.{Desks, AreUntold}
 use Rattle.margin_top.specs.Run.{RunEnds}
 
--- the words are no form of a command: the folder stands, and one line is printed
-pub record EndsAtWords (old new : FolderSeen) (out_old out_new : SinkSeen) (s : Status) : Type 0 where
+-- the words are no form of a command: the folder and the desks stand, and one line is printed
+pub record EndsAtWords {B : Type 0} (old new : FolderSeen) (out_old out_new : SinkSeen) (d : Desks B) (s : Status) : Type 0 where
   pub status : s ≡ status.Words
   pub folder : new ≡ old
   pub printed : GotLine out_old out_new words_fault
+  pub untold : AreUntold d
 
--- what each form of words does
-abbrev pub FormEnds : Option Form → FolderSeen → FolderSeen → SinkSeen → SinkSeen → Status → Type 0
-FormEnds None old new out_old out_new s = EndsAtWords old new out_old out_new s
-FormEnds (Some (Calc params crif)) old new out_old out_new s = CalcEnds params crif old new out_old out_new s
-FormEnds (Some (Run params terms feed)) old new out_old out_new s = RunEnds params terms feed old new out_old out_new s
+-- what each form of words does; a calculation tells no desk
+abbrev pub FormEnds : {B : Type 0} → Option Form → FolderSeen → FolderSeen → SinkSeen → SinkSeen → Desks B → Status → Type 0
+FormEnds None old new out_old out_new d s = EndsAtWords old new out_old out_new d s
+FormEnds (Some (Calc params crif)) old new out_old out_new d s = CalcEnds params crif old new out_old out_new s × AreUntold d
+FormEnds (Some (Run params terms feed)) old new out_old out_new d s = RunEnds params terms feed old new out_old out_new d s
 
-abbrev pub HouseEnds : List (List ℕ) → FolderSeen → FolderSeen → SinkSeen → SinkSeen → Status → Type 0
-HouseEnds words old new out_old out_new s = FormEnds (form_of words) old new out_old out_new s
+abbrev pub HouseEnds : {B : Type 0} → List (List ℕ) → FolderSeen → FolderSeen → SinkSeen → SinkSeen → Desks B → Status → Type 0
+HouseEnds words old new out_old out_new d s = FormEnds (form_of words) old new out_old out_new d s

@@ -6,6 +6,8 @@ pub mod Files
 pub mod Grammars
 pub mod FaultLine
 pub mod Calc
+pub mod Notices
+pub mod Desks
 pub mod Complete
 pub mod Run
 pub mod RunStages

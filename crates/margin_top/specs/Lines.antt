@@ -5,9 +5,6 @@ use Rattle.margin_text.specs.Fields.{last_field}
 abbrev pub words_fault : List ℕ
 words_fault = codes "FAULT\tWORDS\n"
 
-abbrev pub crif_fault : List ℕ
-crif_fault = codes "FAULT\tCRIF\n"
-
 abbrev pub refused_fault : List ℕ
 refused_fault = codes "FAULT\tREFUSED\n"
 

@@ -1,4 +1,4 @@
--- What a run of a feed does: for each status what happened, and what was printed.
+-- What a run of a feed does: for each status what happened, what was printed, and which desks were told.
 use Rattle.std.specs.Prelude.{ℕ, ◌≡◌, ◌+◌, ◌<◌, ◌≤◌, List, [], ◌++◌, length, map, Bool, true, Some, IfSome, Ok, ◌⊎◌}
 use Rattle.std.specs.List.{AllByRecursion, flat_map}
 use Rattle.mh_io.specs.Faults.{Rises}
@@ -25,6 +25,8 @@ use Rattle.margin_top.specs.declared.run_fault.RunFault.TheVariants as fault
 use Rattle.margin_top.specs.Lines.{find_fault}
 use Rattle.margin_top.specs.Files.{no_deeds, with_reading, Did, IsWhole, IsMissing, NoValue}
 use Rattle.margin_top.specs.Grammars.{RefusesParams, RefusesTerms}
+use Rattle.margin_top.specs.Notices.{notices}
+use Rattle.margin_top.specs.Desks.{Desks, AreUntold, AreTold, AllAreTold, OneFailed, OneWanted}
 use Rattle.margin_top.specs.Calc.{Got, GotFront, GotLine, HasParams, status_of_value, line_of_value}
 
 -- the parameter file and then the terms file were read whole, with these values, and no count of faults fell
@@ -144,32 +146,52 @@ status_of_end (end_at.TooLong taken) = status.Feed
 status_of_end end_at.ReadFault = status.Read
 status_of_end (end_at.Memory line) = status.Memory
 
--- What printing a run does, by its status: that of the feed's end, but Write where the sink failed at a feed that
--- ended whole, and Memory where there was none for the text, of which then nothing is printed.
-abbrev pub RunPrints : List Set → FeedReport → SinkSeen → SinkSeen → Status → Type 0
-RunPrints sets r old new status.Done = (r.end ≡ end_at.End) × Got old new (run_text sets r)
-RunPrints sets r old new status.Write = (r.end ≡ end_at.End) × GotFront old new (run_text sets r)
-RunPrints sets r old new status.Feed = (status_of_end r.end ≡ status.Feed) × GotLine old new (run_text sets r)
-RunPrints sets r old new status.Read = (r.end ≡ end_at.ReadFault) × GotLine old new (run_text sets r)
-RunPrints sets r old new status.Memory = (new.holds ≡ old.holds) ⊎ ((status_of_end r.end ≡ status.Memory) × GotLine old new (run_text sets r))
-RunPrints sets r old new _ = ⊥
+-- Want of memory at the end: for the text, of which then nothing is printed, or for the notices. No desk was told.
+pub record IsStarvedAtEnd {B : Type 0} (sets : List Set) (r : FeedReport) (old new : SinkSeen) (d : Desks B) : Type 0 where
+  pub printed : (new.holds ≡ old.holds) ⊎ GotLine old new (run_text sets r)
+  pub untold : AreUntold d
+
+-- a feed for which memory ran out: all is printed that the sink takes, and the desks are told
+pub record IsFedShort {B : Type 0} (sets : List Set) (r : FeedReport) (old new : SinkSeen) (d : Desks B) : Type 0 where
+  pub short : status_of_end r.end ≡ status.Memory
+  pub printed : GotLine old new (run_text sets r)
+  pub told : AreTold (notices sets) d
+
+-- all is well but for a desk that found no memory
+pub record IsToldShort {B : Type 0} (sets : List Set) (r : FeedReport) (old new : SinkSeen) (d : Desks B) : Type 0 where
+  pub whole : r.end ≡ end_at.End
+  pub printed : Got old new (run_text sets r)
+  pub told : OneWanted (notices sets) d
+
+-- What printing a run and telling the desks its calls do, by the run's status. That is want of memory where there was none
+-- for the text or the notices; else that of a feed that didn't end whole; else Write where the sink failed; else Desk where a
+-- desk failed; else want of memory where a desk found none. But for the first of these each desk was told.
+abbrev pub RunLeaves : {B : Type 0} → List Set → FeedReport → SinkSeen → SinkSeen → Desks B → Status → Type 0
+RunLeaves sets r old new d status.Done = (r.end ≡ end_at.End) × Got old new (run_text sets r) × AllAreTold (notices sets) d
+RunLeaves sets r old new d status.Write = (r.end ≡ end_at.End) × GotFront old new (run_text sets r) × AreTold (notices sets) d
+RunLeaves sets r old new d status.Feed = (status_of_end r.end ≡ status.Feed) × GotLine old new (run_text sets r) × AreTold (notices sets) d
+RunLeaves sets r old new d status.Read = (r.end ≡ end_at.ReadFault) × GotLine old new (run_text sets r) × AreTold (notices sets) d
+RunLeaves sets r old new d status.Desk = (r.end ≡ end_at.End) × Got old new (run_text sets r) × OneFailed (notices sets) d
+RunLeaves sets r old new d status.Memory = IsStarvedAtEnd sets r old new d ⊎ (IsFedShort sets r old new d ⊎ IsToldShort sets r old new d)
+RunLeaves sets r old new d _ = ⊥
 
 -- the run reached its feed
-pub record EndsRun (params_name terms_name feed_name : List ℕ) (old new : FolderSeen) (out_old out_new : SinkSeen) (s : Status) : Type 0 where
+pub record EndsRun {B : Type 0} (params_name terms_name feed_name : List ℕ) (old new : FolderSeen) (out_old out_new : SinkSeen) (d : Desks B) (s : Status) : Type 0 where
   pub sets : List Set
   pub r : FeedReport
   pub run : HasRun params_name terms_name feed_name old new sets r
-  pub printed : RunPrints sets r out_old out_new s
+  pub leaves : RunLeaves sets r out_old out_new d s
 
--- the run ended before, with its cause, its status and its line
-pub record EndsRunAtFault (params_name terms_name feed_name : List ℕ) (old new : FolderSeen) (out_old out_new : SinkSeen) (s : Status) : Type 0 where
+-- the run ended before, with its cause, its status and its line, and no desk was told
+pub record EndsRunAtFault {B : Type 0} (params_name terms_name feed_name : List ℕ) (old new : FolderSeen) (out_old out_new : SinkSeen) (d : Desks B) (s : Status) : Type 0 where
   pub f : RunFault
   pub cause : RunCause params_name terms_name feed_name old new f
   pub status : status_of_run f ≡ s
   pub printed : GotLine out_old out_new (run_fault_text params_name terms_name feed_name f)
+  pub untold : AreUntold d
 
 -- what a run with this status did
-abbrev pub RunEnds : List ℕ → List ℕ → List ℕ → FolderSeen → FolderSeen → SinkSeen → SinkSeen → Status → Type 0
-RunEnds params_name terms_name feed_name old new out_old out_new s =
-    EndsRun params_name terms_name feed_name old new out_old out_new s
-    ⊎ EndsRunAtFault params_name terms_name feed_name old new out_old out_new s
+abbrev pub RunEnds : {B : Type 0} → List ℕ → List ℕ → List ℕ → FolderSeen → FolderSeen → SinkSeen → SinkSeen → Desks B → Status → Type 0
+RunEnds params_name terms_name feed_name old new out_old out_new d s =
+    EndsRun params_name terms_name feed_name old new out_old out_new d s
+    ⊎ EndsRunAtFault params_name terms_name feed_name old new out_old out_new d s

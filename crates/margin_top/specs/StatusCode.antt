@@ -13,3 +13,4 @@ status_code status.Feed = 6
 status_code status.Read = 7
 status_code status.Write = 8
 status_code status.Memory = 9
+status_code status.Desk = 10

@@ -1,7 +1,9 @@
-ghost use Rattle.std.specs.Prelude.{◌≤◌, map};
+ghost use Rattle.std.specs.Prelude.{◌<◌, ◌≤◌, ◌^◌, map};
 ghost use Rattle.std.specs.String.{string_bytes};
+ghost use Rattle.std.specs.Vec.{vec_len};
 ghost use Rattle.margin_top.specs.Files.{KeepsCounts};
 ghost use Rattle.margin_top.specs.Complete.{IsWellHouse, EndsWell};
+ghost use Rattle.margin_top.specs.Desks.{desks_of};
 ghost use Rattle.margin_top.specs.House.{HouseEnds};
 
 use crate::calculation::calc;
@@ -10,29 +12,40 @@ use crate::printing::print_line;
 use crate::running::run;
 use crate::status::Status;
 use crate::words::{Command, command_of};
+use call_desk::Desk;
 use mh_io::{Folder, Sink};
 use std::alloc::Global;
 
 /// All that the program does: `calc PARAMS CRIF` prints the margin of one batch, as `calc` says; `run PARAMS TERMS FEED`
-/// runs a feed on the netting sets of the terms, and prints the journals. Words that are no
-/// form of a command are status `Words`, with one fault line; then the folder isn't asked for anything.
+/// runs a feed on the netting sets of the terms, prints the journals, and tells each desk the calls that were made. Words
+/// that are no form of a command are status `Words`, with one fault line; then the folder isn't asked for anything.
+///
+/// A run that reached its feed tells each desk the notices of all calls, set after set, each set's in the order of its
+/// journal, unless memory ran out for the text or for the notices (`Memory`). A desk that fails is told nothing more and is
+/// moved to the end of `retired`; the caller drops it. The status is then `Desk`, but for a feed that didn't end whole and for
+/// a sink that failed, whose statuses come first. At every other end no desk is told anything, and both lists stand.
 pub fn margin_house<F: Folder, K: Sink>(
     alloc: Global,
     words: &[String],
     folder: &mut F,
     out: &mut K,
+    desks: &mut Vec<Box<dyn Desk>>,
+    retired: &mut Vec<Box<dyn Desk>>,
 ) -> Status
+    requires few_desks { vec_len desks.old < 2 ^ 32 }
     ensures counts { KeepsCounts (F.seen folder.old) (F.seen folder.new) }
     ensures count { (K.seen out.old).faults ≤ (K.seen out.new).faults }
     ensures ends { HouseEnds (map string_bytes words.now)
-        (F.seen folder.old) (F.seen folder.new) (K.seen out.old) (K.seen out.new) result }
+        (F.seen folder.old) (F.seen folder.new) (K.seen out.old) (K.seen out.new)
+        (desks_of (λ desk. (Desk-box desk).seen desk.value) desks.old.items desks.new.items retired.old.items retired.new.items) result }
     // Where the words are a command for which all is well it is done and printed whole, or memory ran out.
     ensures complete { IsWellHouse (map string_bytes words.now)
-        (F.seen folder.old) (F.seen folder.new) (K.seen out.old) (K.seen out.new) → EndsWell result }
+        (F.seen folder.old) (F.seen folder.new) (K.seen out.old) (K.seen out.new)
+        (desks_of (λ desk. (Desk-box desk).seen desk.value) desks.old.items desks.new.items retired.old.items retired.new.items) → EndsWell result }
 {
     match command_of(words) {
         Some(Command::Calc(files)) => calc(alloc, files.params, files.crif, folder, out),
-        Some(Command::Run(files)) => run(alloc, files.params, files.terms, files.feed, folder, out),
+        Some(Command::Run(files)) => run(alloc, files, folder, out, desks, retired),
         None => {
             print_line(out, FaultLine::Whole(b"FAULT\tWORDS\n"));
             Status::Words

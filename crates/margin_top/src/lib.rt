@@ -1,4 +1,4 @@
-//! The top call: words in; a margin, the journals of a run, or one fault line out.
+//! The top call: words in; a margin, the journals of a run with notices of its calls to desks, or one fault line out.
 #![tactic(auto)]
 
 mod calculation;
@@ -8,11 +8,13 @@ mod file;
 mod house;
 mod margin_of;
 mod printing;
+mod run_ending;
 mod run_fault;
 mod run_files;
 mod run_printing;
 mod running;
 mod status;
+mod telling;
 mod value_files;
 mod words;
 

@@ -1,13 +1,12 @@
 //! The text of a run.
-ghost use Rattle.std.specs.Prelude.{◌≡◌, ◌≤◌, ◌++◌, [], map, IfOk, OnOk, take};
+ghost use Rattle.std.specs.Prelude.{◌≡◌, ◌≤◌, ◌++◌, [], map, IfOk, OnOk, OnErr, take};
 ghost use Rattle.std.specs.List.{flat_map};
 ghost use Rattle.set_core.specs.Set.{Set};
 ghost use Rattle.margin_text.specs.Journal.{journal_text};
-ghost use Rattle.margin_top.specs.Run.{RunPrints, run_text, status_of_end};
+ghost use Rattle.margin_top.specs.Run.{run_text};
+ghost use Rattle.margin_top.specs.RunStages.{TextGoes};
 
 use crate::run_files::Outcome;
-use crate::status::Status;
-use feed_gate::FeedEnd;
 use margin_text::{push_journal, push_report};
 use mh_io::{Sink, put_all};
 use mh_units::Text;
@@ -35,29 +34,33 @@ fn outcome_text(alloc: Global, run: &Outcome) -> Result<Text, AllocError>
     Ok(text)
 }
 
-/// The status of a feed's end where all is printed.
-fn status_of_end(end: FeedEnd) -> Status
-    ensures { result ≡ status_of_end end }
-{
-    match end {
-        FeedEnd::End => Status::Done,
-        FeedEnd::Cut { .. } | FeedEnd::LineLong { .. } | FeedEnd::TooLong { .. } => Status::Feed,
-        FeedEnd::ReadFault => Status::Read,
-        FeedEnd::Memory { .. } => Status::Memory,
-    }
+/// How the text of a run went out.
+#[derive(Clone, Copy, Debug)]
+pub(crate) enum Printed {
+    /// All of it did.
+    Whole,
+    /// A front of it did, and then the sink failed.
+    Cut,
 }
 
-/// Prints a run, and answers its status.
-pub(crate) fn print_run<K: Sink>(alloc: Global, out: &mut K, run: &Outcome) -> Status
+/// Prints a run.
+///
+/// # Errors
+///
+/// For want of memory alone; then nothing was printed.
+pub(crate) fn print_run<K: Sink>(
+    alloc: Global,
+    out: &mut K,
+    run: &Outcome,
+) -> Result<Printed, AllocError>
     requires { run.now.terms ≡ map (λ s. s.terms) run.now.sets.items }
     ensures count { (K.seen out.old).faults ≤ (K.seen out.new).faults }
-    ensures printed { RunPrints run.now.sets.items run.now.report (K.seen out.old) (K.seen out.new) result }
+    ensures printed { IfOk result (TextGoes (run_text run.now.sets.items run.now.report) (K.seen out.old) (K.seen out.new)) }
+    ensures stands { OnErr result ((K.seen out.new).holds ≡ (K.seen out.old).holds) }
 {
-    let Ok(text) = outcome_text(alloc, run) else {
-        return Status::Memory;
-    };
-    match (put_all(out, text.as_slice()), status_of_end(run.report.end)) {
-        (Err(_), Status::Done) => Status::Write,
-        (_, status) => status,
+    let text = outcome_text(alloc, run)?;
+    match put_all(out, text.as_slice()) {
+        Ok(()) => Ok(Printed::Whole),
+        Err(_) => Ok(Printed::Cut),
     }
 }

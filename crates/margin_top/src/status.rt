@@ -22,6 +22,8 @@ pub enum Status {
     Write,
     /// Memory ran out.
     Memory,
+    /// A desk failed, and may not have been told all calls. All text is out.
+    Desk,
 }
 
 impl Status {
@@ -39,6 +41,7 @@ impl Status {
             Status::Read => 7,
             Status::Write => 8,
             Status::Memory => 9,
+            Status::Desk => 10,
         }
     }
 }

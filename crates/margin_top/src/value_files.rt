@@ -2,13 +2,12 @@
 ghost use Rattle.margin_top.specs.Files.{KeepsCounts, ValueEnds};
 ghost use Rattle.margin_top.specs.Grammars.{GivesParams, RefusesParams, GivesTrades, RefusesTrades, GivesTerms, RefusesTerms};
 
-use crate::fault::{FileFault, ValueFault};
+use crate::fault::ValueFault;
 use crate::file::read_file;
-use crif_reader::{CrifFault, read_batch};
+use crif_reader::read_batch;
 use csa_terms::{Terms, read_terms};
-use margin_text::{params_line, terms_line};
+use margin_text::{crif_line, params_line, terms_line};
 use mh_io::Folder;
-use mh_units::Text;
 use simm_kinds::Batch;
 use simm_params::{Params, read_params};
 use std::alloc::Global;
@@ -40,11 +39,8 @@ pub(crate) fn read_crif_file<F: Folder>(
 {
     let bytes = read_file(alloc, folder, name)?;
     match read_batch(alloc, bytes.as_slice()) {
-        Ok(batch) => Ok(batch),
-        Err(CrifFault::Refused) => {
-            Err(ValueFault::Refused(Text::from_slice(alloc, b"FAULT\tCRIF\n")?))
-        }
-        Err(CrifFault::Memory) => Err(ValueFault::OfFile(FileFault::Memory)),
+        Ok(read) => Ok(read.batch),
+        Err(fault) => Err(ValueFault::Refused(crif_line(alloc, &fault)?)),
     }
 }
 
