@@ -1,33 +1,95 @@
-use crif_reader::{CrifFault, read_batch};
+use crif_reader::{Column, CrifFault, RowFault, read_batch};
+use mh_units::{Cents, NumeralFault};
+use simm_kinds::CrifRow;
+use std::alloc::Global;
 
-const LINES: &str =
-    "TradeID,ProductClass,RiskType,Qualifier,Bucket,Label1,Label2,Amount,AmountCurrency,AmountUSD\n\
-A,FX,Risk_FX,EUR,,,,,,1\nB,FX,Risk_FX,USD,,,,,,2\nA,Credit,Risk_FX,JPY,,,,,,-3.5\n";
+/// Tab-separated, with a byte order mark, columns in another order and case, a column that isn't read, quotes, and records that
+/// are passed over.
+const LINES: &[u8] =
+    b"\xEF\xBB\xBFtrade_id\tIM Model\tRisk Type\tPRODUCTCLASS\tqualifier\tBucket\tLabel1\tLabel2\tnote\tAmount\tAmount_Currency\tAmountUSD\r\n\
+A\tSIMM\trisk_fx\tFX\teur\t\t\t\t\"a\ttab\"\t9\tEUR\t1\n\
+B\tSIMM\tRisk_FX\tRates\t USD \t\t\t\t\t2\tusd\n\
+A\tschedule\tNotional\t\t\t\t\t\t\t7\tUSD\t7\n\
+\n\
+A\t\tPV\t\t\t\t\t\t\t7\tUSD\t7\n\
+A\t\tRisk_FX\tCredit\tJPY\t\t\t\t\t\t\t-3.5";
 
 /// The place of a trade, its name, and the amounts of its first and its last row.
-const TRADES: [(usize, &str, i64, i64); 2] = [(0, "A", 100, -350), (1, "B", 200, 200)];
+const TRADES: [(usize, &str, i128, i128); 2] = [(0, "A", 100, -350), (1, "B", 200, 200)];
 
-#[test]
-fn trades_stand_by_their_first_rows(rt: HostRuntime) {
-    let batch = read_batch(rt.alloc(), LINES.as_bytes())
-        .ok()
-        .expect(&rt, "a batch");
-    for (place, name, first, last) in TRADES {
-        let trade = batch.trades().get(place).expect(&rt, "a trade");
-        assert!(rt; trade.trade.bytes() == name.as_bytes());
-        let [row, ..] = trade.rows.as_slice() else {
-            panic!(rt; "a row");
-        };
-        assert!(rt; row.amount == first);
-        let [.., row] = trade.rows.as_slice() else {
-            panic!(rt; "a row");
-        };
-        assert!(rt; row.amount == last);
+fn amount_of(row: &CrifRow) -> Option<Cents> {
+    match row {
+        CrifRow::Sensitivity { amount, .. } => Some(*amount),
+        _ => None,
     }
 }
 
 #[test]
-fn no_header_is_no_batch(rt: HostRuntime) {
-    let fault = read_batch(rt.alloc(), b"").err();
-    assert!(rt; fault == Some(CrifFault::Refused));
+fn trades_stand_by_their_first_rows(rt: HostRuntime) {
+    let read = read_batch(rt.alloc(), LINES).ok().expect(&rt, "a batch");
+    assert!(rt; read.passed_over == 2);
+    for (place, name, first, last) in TRADES {
+        let trade = read.batch.trades().get(place).expect(&rt, "a trade");
+        assert!(rt; trade.trade.bytes() == name.as_bytes());
+        let rows = trade.rows.as_slice();
+        assert!(rt; rows.first().and_then(|row| amount_of(row)) == Some(Cents(first)));
+        assert!(rt; rows.last().and_then(|row| amount_of(row)) == Some(Cents(last)));
+    }
+}
+
+/// The header that a file has at least.
+const HEADER: &str =
+    "TradeID,ProductClass,RiskType,Qualifier,Bucket,Label1,Label2,Amount,AmountCurrency,AmountUSD\n";
+
+/// What follows the header, where no row comes of it.
+const EMPTY: [&str; 2] = ["", "T,FX,PV\n"];
+
+/// What follows the header, and the fault of its first record.
+const FAULTS: [(&str, RowFault); 9] = [
+    ("T,FX,Risk_FX,EUR,,,,1,USD,1,more\n", RowFault::FieldCount),
+    (",,Risk_None,,,,,,,\n", RowFault::RiskType),
+    (" ,,Risk_FX,,,,,,,\n", RowFault::Trade),
+    ("T,Rate,Risk_FX,,,,,,,\n", RowFault::ProductClass),
+    ("T,FX,Risk_FX,EURO,,,,,,\n", RowFault::Qualifier),
+    ("T,FX,Risk_FX,EUR\n", RowFault::Amount(NumeralFault::Empty)),
+    (
+        "T,FX,Risk_FX,EUR,,,,1,EUR,\n",
+        RowFault::Amount(NumeralFault::Empty),
+    ),
+    (
+        "T,FX,Risk_FX,EUR,,,,1,USD,1e\n",
+        RowFault::Amount(NumeralFault::BadByte(2)),
+    ),
+    (
+        "T,FX,Risk_FX,EUR,,,,1,USD,1e99\n",
+        RowFault::Amount(NumeralFault::TooLarge),
+    ),
+];
+
+/// The fault of a file with these lines behind the header.
+fn fault_of(alloc: Global, rows: &str) -> Option<CrifFault> {
+    let mut text = String::from_str(alloc, HEADER).ok()?;
+    text.push_str(rows).ok()?;
+    read_batch(alloc, text.as_bytes()).err()
+}
+
+#[test]
+fn a_row_is_needed(rt: HostRuntime) {
+    for rows in EMPTY {
+        assert!(rt; fault_of(rt.alloc(), rows) == Some(CrifFault::EmptyBatch));
+    }
+}
+
+#[test]
+fn the_first_fault_is_told(rt: HostRuntime) {
+    for (rows, fault) in FAULTS {
+        assert!(rt; fault_of(rt.alloc(), rows) == Some(CrifFault::Row { number: 2, fault }));
+    }
+}
+
+#[test]
+fn a_header_is_needed(rt: HostRuntime) {
+    assert!(rt; read_batch(rt.alloc(), b"").err() == Some(CrifFault::NoHeader));
+    let lacks = read_batch(rt.alloc(), b"TradeID,Product Class,risk_type,Amount\n").err();
+    assert!(rt; lacks == Some(CrifFault::MissingColumn(Column::Qualifier)));
 }

@@ -7,6 +7,8 @@ mod concentration_calls;
 #[cfg(test)]
 mod crif_reader_calls;
 #[cfg(test)]
+mod crif_writer_calls;
+#[cfg(test)]
 mod factor_book_calls;
 #[cfg(test)]
 mod feed_reader_calls;

@@ -1,7 +1,9 @@
 //! What the tests are made of: names, keys, trades, sources.
 use mh_io::MemSource;
-use mh_units::Bytes;
-use simm_kinds::{BucketId, CrifRow, FactorKey, Listed, Name, ProductClass, RiskType, TradeRows};
+use mh_units::{Bytes, Cents};
+use simm_kinds::{
+    CrifRow, Currency, Factor, FactorKey, FullName, Listed, Name, ProductClass, TradeRows,
+};
 use std::process::Abort;
 
 pub fn name(rt: &(impl Abort + AllocGlobal), text: &str) -> Name {
@@ -10,14 +12,21 @@ pub fn name(rt: &(impl Abort + AllocGlobal), text: &str) -> Name {
         .expect(rt, "a name")
 }
 
+pub fn full_name(rt: &(impl Abort + AllocGlobal), text: &str) -> FullName {
+    FullName::new(name(rt, text)).expect(rt, "a name that isn't empty")
+}
+
+pub fn currency(rt: &(impl Abort + AllocGlobal), text: &str) -> Currency {
+    Currency::read(text.as_bytes()).expect(rt, "a currency")
+}
+
 /// The key of a currency.
-pub fn fx_key(rt: &(impl Abort + AllocGlobal), product: ProductClass, currency: &str) -> FactorKey {
-    let qualifier = name(rt, currency);
-    let label2 = Name::empty(rt.alloc());
-    let bucket = BucketId::Single;
-    FactorKey::make(product, RiskType::Fx, qualifier, bucket, None, None, label2).expect(
-        rt, "a key",
-    )
+pub fn fx_key(rt: &(impl Abort + AllocGlobal), product: ProductClass, text: &str) -> FactorKey {
+    let currency = currency(rt, text);
+    FactorKey {
+        product,
+        factor: Factor::Fx { currency },
+    }
 }
 
 /// A trade with this many equal rows, of a currency and an amount in cents.
@@ -29,9 +38,12 @@ pub fn trade(
     count: usize,
 ) -> TradeRows {
     let mut rows = Listed::new(rt.alloc());
+    let amount = Cents(i128::from(amount));
     for _ in 0..count {
         let key = fx_key(rt, ProductClass::RatesFX, currency);
-        rows.push(CrifRow { key, amount }).ok().expect(rt, "memory");
+        rows.push(CrifRow::Sensitivity { key, amount })
+            .ok()
+            .expect(rt, "memory");
     }
     TradeRows {
         trade: name(rt, text),

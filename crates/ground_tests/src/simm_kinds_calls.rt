@@ -1,7 +1,9 @@
-use crate::makers::{fx_key, name, trade};
+use crate::makers::{currency, full_name, fx_key, name, trade};
+use mh_units::{Cents, Rate4};
 use simm_kinds::{
-    Batch, BucketId, FactorKey, Listed, MakeFault, Name, NameFault, ProductClass, RiskClass,
-    RiskType, Tenor, TradeRows,
+    Batch, Bucket, BucketId, BucketNumber, CreditTenor, CrifRow, Currency, CurrencyPair, Factor,
+    FactorKey, Listed, MakeFault, Name, NameFault, ProductClass, RiskClass, RiskType, Side,
+    SubCurve, Tenor, TradeRows,
 };
 use std::process::Abort;
 
@@ -54,71 +56,286 @@ fn each_fault_of_a_name_has_its_number(rt: HostRuntime) {
     }
 }
 
-/// Parts of which there is no key: currency, bucket, tenor.
-const NO_KEYS: [(&str, BucketId, Option<Tenor>); 4] = [
-    ("eur", BucketId::Single, None),
-    ("EURO", BucketId::Single, None),
-    ("EUR", BucketId::Residual, None),
-    ("EUR", BucketId::Single, Some(Tenor::Y1)),
+/// Texts of pairs, and the two currencies that each names.
+const PAIRS: [(&[u8], Option<(&[u8], &[u8])>); 6] = [
+    (b"EURUSD", Some((b"EUR", b"USD"))),
+    (b"usdEur", Some((b"EUR", b"USD"))),
+    (b"EUREUR", None),
+    (b"EURUS", None),
+    (b"EURUSDX", None),
+    (b"EU1USD", None),
 ];
 
 #[test]
-fn other_parts_make_no_key(rt: HostRuntime) {
-    for (currency, bucket, tenor) in NO_KEYS {
-        let qualifier = name(&rt, currency);
-        let label2 = Name::empty(rt.alloc());
-        let key = FactorKey::make(
-            ProductClass::RatesFX,
-            RiskType::Fx,
-            qualifier,
+fn pairs_are_read_in_either_order(rt: HostRuntime) {
+    for (text, parts) in PAIRS {
+        let pair = CurrencyPair::read(text);
+        let parts = parts.and_then(|(first, second)| {
+            CurrencyPair::new(Currency::new(second)?, Currency::new(first)?)
+        });
+        assert_eq!(rt; pair, parts);
+        assert!(rt; pair.is_none_or(|pair| pair.first() < pair.second()));
+    }
+}
+
+/// Texts of buckets, and the number that each names: 0 for the residual bucket.
+const BUCKET_TEXTS: [(&[u8], Option<u8>); 11] = [
+    (b"1", Some(1)),
+    (b"9", Some(9)),
+    (b"10", Some(10)),
+    (b"64", Some(64)),
+    (b"Residual", Some(0)),
+    (b"rEsIdUaL", Some(0)),
+    (b"", None),
+    (b"0", None),
+    (b"01", None),
+    (b"65", None),
+    (b"100", None),
+];
+
+fn number_of(bucket: Bucket) -> u8 {
+    match bucket {
+        Bucket::Number(number) => number.get(),
+        Bucket::Residual => 0,
+    }
+}
+
+#[test]
+fn buckets_are_read(rt: HostRuntime) {
+    for (text, number) in BUCKET_TEXTS {
+        assert_eq!(rt; Bucket::read(text).map(number_of), number);
+    }
+}
+
+/// Texts of tenors, and the tenor and the credit tenor that each names.
+const TENOR_TEXTS: [(&[u8], Option<Tenor>, Option<CreditTenor>); 8] = [
+    (b"2W", Some(Tenor::W2), None),
+    (b"6m", Some(Tenor::M6), None),
+    (b"1y", Some(Tenor::Y1), Some(CreditTenor::Y1)),
+    (b"12M", Some(Tenor::Y1), Some(CreditTenor::Y1)),
+    (b"10Y", Some(Tenor::Y10), Some(CreditTenor::Y10)),
+    (b"15y", Some(Tenor::Y15), None),
+    (b"4y", None, None),
+    (b"", None, None),
+];
+
+#[test]
+fn tenors_are_read(rt: HostRuntime) {
+    for (text, tenor, credit) in TENOR_TEXTS {
+        assert_eq!(rt; Tenor::read(text), tenor);
+        assert_eq!(rt; CreditTenor::read(text), credit);
+    }
+}
+
+#[test]
+fn words_are_read(rt: HostRuntime) {
+    for kind in RiskType::ALL {
+        assert_eq!(rt; RiskType::read(kind.word().as_bytes()), Some(kind));
+    }
+    for tenor in Tenor::ALL {
+        assert_eq!(rt; Tenor::read(tenor.word().as_bytes()), Some(tenor));
+    }
+    for sub in SubCurve::ALL {
+        assert_eq!(rt; SubCurve::read(sub.word().as_bytes()), Some(sub));
+    }
+}
+
+#[test]
+fn words_are_read_in_any_case(rt: HostRuntime) {
+    assert_eq!(rt;
+        RiskType::read(b"risk_xccybasis"),
+        Some(RiskType::XccyBasis)
+    );
+    assert_eq!(rt; RiskType::read(b"FX"), None);
+    assert_eq!(rt; ProductClass::read(b"rates"), Some(ProductClass::RatesFX));
+    assert_eq!(rt; ProductClass::read(b"Fx"), Some(ProductClass::RatesFX));
+    assert_eq!(rt;
+        ProductClass::read(b"COMMODITY"),
+        Some(ProductClass::Commodity)
+    );
+    assert_eq!(rt; ProductClass::read(b"Cash"), None);
+    assert_eq!(rt; RiskClass::read(b"creditnonq"), Some(RiskClass::CreditNonQ));
+    assert_eq!(rt; SubCurve::read(b"libor6M"), Some(SubCurve::Libor6m));
+}
+
+/// A factor of each kind of interest or exchange rates, of the euro.
+fn rate_factor(rt: &(impl Abort + AllocGlobal), kind: RiskType) -> Option<Factor> {
+    let currency = currency(rt, "EUR");
+    let tenor = Tenor::Y5;
+    let pair = CurrencyPair::read(b"EURUSD").expect(rt, "a pair");
+    match kind {
+        RiskType::IrCurve => Some(Factor::IrCurve {
+            currency,
+            tenor,
+            sub: SubCurve::Ois,
+        }),
+        RiskType::Inflation => Some(Factor::Inflation { currency }),
+        RiskType::XccyBasis => Some(Factor::XccyBasis { currency }),
+        RiskType::IrVol => Some(Factor::IrVol { currency, tenor }),
+        RiskType::InflationVol => Some(Factor::InflationVol { currency, tenor }),
+        RiskType::Fx => Some(Factor::Fx { currency }),
+        RiskType::FxVol => Some(Factor::FxVol { pair, tenor }),
+        _ => None,
+    }
+}
+
+/// A factor of each kind of credit, of the issuer X in the residual bucket.
+fn credit_factor(rt: &(impl Abort + AllocGlobal), kind: RiskType) -> Option<Factor> {
+    let issuer = full_name(rt, "X");
+    let label2 = name(rt, "SR");
+    let bucket = Bucket::Residual;
+    let tenor = CreditTenor::Y5;
+    match kind {
+        RiskType::CreditQ => Some(Factor::CreditQ {
+            issuer,
             bucket,
             tenor,
-            None,
             label2,
-        );
-        assert!(rt; key.is_none(), "{currency}");
+        }),
+        RiskType::CreditVol => Some(Factor::CreditVol {
+            issuer,
+            bucket,
+            tenor,
+            label2,
+        }),
+        RiskType::CreditNonQ => Some(Factor::CreditNonQ {
+            issuer,
+            bucket,
+            tenor,
+            label2,
+        }),
+        RiskType::CreditVolNonQ => Some(Factor::CreditVolNonQ {
+            issuer,
+            bucket,
+            tenor,
+            label2,
+        }),
+        RiskType::BaseCorr => Some(Factor::BaseCorr { index: issuer }),
+        _ => None,
     }
 }
 
-fn has_parts(key: &FactorKey, product: ProductClass, currency: &str) -> bool {
-    key.product() == product
-        && key.kind() == RiskType::Fx
-        && key.qualifier().bytes() == currency.as_bytes()
-        && key.bucket() == BucketId::Single
-        && key.tenor().is_none()
-        && key.sub().is_none()
-        && key.label2().bytes().is_empty()
+/// A factor of each kind of equity and commodity, X in the bucket 7.
+fn name_factor(rt: &(impl Abort + AllocGlobal), kind: RiskType) -> Option<Factor> {
+    let name = full_name(rt, "X");
+    let seventh = BucketNumber::new(7).expect(rt, "a bucket");
+    let tenor = Tenor::Y5;
+    let bucket = Bucket::Number(seventh);
+    match kind {
+        RiskType::Equity => Some(Factor::Equity {
+            issuer: name,
+            bucket,
+        }),
+        RiskType::EquityVol => Some(Factor::EquityVol {
+            issuer: name,
+            bucket,
+            tenor,
+        }),
+        RiskType::Commodity => Some(Factor::Commodity {
+            name,
+            bucket: seventh,
+        }),
+        RiskType::CommodityVol => Some(Factor::CommodityVol {
+            name,
+            bucket: seventh,
+            tenor,
+        }),
+        _ => None,
+    }
+}
+
+/// The factor of a kind; the kinds of add-ons have none.
+fn factor_of(rt: &(impl Abort + AllocGlobal), kind: RiskType) -> Option<Factor> {
+    rate_factor(rt, kind)
+        .or(credit_factor(rt, kind))
+        .or(name_factor(rt, kind))
+}
+
+/// The factors of the kinds, in their order: risk type, class, side, and the bucket's number, 0 where it has none.
+const FACTORS: [(RiskType, RiskClass, Side, u8); 16] = [
+    (RiskType::IrCurve, RiskClass::IR, Side::Delta, 0),
+    (RiskType::Inflation, RiskClass::IR, Side::Delta, 0),
+    (RiskType::XccyBasis, RiskClass::IR, Side::Delta, 0),
+    (RiskType::IrVol, RiskClass::IR, Side::Volatility, 0),
+    (RiskType::InflationVol, RiskClass::IR, Side::Volatility, 0),
+    (RiskType::CreditQ, RiskClass::CreditQ, Side::Delta, 0),
+    (RiskType::CreditVol, RiskClass::CreditQ, Side::Volatility, 0),
+    (RiskType::CreditNonQ, RiskClass::CreditNonQ, Side::Delta, 0),
+    (
+        RiskType::CreditVolNonQ,
+        RiskClass::CreditNonQ,
+        Side::Volatility,
+        0,
+    ),
+    (RiskType::BaseCorr, RiskClass::CreditQ, Side::BaseCorr, 0),
+    (RiskType::Equity, RiskClass::Equity, Side::Delta, 7),
+    (RiskType::EquityVol, RiskClass::Equity, Side::Volatility, 7),
+    (RiskType::Commodity, RiskClass::Commodity, Side::Delta, 7),
+    (
+        RiskType::CommodityVol,
+        RiskClass::Commodity,
+        Side::Volatility,
+        7,
+    ),
+    (RiskType::Fx, RiskClass::FX, Side::Delta, 0),
+    (RiskType::FxVol, RiskClass::FX, Side::Volatility, 0),
+];
+
+fn bucket_number(bucket: BucketId) -> u8 {
+    match bucket {
+        BucketId::Number(number) => number.get(),
+        BucketId::Residual | BucketId::Currency(_) | BucketId::Single => 0,
+    }
 }
 
 #[test]
-fn a_key_has_its_parts_and_its_copy(rt: HostRuntime) {
-    for product in ProductClass::ALL {
-        let key = fx_key(&rt, product, "EUR");
-        assert!(rt; has_parts(&key, product, "EUR"));
+fn each_factor_has_its_class_side_and_bucket(rt: HostRuntime) {
+    for (kind, class, side, number) in FACTORS {
+        let factor = factor_of(&rt, kind).expect(&rt, "a factor");
+        assert!(rt; factor.kind() == kind && factor.class() == class && factor.side() == side);
+        assert!(rt; bucket_number(factor.bucket()) == number);
+        assert!(rt; factor.is_built() == (kind == RiskType::Fx));
+    }
+}
+
+#[test]
+fn a_copy_of_a_key_is_equal(rt: HostRuntime) {
+    for (kind, _, _, _) in FACTORS {
+        let factor = factor_of(&rt, kind).expect(&rt, "a factor");
+        let product = ProductClass::Credit;
+        let key = FactorKey { product, factor };
         let copy = key.copy(rt.alloc()).ok().expect(&rt, "memory");
-        assert!(rt; copy == key);
+        assert!(rt; copy == key && copy.kind() == kind);
     }
 }
 
 #[test]
-fn keys_are_ordered_by_their_currencies(rt: HostRuntime) {
+fn factors_are_ordered_by_their_kinds(rt: HostRuntime) {
+    let mut last = factor_of(&rt, RiskType::IrCurve).expect(&rt, "a factor");
+    for (kind, _, _, _) in FACTORS {
+        let factor = factor_of(&rt, kind).expect(&rt, "a factor");
+        assert!(rt; last < factor || kind == RiskType::IrCurve);
+        last = factor;
+    }
+}
+
+#[test]
+fn keys_are_ordered_by_product_class_and_currency(rt: HostRuntime) {
     let euro = fx_key(&rt, ProductClass::RatesFX, "EUR");
     assert!(rt; euro < fx_key(&rt, ProductClass::RatesFX, "USD"));
+    assert!(rt; euro < fx_key(&rt, ProductClass::Credit, "AUD"));
 }
-
-/// Buckets, each below the next.
-const BUCKETS: [(BucketId, BucketId); 4] = [
-    (BucketId::Number(2), BucketId::Number(10)),
-    (BucketId::Number(64), BucketId::Residual),
-    (BucketId::Residual, BucketId::Currency(*b"USD")),
-    (BucketId::Currency(*b"USD"), BucketId::Single),
-];
 
 #[test]
 fn buckets_are_ordered(rt: HostRuntime) {
-    for (low, high) in BUCKETS {
-        assert!(rt; low < high, "{low:?}");
-    }
+    let euro = currency(&rt, "EUR");
+    let second = BucketNumber::new(2).expect(&rt, "a bucket");
+    let tenth = BucketNumber::new(10).expect(&rt, "a bucket");
+    assert!(rt; BucketId::Number(second) < BucketId::Number(tenth));
+    assert!(rt; BucketId::Number(tenth) < BucketId::Residual);
+    assert!(rt; BucketId::Residual < BucketId::Currency(euro));
+    assert!(rt; BucketId::Currency(euro) < BucketId::Single);
+    assert!(rt; Bucket::Number(tenth) < Bucket::Residual);
 }
 
 /// Words of product classes and of risk classes.
@@ -163,6 +380,114 @@ fn batches_are_made(rt: HostRuntime) {
     }
 }
 
+/// A row of an add-on.
+#[derive(Clone, Copy)]
+enum AddOn {
+    Notional(&'static str, i128),
+    Fixed(i128),
+    Factor(&'static str, i64),
+    Multiplier(ProductClass, i64),
+}
+
+fn add_on_row(rt: &(impl Abort + AllocGlobal), add_on: AddOn) -> CrifRow {
+    match add_on {
+        AddOn::Notional(qualifier, cents) => CrifRow::Notional {
+            qualifier: name(rt, qualifier),
+            amount: Cents(cents),
+        },
+        AddOn::Fixed(cents) => CrifRow::FixedAmount(Cents(cents)),
+        AddOn::Factor(qualifier, factor) => CrifRow::NotionalFactor {
+            qualifier: full_name(rt, qualifier),
+            factor: Rate4(factor),
+        },
+        AddOn::Multiplier(product, factor) => CrifRow::Multiplier {
+            product,
+            factor: Rate4(factor),
+        },
+    }
+}
+
+/// The second trade of a batch: its name, its two rows, and why the batch is refused.
+const ADD_ONS: [(&str, [AddOn; 2], MakeFault); 13] = [
+    (
+        "T2",
+        [AddOn::Notional("", 1), AddOn::Notional("X", -1)],
+        MakeFault::Unbuilt,
+    ),
+    ("", [AddOn::Fixed(1), AddOn::Fixed(1)], MakeFault::Unbuilt),
+    (
+        "",
+        [AddOn::Factor("X", 0), AddOn::Factor("Y", 1_000_000)],
+        MakeFault::Unbuilt,
+    ),
+    (
+        "",
+        [
+            AddOn::Multiplier(ProductClass::Credit, 10_000),
+            AddOn::Multiplier(ProductClass::Equity, 100_000),
+        ],
+        MakeFault::Unbuilt,
+    ),
+    (
+        "",
+        [AddOn::Factor("X", 0), AddOn::Factor("X", 1)],
+        MakeFault::Same,
+    ),
+    (
+        "",
+        [
+            AddOn::Multiplier(ProductClass::Credit, 10_000),
+            AddOn::Multiplier(ProductClass::Credit, 20_000),
+        ],
+        MakeFault::Same,
+    ),
+    ("T2", [AddOn::Fixed(1), AddOn::Fixed(1)], MakeFault::Place),
+    (
+        "",
+        [AddOn::Fixed(1), AddOn::Notional("X", 1)],
+        MakeFault::Place,
+    ),
+    ("", [AddOn::Fixed(0), AddOn::Fixed(-1)], MakeFault::Amount),
+    (
+        "",
+        [AddOn::Fixed(0), AddOn::Factor("X", -1)],
+        MakeFault::Amount,
+    ),
+    (
+        "",
+        [AddOn::Fixed(0), AddOn::Factor("X", 1_000_001)],
+        MakeFault::Amount,
+    ),
+    (
+        "",
+        [
+            AddOn::Fixed(0),
+            AddOn::Multiplier(ProductClass::Credit, 9_999),
+        ],
+        MakeFault::Amount,
+    ),
+    (
+        "",
+        [
+            AddOn::Fixed(0),
+            AddOn::Multiplier(ProductClass::Credit, 100_001),
+        ],
+        MakeFault::Amount,
+    ),
+];
+
+#[test]
+fn add_ons_are_no_batch_yet(rt: HostRuntime) {
+    for (text, add_ons, fault) in ADD_ONS {
+        let mut other = trade(&rt, text, "EUR", 1, 0);
+        for add_on in add_ons {
+            let row = add_on_row(&rt, add_on);
+            other.rows.push(row).ok().expect(&rt, "memory");
+        }
+        assert_eq!(rt; batch_with(&rt, other).err(), Some(fault));
+    }
+}
+
 #[test]
 fn a_batch_has_its_trades(rt: HostRuntime) {
     let other = trade(&rt, "T2", "EUR", 7, 2);
@@ -173,13 +498,14 @@ fn a_batch_has_its_trades(rt: HostRuntime) {
     assert!(rt; other.trade.bytes() == b"T2".as_slice() && other.rows.len() == 2);
 }
 
-const MAKE_FAULTS: [(MakeFault, Option<u8>); 7] = [
+const MAKE_FAULTS: [(MakeFault, Option<u8>); 8] = [
     (MakeFault::Empty, Some(1)),
     (MakeFault::Same, Some(2)),
     (MakeFault::TooManyRows, Some(3)),
     (MakeFault::Place, Some(4)),
     (MakeFault::EmptyTrade, Some(5)),
     (MakeFault::Amount, Some(6)),
+    (MakeFault::Unbuilt, Some(7)),
     (MakeFault::Memory, None),
 ];
 

@@ -1,5 +1,10 @@
+ghost use Rattle.std.specs.Prelude.{◌<◌, ◌^◌};
+ghost use Rattle.std.specs.Vec.{vec_len};
+
+use call_desk::{Desk, push_notice};
 use margin_top::{Status, margin_house};
 use mh_io::{Folder, MemSink};
+use mh_units::Text;
 use std::alloc::{AllocError, Global};
 
 /// The words of a command: a line's pieces between single spaces, so that two spaces have an empty word between them. An
@@ -15,13 +20,27 @@ fn words_of(alloc: Global, line: &str) -> Result<Vec<String>, AllocError> {
     Ok(words)
 }
 
-/// Runs the command of a line over a folder, into a sink. The only error is want of memory.
+/// Runs the command of a line over a folder, into a sink, with desks. The only error is want of memory.
 pub fn run_line<F: Folder>(
     alloc: Global,
     line: &str,
     folder: &mut F,
     out: &mut MemSink,
-) -> Result<Status, AllocError> {
+    desks: &mut Vec<Box<dyn Desk>>,
+    retired: &mut Vec<Box<dyn Desk>>,
+) -> Result<Status, AllocError>
+    requires { vec_len desks.old < 2 ^ 32 }
+{
     let words = words_of(alloc, line)?;
-    Ok(margin_house(alloc, words.as_slice(), folder, out))
+    Ok(margin_house(alloc, words.as_slice(), folder, out, desks, retired))
+}
+
+/// Adds the lines of the notices that a desk was told.
+pub fn push_told(text: &mut Text, desk: &Box<dyn Desk>) -> Result<(), AllocError> {
+    if let Some(told) = desk.told_list() {
+        for notice in told {
+            push_notice(text, notice)?;
+        }
+    }
+    Ok(())
 }

@@ -1,8 +1,11 @@
 //! Cases that run the whole house: each line of the file `cases`, but for those that begin with `#`, has the words of one
-//! command, which runs over the files beside it. Out go the words, the status, and the text that the command printed.
+//! command, which runs over the files beside it, with one desk. Out go the words, the status, the text that the command
+//! printed, and the notices that the desk was told.
 #![tactic(auto)]
 
 mod command;
+#[cfg(test)]
+mod desks;
 #[cfg(test)]
 mod faults;
 #[cfg(test)]
@@ -11,22 +14,40 @@ mod memory_house;
 mod sizes;
 
 use anyhow::{Context, Result};
-use command::run_line;
+use call_desk::{Desk, MemDesk};
+use command::{push_told, run_line};
 use mh_io::{MemSink, RealFolder};
+use mh_units::Text;
 use std::fs;
 use std::io::{self, BufWriter, Write};
 
 /// The bytes that a command may print, above what any of the cases prints.
 const ROOM: usize = 1 << 20;
 
-/// Runs the words, and writes them with their status and their text.
+/// Runs the words, and writes them with their status, their text and their notices.
 fn run_case<W: Write>(rt: HostRuntime, line: &str, out: &mut W) -> Result<()> {
     let alloc = rt.alloc();
     let mut folder = RealFolder::new(rt);
     let mut text = MemSink::new(alloc, ROOM, ROOM, Vec::new(alloc))?;
-    let code = run_line(alloc, line, &mut folder, &mut text)?.code();
-    write!(out, "== {line}\nstatus {code}\n")?;
+    let desk = MemDesk::new(Vec::new(alloc), Vec::new(alloc));
+    let mut desks: Vec<Box<dyn Desk>> = Vec::new(alloc);
+    desks.push(Box::new(alloc, desk)?)?;
+    let mut retired = Vec::new(alloc);
+    let status = run_line(
+        alloc,
+        line,
+        &mut folder,
+        &mut text,
+        &mut desks,
+        &mut retired,
+    )?;
+    let mut notices = Text::new(alloc);
+    for desk in &desks {
+        push_told(&mut notices, desk)?;
+    }
+    write!(out, "== {line}\nstatus {}\n", status.code())?;
     out.write_all(text.bytes())?;
+    out.write_all(notices.as_slice())?;
     Ok(())
 }
 

@@ -1,18 +1,89 @@
+ghost use Rattle.std.specs.Prelude.{◌<◌, ◌^◌};
+ghost use Rattle.std.specs.Vec.{vec_len};
+
 use crate::command::run_line;
+use call_desk::Desk;
 use margin_top::Status;
 use mh_io::{MemFolder, MemSink};
 use mh_units::Bytes;
 use std::alloc::{AllocError, Global};
 
-/// Parameters of two weights: 7.4 for regular currencies and 10 for BRL, each threshold 100,000,000 dollars.
+/// Whole parameters. Foreign exchange has two weights, 7.4 for regular currencies and 10 for BRL, and each of its thresholds
+/// is 100,000,000 dollars.
 const PARAMS: &str = r#"calculation_currency = "USD"
-[fx]
-high = ["BRL"]
-weight = ["7.4", "10"]
-rho = ["0.5", "0.5", "0.5"]
-first = []
-second = []
-threshold = [100000000, 100000000, 100000000]
+lambda_base = "5.634897"
+psi = [
+  ["1", "0", "0", "0", "0", "0"],
+  ["0", "1", "0", "0", "0", "0"],
+  ["0", "0", "1", "0", "0", "0"],
+  ["0", "0", "0", "1", "0", "0"],
+  ["0", "0", "0", "0", "1", "0"],
+  ["0", "0", "0", "0", "0", "1"],
+]
+ir.low = ["JPY"]
+ir.regular = ["USD", "EUR", "GBP"]
+ir.weight.regular = ["50", "50", "50", "50", "50", "50", "50", "50", "50", "50", "50", "50"]
+ir.weight.low = ["15", "15", "15", "15", "15", "15", "15", "15", "15", "15", "15", "15"]
+ir.weight.high = ["100", "100", "100", "100", "100", "100", "100", "100", "100", "100", "100", "100"]
+ir.inflation_weight = "50"
+ir.basis_weight = "20"
+ir.rho = [
+  ["1", "0", "0", "0", "0", "0", "0", "0", "0", "0", "0", "0"],
+  ["0", "1", "0", "0", "0", "0", "0", "0", "0", "0", "0", "0"],
+  ["0", "0", "1", "0", "0", "0", "0", "0", "0", "0", "0", "0"],
+  ["0", "0", "0", "1", "0", "0", "0", "0", "0", "0", "0", "0"],
+  ["0", "0", "0", "0", "1", "0", "0", "0", "0", "0", "0", "0"],
+  ["0", "0", "0", "0", "0", "1", "0", "0", "0", "0", "0", "0"],
+  ["0", "0", "0", "0", "0", "0", "1", "0", "0", "0", "0", "0"],
+  ["0", "0", "0", "0", "0", "0", "0", "1", "0", "0", "0", "0"],
+  ["0", "0", "0", "0", "0", "0", "0", "0", "1", "0", "0", "0"],
+  ["0", "0", "0", "0", "0", "0", "0", "0", "0", "1", "0", "0"],
+  ["0", "0", "0", "0", "0", "0", "0", "0", "0", "0", "1", "0"],
+  ["0", "0", "0", "0", "0", "0", "0", "0", "0", "0", "0", "1"],
+]
+ir.phi = "0.98"
+ir.inflation_rho = "0.4"
+ir.basis_rho = "0.01"
+ir.gamma = "0.5"
+ir.vrw = "0.2"
+ir.hvr = "0.5"
+ir.other.threshold = 910000
+ir.other.vega_threshold = 10000000
+fx.high = ["BRL"]
+fx.weight = ["7.4", "10"]
+fx.rho = ["0.5", "0.5", "0.5"]
+fx.first = []
+fx.second = []
+fx.threshold = [100000000, 100000000, 100000000]
+fx.vega_threshold = [
+  [10000000, 10000000, 10000000],
+  [10000000, 10000000, 10000000],
+  [10000000, 10000000, 10000000],
+]
+fx.sigma = ["16.2", "16.2", "16.2"]
+fx.vrw = "0.4"
+fx.hvr = "0.6"
+fx.vol_rho = "0.5"
+credit_q.bucket = [
+  { id = "1", weight = "10", threshold = 1000000, vega_threshold = 10000000, rho = "0.4", same = "0.5", vrw = "0.5", curvature = true },
+]
+credit_q.gamma = [["1"]]
+credit_nq.bucket = [
+  { id = "1", weight = "10", threshold = 1000000, vega_threshold = 10000000, rho = "0.4", same = "0.5", vrw = "0.5", curvature = true },
+]
+credit_nq.gamma = [["1"]]
+equity.bucket = [
+  { id = "1", weight = "10", threshold = 1000000, vega_threshold = 10000000, rho = "0.4", sigma = "50", vrw = "0.5", curvature = true },
+]
+equity.hvr = "0.6"
+equity.gamma = [["1"]]
+commodity.bucket = [
+  { id = "1", weight = "10", threshold = 1000000, vega_threshold = 10000000, rho = "0.4", sigma = "50", vrw = "0.5", curvature = true },
+]
+commodity.hvr = "0.6"
+commodity.gamma = [["1"]]
+credit_q.base_weight = "10"
+credit_q.base_rho = "0.3"
 "#;
 
 const TERMS: &str = r#"[[set]]
@@ -48,12 +119,35 @@ ASK\tALPHA\n\
 CRIF\tALPHA\n\
 T1,RatesFX\n";
 
-const FILES: [(&str, &str); 5] = [
+/// The row, and two calls: what was called for first is settled, and called for again after the time of notification. The
+/// demand between them calls for nothing more.
+const CALLS: &str = "CRIF\tALPHA\n\
+TradeID,ProductClass,RiskType,Qualifier,Bucket,Label1,Label2,Amount,AmountCurrency,AmountUSD\n\
+T1,RatesFX,Risk_FX,EUR,,,,1000,USD,1000\n\
+END\n\
+CALL\tALPHA\t2024-03-01T10:00\n\
+CALL\tALPHA\t2024-03-01T10:00\n\
+CLOSE\tALPHA\t1\n\
+CALL\tALPHA\t2024-03-01T13:01\n";
+
+/// The same, and a block without an end.
+const CUT_CALLS: &str = "CRIF\tALPHA\n\
+TradeID,ProductClass,RiskType,Qualifier,Bucket,Label1,Label2,Amount,AmountCurrency,AmountUSD\n\
+T1,RatesFX,Risk_FX,EUR,,,,1000,USD,1000\n\
+END\n\
+CALL\tALPHA\t2024-03-01T10:00\n\
+CLOSE\tALPHA\t1\n\
+CALL\tALPHA\t2024-03-01T13:01\n\
+CRIF\tALPHA\n";
+
+const FILES: [(&str, &str); 7] = [
     ("params", PARAMS),
     ("terms", TERMS),
     ("crif", CRIF),
     ("feed", FEED),
     ("cut", CUT),
+    ("calls", CALLS),
+    ("cut_calls", CUT_CALLS),
 ];
 
 /// What fails, and at which of its calls, counted from 1.
@@ -136,23 +230,39 @@ pub fn folder(alloc: Global, setup: Setup) -> Result<MemFolder, AllocError> {
     Ok(folder)
 }
 
-/// Runs the words of a line over a folder.
-pub fn run_over(
+/// Runs the words of a line over a folder, with desks.
+pub fn run_with_desks(
     alloc: Global,
     line: &str,
     folder: &mut MemFolder,
     setup: Setup,
-) -> Result<Outcome, AllocError> {
+    desks: &mut Vec<Box<dyn Desk>>,
+    retired: &mut Vec<Box<dyn Desk>>,
+) -> Result<Outcome, AllocError>
+    requires { vec_len desks.old < 2 ^ 32 }
+{
     let failing = puts_that_fail(alloc, setup.failing)?;
     let mut out = MemSink::new(alloc, ROOM, setup.sink_most, failing)?;
-    let status = run_line(alloc, line, folder, &mut out)?;
+    let status = run_line(alloc, line, folder, &mut out, desks, retired)?;
     Ok(Outcome {
         status,
         text: out.bytes().to_vec(alloc)?,
     })
 }
 
-/// Runs the words of a line over the files.
+/// Runs the words of a line over a folder, without desks.
+pub fn run_over(
+    alloc: Global,
+    line: &str,
+    folder: &mut MemFolder,
+    setup: Setup,
+) -> Result<Outcome, AllocError> {
+    let mut desks = Vec::new(alloc);
+    let mut retired = Vec::new(alloc);
+    run_with_desks(alloc, line, folder, setup, &mut desks, &mut retired)
+}
+
+/// Runs the words of a line over the files, without desks.
 pub fn run(alloc: Global, line: &str, setup: Setup) -> Result<Outcome, AllocError> {
     run_over(alloc, line, &mut folder(alloc, setup)?, setup)
 }

@@ -45,7 +45,7 @@ const LONG: [(&str, &str, Status, &str, Status, &str); 4] = [
         "crif",
         CALC,
         Status::Terms,
-        "FAULT\tCRIF\n",
+        "FAULT\tCRIF\t2\tTradeID\n",
         Status::Terms,
         "FAULT\tLONG\tcrif\n",
     ),
@@ -93,7 +93,7 @@ const ROW: &[u8] = b"T,FX,Risk_FX,USD,,,,,,1\n";
 /// How many rows there are, and what comes.
 const ROWS: [(u32, Status, &str); 2] = [
     (100_000, Status::Done, "MARGIN\t0.00\n"),
-    (100_001, Status::Terms, "FAULT\tCRIF\n"),
+    (100_001, Status::Terms, "FAULT\tCRIF\t4\n"),
 ];
 
 #[test]

@@ -1,6 +1,6 @@
 use crate::makers::{batch, name, params};
 use bucket_cache::{LiveMargin, WithdrawFault};
-use simm_kinds::Name;
+use simm_kinds::{CrifRow, Name};
 use std::process::Abort;
 
 fn live(rt: &(impl Abort + AllocGlobal)) -> LiveMargin {
@@ -35,7 +35,7 @@ fn is_at(live: &LiveMargin, place: u32, text: &str) -> bool {
 
 fn has_amount(live: &LiveMargin, name: &Name, amount: i64) -> bool {
     match live.rows_of(name) {
-        Some([row]) => row.amount == amount,
+        Some([CrifRow::Sensitivity { amount: held, .. }]) => held.0 == i128::from(amount),
         _ => false,
     }
 }

@@ -1,9 +1,16 @@
+use crif_reader::CrifFault;
 use feed_gate::RefusedMessage;
 
 const NUMBERS: [(RefusedMessage, u8); 4] = [
     (RefusedMessage::BadLine { line: 9 }, 1),
     (RefusedMessage::UnknownSet { line: 9 }, 2),
-    (RefusedMessage::BadBatch { line: 9 }, 3),
+    (
+        RefusedMessage::BadBatch {
+            line: 9,
+            fault: CrifFault::NoHeader,
+        },
+        3,
+    ),
     (
         RefusedMessage::Full {
             line: 9,

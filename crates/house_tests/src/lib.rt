@@ -23,8 +23,8 @@ mod margin_top_calls;
 #[cfg(test)]
 mod moment_texts;
 #[cfg(test)]
+mod outbox;
+#[cfg(test)]
 mod set_core_calls;
 #[cfg(test)]
 mod simm_params_calls;
-#[cfg(test)]
-mod simm_plain_calls;

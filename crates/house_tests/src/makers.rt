@@ -1,15 +1,87 @@
 //! What the tests are made of: names, rows, batches, parameters, terms.
 use crif_reader::read_batch;
 use csa_terms::{SetTerms, Terms, read_terms};
-use simm_kinds::{Batch, CrifRow, Name};
+use simm_kinds::{Batch, Currency, Name};
 use simm_params::{Params, read_params};
 use std::process::Abort;
 
 /// The correlation of two regular currencies is 0.5, of a regular one and one of high volatility 0.25, of two of high
 /// volatility -1.
-const PARAMS: &str =
-    "calculation_currency = \"USD\"\n[fx]\nhigh = [\"BRL\", \"TRY\"]\nweight = [\"7.4\", \"10\"]\n\
-rho = [\"0.5\", \"0.25\", \"-1\"]\nfirst = [\"EUR\"]\nsecond = [\"GBP\", \"BRL\"]\nthreshold = [100000000, 2000000, 135136]\n";
+const PARAMS: &str = r#"calculation_currency = "USD"
+lambda_base = "5.634897"
+psi = [
+  ["1", "0", "0", "0", "0", "0"],
+  ["0", "1", "0", "0", "0", "0"],
+  ["0", "0", "1", "0", "0", "0"],
+  ["0", "0", "0", "1", "0", "0"],
+  ["0", "0", "0", "0", "1", "0"],
+  ["0", "0", "0", "0", "0", "1"],
+]
+ir.low = ["JPY"]
+ir.regular = ["USD", "EUR", "GBP"]
+ir.weight.regular = ["50", "50", "50", "50", "50", "50", "50", "50", "50", "50", "50", "50"]
+ir.weight.low = ["15", "15", "15", "15", "15", "15", "15", "15", "15", "15", "15", "15"]
+ir.weight.high = ["100", "100", "100", "100", "100", "100", "100", "100", "100", "100", "100", "100"]
+ir.inflation_weight = "50"
+ir.basis_weight = "20"
+ir.rho = [
+  ["1", "0", "0", "0", "0", "0", "0", "0", "0", "0", "0", "0"],
+  ["0", "1", "0", "0", "0", "0", "0", "0", "0", "0", "0", "0"],
+  ["0", "0", "1", "0", "0", "0", "0", "0", "0", "0", "0", "0"],
+  ["0", "0", "0", "1", "0", "0", "0", "0", "0", "0", "0", "0"],
+  ["0", "0", "0", "0", "1", "0", "0", "0", "0", "0", "0", "0"],
+  ["0", "0", "0", "0", "0", "1", "0", "0", "0", "0", "0", "0"],
+  ["0", "0", "0", "0", "0", "0", "1", "0", "0", "0", "0", "0"],
+  ["0", "0", "0", "0", "0", "0", "0", "1", "0", "0", "0", "0"],
+  ["0", "0", "0", "0", "0", "0", "0", "0", "1", "0", "0", "0"],
+  ["0", "0", "0", "0", "0", "0", "0", "0", "0", "1", "0", "0"],
+  ["0", "0", "0", "0", "0", "0", "0", "0", "0", "0", "1", "0"],
+  ["0", "0", "0", "0", "0", "0", "0", "0", "0", "0", "0", "1"],
+]
+ir.phi = "0.98"
+ir.inflation_rho = "0.4"
+ir.basis_rho = "0.01"
+ir.gamma = "0.5"
+ir.vrw = "0.2"
+ir.hvr = "0.5"
+ir.other.threshold = 910000
+ir.other.vega_threshold = 10000000
+fx.high = ["BRL", "TRY"]
+fx.weight = ["7.4", "10"]
+fx.rho = ["0.5", "0.25", "-1"]
+fx.first = ["EUR"]
+fx.second = ["GBP", "BRL"]
+fx.threshold = [100000000, 2000000, 135136]
+fx.vega_threshold = [
+  [10000000, 10000000, 10000000],
+  [10000000, 10000000, 10000000],
+  [10000000, 10000000, 10000000],
+]
+fx.sigma = ["16.2", "16.2", "16.2"]
+fx.vrw = "0.4"
+fx.hvr = "0.6"
+fx.vol_rho = "0.5"
+credit_q.bucket = [
+  { id = "1", weight = "10", threshold = 1000000, vega_threshold = 10000000, rho = "0.4", same = "0.5", vrw = "0.5", curvature = true },
+]
+credit_q.gamma = [["1"]]
+credit_nq.bucket = [
+  { id = "1", weight = "10", threshold = 1000000, vega_threshold = 10000000, rho = "0.4", same = "0.5", vrw = "0.5", curvature = true },
+]
+credit_nq.gamma = [["1"]]
+equity.bucket = [
+  { id = "1", weight = "10", threshold = 1000000, vega_threshold = 10000000, rho = "0.4", sigma = "50", vrw = "0.5", curvature = true },
+]
+equity.hvr = "0.6"
+equity.gamma = [["1"]]
+commodity.bucket = [
+  { id = "1", weight = "10", threshold = 1000000, vega_threshold = 10000000, rho = "0.4", sigma = "50", vrw = "0.5", curvature = true },
+]
+commodity.hvr = "0.6"
+commodity.gamma = [["1"]]
+credit_q.base_weight = "10"
+credit_q.base_rho = "0.3"
+"#;
 
 /// BETA has no minimum. Its holiday is a Monday.
 const TERMS: &str =
@@ -35,18 +107,11 @@ pub fn batch(rt: &(impl Abort + AllocGlobal), trade: &str, currency: &str, amoun
     read_batch(rt.alloc(), text.as_str().as_bytes())
         .ok()
         .expect(rt, "a batch")
+        .batch
 }
 
-/// A row of a currency and an amount in dollars.
-pub fn row(rt: &(impl Abort + AllocGlobal), currency: &str, amount: &str) -> CrifRow {
-    let batch = batch(rt, "T", currency, amount);
-    let [trade] = batch.trades() else {
-        panic!(rt; "a trade");
-    };
-    let [row] = trade.rows.as_slice() else {
-        panic!(rt; "a row");
-    };
-    row.copy(rt.alloc()).ok().expect(rt, "memory")
+pub fn currency(rt: &(impl Abort + AllocGlobal), text: &str) -> Currency {
+    Currency::read(text.as_bytes()).expect(rt, "a currency")
 }
 
 pub fn params(rt: &(impl Abort + AllocGlobal)) -> Params {

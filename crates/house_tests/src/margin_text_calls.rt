@@ -1,7 +1,8 @@
 use crate::makers::{params, set_terms};
+use crif_reader::{Column, CrifFault, RowFault};
 use feed_gate::{FeedEnd, FeedReport, RefusedMessage};
-use margin_text::{journal_text, margin_lines, push_report};
-use mh_units::{Cents, Text};
+use margin_text::{crif_line, journal_text, margin_lines, push_report};
+use mh_units::{Cents, NumeralFault, Text};
 use set_core::{Event, SetState};
 use simm_kinds::Listed;
 use simm_rules::{Breakdown, ClassMargins, ProductMargin};
@@ -60,7 +61,7 @@ fn each_end_is_printed(rt: HostRuntime) {
 }
 
 /// Refused messages, and the report of one alone.
-const REFUSED: [(RefusedMessage, &str); 4] = [
+const REFUSED: [(RefusedMessage, &str); 5] = [
     (
         RefusedMessage::BadLine { line: 1 },
         "REFUSED\t7\t1\t1\nFEED\t7\t2\t1\tEND\n",
@@ -70,8 +71,21 @@ const REFUSED: [(RefusedMessage, &str); 4] = [
         "REFUSED\t7\t2\t2\nFEED\t7\t2\t1\tEND\n",
     ),
     (
-        RefusedMessage::BadBatch { line: 3 },
-        "REFUSED\t7\t3\t3\nFEED\t7\t2\t1\tEND\n",
+        RefusedMessage::BadBatch {
+            line: 3,
+            fault: CrifFault::NoHeader,
+        },
+        "REFUSED\t7\t3\t3\t1\nFEED\t7\t2\t1\tEND\n",
+    ),
+    (
+        RefusedMessage::BadBatch {
+            line: 4,
+            fault: CrifFault::Row {
+                number: 2,
+                fault: RowFault::Amount(NumeralFault::Empty),
+            },
+        },
+        "REFUSED\t7\t4\t3\t3\t2\t10\t1\nFEED\t7\t2\t1\tEND\n",
     ),
     (
         RefusedMessage::Full {
@@ -99,6 +113,46 @@ fn each_refused_message_is_printed(rt: HostRuntime) {
     for (message, wanted) in REFUSED {
         let report = report_of(&rt, message);
         assert!(rt; printed(&rt, &report).as_slice() == wanted.as_bytes());
+    }
+}
+
+/// Faults of CRIF files, and their lines.
+const CRIF_FAULTS: [(CrifFault, &str); 7] = [
+    (CrifFault::NoHeader, "FAULT\tCRIF\t1\n"),
+    (
+        CrifFault::MissingColumn(Column::AmountUsd),
+        "FAULT\tCRIF\t2\tAmountUSD\n",
+    ),
+    (
+        CrifFault::Row {
+            number: 100_001,
+            fault: RowFault::Label2,
+        },
+        "FAULT\tCRIF\t3\t100001\t9\n",
+    ),
+    (
+        CrifFault::Row {
+            number: 2,
+            fault: RowFault::Amount(NumeralFault::BadByte(7)),
+        },
+        "FAULT\tCRIF\t3\t2\t10\t3\n",
+    ),
+    (
+        CrifFault::Row {
+            number: 3,
+            fault: RowFault::ParamRange(-1),
+        },
+        "FAULT\tCRIF\t3\t3\t11\t-1\n",
+    ),
+    (CrifFault::TooManyRows, "FAULT\tCRIF\t4\n"),
+    (CrifFault::EmptyBatch, "FAULT\tCRIF\t5\n"),
+];
+
+#[test]
+fn each_fault_of_a_crif_file_has_its_line(rt: HostRuntime) {
+    for (fault, wanted) in CRIF_FAULTS {
+        let line = crif_line(rt.alloc(), &fault).ok().expect(&rt, "a line");
+        assert!(rt; line.as_slice() == wanted.as_bytes());
     }
 }
 

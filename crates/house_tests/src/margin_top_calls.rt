@@ -1,7 +1,7 @@
 use margin_top::Status;
 
 /// Each status, and its exit code.
-const CODES: [(Status, u8); 9] = [
+const CODES: [(Status, u8); 10] = [
     (Status::Done, 0),
     (Status::Words, 2),
     (Status::Params, 3),
@@ -11,6 +11,7 @@ const CODES: [(Status, u8); 9] = [
     (Status::Read, 7),
     (Status::Write, 8),
     (Status::Memory, 9),
+    (Status::Desk, 10),
 ];
 
 #[test]

@@ -1,10 +1,12 @@
-use Rattle.std.proofs.Common.{◌≡◌, ◌++◌, ◌-◌, ◌≤◌, ◌∙◌, [], length, sym, ap, subst, arith, take, drop, append-nil}
+use Rattle.std.proofs.Common.{◌≡◌, ◌++◌, ◌-◌, ◌≤◌, ◌∙◌, [], true, length, sym, ap, subst, arith, take, drop, append-nil}
+use Rattle.std.specs.List.{list_all}
 use Rattle.std.proofs.lemmas.List.{take-append-drop, take_all, length-drop}
-use Rattle.factor_book.specs.Factors.{factors_of, AreAmounts}
+use Rattle.simm_kinds.specs.Batch.{is_in_range}
+use Rattle.factor_book.specs.Factors.{factors_of}
 use Rattle.ground_tests.proofs.factor_book_calls.book.Goals as goal
 
-pub add_rows-requires : goal.add_rows-requires
-add_rows-requires c = record { held = []; are = c.new-factors.ensures; few = omega (arith, c.requires.few) }
+pub add_rows-requires-clause-room : goal.add_rows-requires-clause-room
+add_rows-requires-clause-room c = record { held = []; are = c.new-factors.ensures; few = omega (arith, c.requires.few) }
 
 pub take_rows-requires : goal.take_rows-requires
 take_rows-requires c =
@@ -18,5 +20,5 @@ take_rows-requires c =
       before = front;
       after = [];
       are = c.in_ok-add_rows.ensures.ok [] c.new-factors.ensures ∙ ap factors_of whole;
-      amounts = subst AreAmounts whole c.in_ok-add_rows.ensures.amounts;
+      amounts = ap (list_all is_in_range) (sym whole) ∙ c.requires.amounts;
     }

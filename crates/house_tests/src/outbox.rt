@@ -1,0 +1,110 @@
+use crate::makers::name;
+use call_desk::{Desk, DeskFault, Notice, Published, publish};
+use csa_terms::{Flow, push_day};
+use mh_units::{Cents, Text, push_cents};
+use std::alloc::{AllocError, Global};
+use std::process::Abort;
+
+/// A desk that leaves a message for each call in an outbox with so many places.
+#[derive(Drop)]
+struct Outbox {
+    messages: Vec<Text>,
+    places: usize,
+    faults: u64,
+    wants: u64,
+}
+
+/// The set, what is to be delivered or returned, and by when.
+fn message(alloc: Global, notice: &Notice) -> Result<Text, AllocError> {
+    let mut text = Text::new(alloc);
+    text.extend(notice.set.bytes())?;
+    text.extend(match notice.flow {
+        Flow::Delivery => b": please deliver ",
+        Flow::Return => b": please return ",
+    })?;
+    push_cents(&mut text, Cents(i128::from(notice.amount)))?;
+    text.extend(b" by ")?;
+    push_day(&mut text, notice.due)?;
+    Ok(text)
+}
+
+fn leave(messages: &mut Vec<Text>, notice: &Notice) -> Result<(), AllocError> {
+    let text = message(*messages.allocator(), notice)?;
+    messages.push(text)?;
+    Ok(())
+}
+
+impl Desk for Outbox {
+    ghost use Rattle.call_desk.specs.Desk.{counts_alone};
+
+    ghost seen = { λ d. counts_alone d.faults d.wants };
+
+    fn tell(&mut self, notice: &Notice) -> Result<(), DeskFault> {
+        if self.messages.len() >= self.places {
+            self.faults = self.faults.saturating_add(1);
+            return Err(DeskFault::Failed);
+        }
+        if leave(&mut self.messages, notice).is_err() {
+            self.wants = self.wants.saturating_add(1);
+            return Err(DeskFault::Memory);
+        }
+        Ok(())
+    }
+
+    fn told_list(&self) -> Option<&[Notice]> {
+        None
+    }
+}
+
+fn outbox(alloc: Global) -> Outbox {
+    Outbox {
+        messages: Vec::new(alloc),
+        places: 1,
+        faults: 0,
+        wants: 0,
+    }
+}
+
+fn notice(rt: &(impl Abort + AllocGlobal), flow: Flow) -> Notice {
+    Notice {
+        set: name(rt, "ALPHA"),
+        number: 1,
+        flow,
+        amount: 240_000,
+        due: 19_786,
+    }
+}
+
+#[test]
+fn a_full_outbox_fails(rt: HostRuntime) {
+    let mut outbox = outbox(rt.alloc());
+    assert!(rt; outbox.tell(&notice(&rt, Flow::Return)).is_ok());
+    let text = "ALPHA: please return 2400.00 by 2024-03-04";
+    assert!(rt;
+        outbox
+            .messages
+            .iter()
+            .all(|m| m.as_slice() == text.as_bytes())
+    );
+    let again = outbox.tell(&notice(&rt, Flow::Delivery));
+    assert!(rt; again == Err(DeskFault::Failed));
+    assert!(rt; outbox.messages.len() == 1 && outbox.faults == 1 && outbox.wants == 0);
+}
+
+#[test]
+fn a_full_outbox_is_retired(rt: HostRuntime) -> Result<(), AllocError> {
+    let mut desks: Vec<Box<dyn Desk>> = Vec::new(rt.alloc());
+    desks.push(Box::new(rt.alloc(), outbox(rt.alloc()))?)?;
+    let mut retired = Vec::new(rt.alloc());
+    assert!(rt; desks.len() == 1);
+    let notices = [notice(&rt, Flow::Return), notice(&rt, Flow::Delivery)];
+    let published = publish(&mut desks, &mut retired, &notices)?;
+    let wanted = Published {
+        told: 1,
+        failed: 1,
+        memory: 0,
+    };
+    assert!(rt; published == wanted);
+    assert!(rt; desks.is_empty() && retired.len() == 1);
+    Ok(())
+}
