@@ -56,7 +56,7 @@ impl Desk for Outbox {
     }
 }
 
-fn outbox(alloc: Global) -> Outbox {
+fn empty_outbox(alloc: Global) -> Outbox {
     Outbox {
         messages: Vec::new(alloc),
         places: 1,
@@ -77,7 +77,7 @@ fn notice(rt: &(impl Abort + AllocGlobal), flow: Flow) -> Notice {
 
 #[test]
 fn a_full_outbox_fails(rt: HostRuntime) {
-    let mut outbox = outbox(rt.alloc());
+    let mut outbox = empty_outbox(rt.alloc());
     assert!(rt; outbox.tell(&notice(&rt, Flow::Return)).is_ok());
     let text = "ALPHA: please return 2400.00 by 2024-03-04";
     assert!(rt;
@@ -94,7 +94,7 @@ fn a_full_outbox_fails(rt: HostRuntime) {
 #[test]
 fn a_full_outbox_is_retired(rt: HostRuntime) -> Result<(), AllocError> {
     let mut desks: Vec<Box<dyn Desk>> = Vec::new(rt.alloc());
-    desks.push(Box::new(rt.alloc(), outbox(rt.alloc()))?)?;
+    desks.push(Box::new(rt.alloc(), empty_outbox(rt.alloc()))?)?;
     let mut retired = Vec::new(rt.alloc());
     assert!(rt; desks.len() == 1);
     let notices = [notice(&rt, Flow::Return), notice(&rt, Flow::Delivery)];
