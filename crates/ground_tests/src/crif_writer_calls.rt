@@ -17,9 +17,7 @@ fn a_written_batch_reads_back(rt: HostRuntime) {
     trades.push(first).ok().expect(&rt, "memory");
     let second = trade(&rt, "a, b", "JPY", -5, 1);
     trades.push(second).ok().expect(&rt, "memory");
-    let batch = Batch::make(rt.alloc(), trades)
-        .ok()
-        .expect(&rt, "a batch");
+    let batch = Batch::make(rt.alloc(), trades).ok().expect(&rt, "a batch");
     let text = write_batch(rt.alloc(), &batch).ok().expect(&rt, "memory");
     assert!(rt; text.as_slice() == TEXT);
     let read = read_batch(rt.alloc(), text.as_slice())
