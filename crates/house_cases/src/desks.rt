@@ -190,14 +190,19 @@ fn were_told(alloc: Global, desks: &[Box<dyn Desk>], counts: &[usize]) -> Result
     Ok(true)
 }
 
+/// A desk that fails and wants memory at these calls.
+fn desk(alloc: Global, failing: &[u64], wanting: &[u64]) -> Result<MemDesk, AllocError> {
+    Ok(MemDesk::new(failing.to_vec(alloc)?, wanting.to_vec(alloc)?))
+}
+
 #[test]
 fn a_desk_is_told_all_calls_or_retired(rt: HostRuntime) -> Result<(), Fail> {
     for case in &CASES {
         let mut desks: Vec<Box<dyn Desk>> = Vec::new(rt.alloc());
         let mut retired = Vec::new(rt.alloc());
         for (failing, wanting) in case.desks {
-            let desk = MemDesk::new(failing.to_vec(rt.alloc())?, wanting.to_vec(rt.alloc())?);
-            desks.push(Box::new(rt.alloc(), desk)?)?;
+            let made = desk(rt.alloc(), failing, wanting)?;
+            desks.push(Box::new(rt.alloc(), made)?)?;
         }
         assert!(rt; desks.len() < 5);
         let setup = Setup {
