@@ -1,0 +1,16 @@
+pub mod Lists
+pub mod Sums
+pub mod Selected
+pub mod Lent
+pub mod Distinct
+pub mod Rhos
+pub mod Groups
+pub mod Weights
+pub mod Values
+pub mod Wholes
+pub mod Concentrations
+pub mod Weighings
+pub mod Buckets
+pub mod Gammas
+pub mod Ranges
+pub mod Standing

@@ -1,0 +1,16 @@
+//! The delta margin of interest rates: the value of a currency's bucket, and the margin over the currencies of a product class.
+//! (ISDA SIMM methodology, interest rate risk: delta margin.)
+#![tactic(auto)]
+
+mod across;
+mod currency_bucket;
+mod laws;
+mod millionths;
+mod nets;
+mod rate;
+mod rho;
+mod weighing;
+
+pub use across::combine;
+pub use currency_bucket::bucket;
+pub use laws::{currencies_make_delta, range_keeps_rates, rates_stand_by_currency};

@@ -1,0 +1,55 @@
+//! The correlations of a currency's rates.
+ghost use Rattle.std.specs.Prelude.{◌≡◌, ◌≤◌, ℕ, length, unsigned_abs};
+ghost use Rattle.ir_delta.specs.Rho.{rho_at, rho_of};
+
+use crate::millionths::in_millionths;
+use crate::rate::Rate;
+use concentration::combine;
+use mh_units::Corr6;
+use simm_params::Params;
+use weighted_bucket::Rho;
+
+/// The parameters' correlations of the rates of one currency, by their places.
+#[derive(Drop)]
+pub struct RateRho<'a> {
+    pub params: &'a Params,
+    pub rates: Vec<Rate>,
+    ghost symmetric: { (i j : ℕ) → rho_at params.now rates.items i j ≡ rho_at params.now rates.items j i },
+    ghost at_most_one: { (i j : ℕ) → unsigned_abs (rho_at params.now rates.items i j) ≤ 1000000 },
+}
+
+impl Rho for RateRho<'_> {
+    ghost size = { λ x. length x.rates.items };
+
+    ghost rho = { λ x. rho_at x.params.now x.rates.items };
+
+    ghost symmetric = { λ x i j _ _. x.symmetric i j };
+
+    ghost at_most_one = { λ x i j _ _. x.at_most_one i j };
+
+    fn size(&self) -> usize {
+        self.rates.len()
+    }
+
+    fn rho(&self, i: usize, j: usize) -> Corr6 {
+        correlation(self.params, self.rates[i], self.rates[j])
+    }
+}
+
+// The correlation of two rates of one currency.
+fn correlation(params: &Params, a: Rate, b: Rate) -> Corr6
+    ensures { result.0 ≡ rho_of params.now a b }
+{
+    match (a, b) {
+        (Rate::Curve { tenor: t, sub: s }, Rate::Curve { tenor: u, sub: v }) => combine(
+            in_millionths(params.tenor_rho(t, u)),
+            in_millionths(params.sub_rho(s, v)),
+        ),
+        (Rate::Inflation, Rate::Inflation) | (Rate::Basis, Rate::Basis) => Corr6::ONE,
+        (Rate::Curve { .. }, Rate::Inflation) | (Rate::Inflation, Rate::Curve { .. }) => {
+            in_millionths(params.inflation_rho())
+        }
+        (Rate::Curve { .. } | Rate::Inflation, Rate::Basis)
+        | (Rate::Basis, Rate::Curve { .. } | Rate::Inflation) => in_millionths(params.basis_rho()),
+    }
+}

@@ -1,0 +1,183 @@
+-- Names that have a price: where they stand, in which order, and their value.
+use Rattle.std.proofs.Common.{◌≡◌, ◌^◌, ℕ, ◌+◌, ◌*◌, ◌≤◌, List, [], map, true, false, Some, None, refl, sym, ap, ◌∙◌, ℤ, pos, ◌<ℤ◌, unsigned_abs}
+use Rattle.std.specs.declared.cmp.Ordering.TheVariants.{Less, Equal}
+use Rattle.std.specs.Ordering.{ordering_then}
+use Rattle.std.specs.List.{AllByRecursion}
+use Rattle.std.specs.List.Sorted.{IsStrictlySortedBy}
+use Rattle.std.proofs.lemmas.Cmp.{nat_list_cmp_total}
+use Rattle.std.proofs.lemmas.Simd.{map-map}
+use Rattle.simm_kinds.specs.declared.kinds.ProductClass.{ProductClass}
+use Rattle.simm_kinds.specs.declared.kinds.BucketId.TheVariants as id
+use Rattle.simm_kinds.specs.declared.bucket.Bucket.{Bucket}
+use Rattle.simm_kinds.specs.declared.bucket.Bucket.TheVariants as bucket
+use Rattle.simm_kinds.specs.declared.factor.Factor.{Factor}
+use Rattle.simm_kinds.specs.declared.factor.Factor.TheVariants as factor
+use Rattle.simm_kinds.specs.declared.key.FactorKey.{FactorKey}
+use Rattle.simm_kinds.specs.Factors.{bucket_id_of}
+use Rattle.simm_kinds.specs.Order.{same_product, key_cmp, name_cmp, same_name, same_bucket, same_bucket_id}
+use Rattle.simm_rules.specs.Params.{PricedBucket}
+use Rattle.simm_rules.specs.Lookups.{six}
+use Rattle.simm_rules.specs.Risks.{risk, PricedClass, Equities, Commodities, Amount}
+use Rattle.simm_rules.specs.Concentration.{one, cr}
+use Rattle.simm_rules.specs.Priced.{as_price, name_rho, weighted_name, price_value}
+use Rattle.factor_book.specs.declared.place.Place.{Place}
+use Rattle.factor_book.specs.declared.holding.Holding.{Holding}
+use Rattle.factor_book.specs.Factors.{IsBook}
+use Rattle.factor_book.specs.Places.{stands_at}
+use Rattle.weighted_bucket.specs.declared.scaling.Scaling.TheVariants as scaling
+use Rattle.weighted_bucket.specs.declared.weighed.Weighed.{Weighed}
+use Rattle.weighted_bucket.specs.Bucket.{bucket_value}
+use Rattle.name_delta.specs.Alone.{AreTerms, weighed_alone}
+use Rattle.name_delta.specs.Names.{names_place, names_in}
+use Rattle.name_delta.specs.Values.{nets_at, IsSmall, AreSmall}
+use Rattle.name_delta.proofs.Keys.{then_Equal, and_last, and_other, and_side, and_bucket, key_with, by_factor, bucket_ids, tied_buckets, chosen, not_chosen}
+use Rattle.name_delta.proofs.Lists.{each_weaker}
+use Rattle.name_delta.proofs.Selected.{nets_place, select_ascends}
+use Rattle.name_delta.proofs.Sizes.{size_one}
+use Rattle.name_delta.proofs.Thick.{alone_size, cr_below, weighted_close}
+use Rattle.name_delta.proofs.Valued.{value_is}
+
+-- ---- which factors they are
+
+record IsEquity (at : Bucket) (f : Factor) (x : List ℕ) : Type 0 where
+  of : Bucket
+  is : f ≡ factor.Equity x of
+  inside : same_bucket of at ≡ true
+
+record IsCommodity (at : Bucket) (f : Factor) (x : List ℕ) : Type 0 where
+  of : ℕ
+  is : f ≡ factor.Commodity x of
+  inside : same_bucket (bucket.Number of) at ≡ true
+
+is_equity : (at : Bucket) (f : Factor) (x : List ℕ) → as_price Equities at (risk f) ≡ Some x → IsEquity at f x
+is_equity at (factor.IrCurve n t s) x h = absurd (cc)
+is_equity at (factor.Inflation n) x h = absurd (cc)
+is_equity at (factor.XccyBasis n) x h = absurd (cc)
+is_equity at (factor.IrVol n t) x h = absurd (cc)
+is_equity at (factor.InflationVol n t) x h = absurd (cc)
+is_equity at (factor.CreditQ i b t l) x h = absurd (cc)
+is_equity at (factor.CreditVol i b t l) x h = absurd (cc)
+is_equity at (factor.CreditNonQ i b t l) x h = absurd (cc)
+is_equity at (factor.CreditVolNonQ i b t l) x h = absurd (cc)
+is_equity at (factor.BaseCorr i) x h = absurd (cc)
+is_equity at (factor.Equity i b) x h =
+    let both = chosen (same_bucket b at) i x h in
+    record { of = b; is = ap (λ z. factor.Equity z b) both.1; inside = both.0 }
+is_equity at (factor.EquityVol i b t) x h = absurd (cc)
+is_equity at (factor.Commodity n b) x h = absurd (cc)
+is_equity at (factor.CommodityVol n b t) x h = absurd (cc)
+is_equity at (factor.Fx n) x h = absurd (cc)
+is_equity at (factor.FxVol p t) x h = absurd (cc)
+
+is_commodity : (at : Bucket) (f : Factor) (x : List ℕ) → as_price Commodities at (risk f) ≡ Some x → IsCommodity at f x
+is_commodity at (factor.IrCurve n t s) x h = absurd (cc)
+is_commodity at (factor.Inflation n) x h = absurd (cc)
+is_commodity at (factor.XccyBasis n) x h = absurd (cc)
+is_commodity at (factor.IrVol n t) x h = absurd (cc)
+is_commodity at (factor.InflationVol n t) x h = absurd (cc)
+is_commodity at (factor.CreditQ i b t l) x h = absurd (cc)
+is_commodity at (factor.CreditVol i b t l) x h = absurd (cc)
+is_commodity at (factor.CreditNonQ i b t l) x h = absurd (cc)
+is_commodity at (factor.CreditVolNonQ i b t l) x h = absurd (cc)
+is_commodity at (factor.BaseCorr i) x h = absurd (cc)
+is_commodity at (factor.Equity i b) x h = absurd (cc)
+is_commodity at (factor.EquityVol i b t) x h = absurd (cc)
+is_commodity at (factor.Commodity n b) x h =
+    let both = chosen (same_bucket (bucket.Number b) at) n x h in
+    record { of = b; is = ap (λ z. factor.Commodity z b) both.1; inside = both.0 }
+is_commodity at (factor.CommodityVol n b t) x h = absurd (cc)
+is_commodity at (factor.Fx n) x h = absurd (cc)
+is_commodity at (factor.FxVol p t) x h = absurd (cc)
+
+-- ---- where they stand
+
+stands : (class : PricedClass) (at : Bucket) (product : ProductClass) (k : FactorKey) (x : List ℕ) → as_price class at (risk k.factor) ≡ Some x → stands_at (names_place class at product) k ≡ same_product k.product product
+stands Equities at product k x e =
+    let i = is_equity at k.factor x e in
+    ap (λ f. stands_at (names_place Equities at product) (key_with k.product f)) i.is
+    ∙ and_last (same_product k.product product) (same_bucket_id (bucket_id_of i.of) (bucket_id_of at)) (bucket_ids i.of at ∙ i.inside)
+stands Commodities at product k x e =
+    let i = is_commodity at k.factor x e in
+    ap (λ f. stands_at (names_place Commodities at product) (key_with k.product f)) i.is
+    ∙ and_last (same_product k.product product) (same_bucket_id (bucket_id_of (bucket.Number i.of)) (bucket_id_of at)) (bucket_ids (bucket.Number i.of) at ∙ i.inside)
+
+elsewhere : (class : PricedClass) (at : Bucket) (product c : ProductClass) (f : Factor) → as_price class at (risk f) ≡ None → stands_at (names_place class at product) (key_with c f) ≡ false
+elsewhere Equities at product c (factor.IrCurve n t s) h = and_other (same_product c product) true (same_bucket_id (id.Currency n) (bucket_id_of at))
+elsewhere Equities at product c (factor.Inflation n) h = and_other (same_product c product) true (same_bucket_id (id.Currency n) (bucket_id_of at))
+elsewhere Equities at product c (factor.XccyBasis n) h = and_other (same_product c product) true (same_bucket_id (id.Currency n) (bucket_id_of at))
+elsewhere Equities at product c (factor.IrVol n t) h = and_other (same_product c product) false (same_bucket_id (id.Currency n) (bucket_id_of at))
+elsewhere Equities at product c (factor.InflationVol n t) h = and_other (same_product c product) false (same_bucket_id (id.Currency n) (bucket_id_of at))
+elsewhere Equities at product c (factor.CreditQ i b t l) h = and_other (same_product c product) true (same_bucket_id (bucket_id_of b) (bucket_id_of at))
+elsewhere Equities at product c (factor.CreditVol i b t l) h = and_other (same_product c product) false (same_bucket_id (bucket_id_of b) (bucket_id_of at))
+elsewhere Equities at product c (factor.CreditNonQ i b t l) h = and_other (same_product c product) true (same_bucket_id (bucket_id_of b) (bucket_id_of at))
+elsewhere Equities at product c (factor.CreditVolNonQ i b t l) h = and_other (same_product c product) false (same_bucket_id (bucket_id_of b) (bucket_id_of at))
+elsewhere Equities at product c (factor.BaseCorr i) h = and_other (same_product c product) true (same_bucket_id id.Single (bucket_id_of at))
+elsewhere Equities at product c (factor.Equity i b) h =
+    and_bucket (same_product c product) (same_bucket_id (bucket_id_of b) (bucket_id_of at)) (bucket_ids b at ∙ not_chosen (same_bucket b at) i h)
+elsewhere Equities at product c (factor.EquityVol i b t) h = and_side (same_product c product) (same_bucket_id (bucket_id_of b) (bucket_id_of at))
+elsewhere Equities at product c (factor.Commodity n b) h = and_other (same_product c product) true (same_bucket_id (id.Number b) (bucket_id_of at))
+elsewhere Equities at product c (factor.CommodityVol n b t) h = and_other (same_product c product) false (same_bucket_id (id.Number b) (bucket_id_of at))
+elsewhere Equities at product c (factor.Fx n) h = and_other (same_product c product) true (same_bucket_id id.Single (bucket_id_of at))
+elsewhere Equities at product c (factor.FxVol p t) h = and_other (same_product c product) false (same_bucket_id id.Single (bucket_id_of at))
+elsewhere Commodities at product c (factor.IrCurve n t s) h = and_other (same_product c product) true (same_bucket_id (id.Currency n) (bucket_id_of at))
+elsewhere Commodities at product c (factor.Inflation n) h = and_other (same_product c product) true (same_bucket_id (id.Currency n) (bucket_id_of at))
+elsewhere Commodities at product c (factor.XccyBasis n) h = and_other (same_product c product) true (same_bucket_id (id.Currency n) (bucket_id_of at))
+elsewhere Commodities at product c (factor.IrVol n t) h = and_other (same_product c product) false (same_bucket_id (id.Currency n) (bucket_id_of at))
+elsewhere Commodities at product c (factor.InflationVol n t) h = and_other (same_product c product) false (same_bucket_id (id.Currency n) (bucket_id_of at))
+elsewhere Commodities at product c (factor.CreditQ i b t l) h = and_other (same_product c product) true (same_bucket_id (bucket_id_of b) (bucket_id_of at))
+elsewhere Commodities at product c (factor.CreditVol i b t l) h = and_other (same_product c product) false (same_bucket_id (bucket_id_of b) (bucket_id_of at))
+elsewhere Commodities at product c (factor.CreditNonQ i b t l) h = and_other (same_product c product) true (same_bucket_id (bucket_id_of b) (bucket_id_of at))
+elsewhere Commodities at product c (factor.CreditVolNonQ i b t l) h = and_other (same_product c product) false (same_bucket_id (bucket_id_of b) (bucket_id_of at))
+elsewhere Commodities at product c (factor.BaseCorr i) h = and_other (same_product c product) true (same_bucket_id id.Single (bucket_id_of at))
+elsewhere Commodities at product c (factor.Equity i b) h = and_other (same_product c product) true (same_bucket_id (bucket_id_of b) (bucket_id_of at))
+elsewhere Commodities at product c (factor.EquityVol i b t) h = and_other (same_product c product) false (same_bucket_id (bucket_id_of b) (bucket_id_of at))
+elsewhere Commodities at product c (factor.Commodity n b) h =
+    and_bucket (same_product c product) (same_bucket_id (bucket_id_of (bucket.Number b)) (bucket_id_of at)) (bucket_ids (bucket.Number b) at ∙ not_chosen (same_bucket (bucket.Number b) at) n h)
+elsewhere Commodities at product c (factor.CommodityVol n b t) h = and_side (same_product c product) (same_bucket_id (id.Number b) (bucket_id_of at))
+elsewhere Commodities at product c (factor.Fx n) h = and_other (same_product c product) true (same_bucket_id id.Single (bucket_id_of at))
+elsewhere Commodities at product c (factor.FxVol p t) h = and_other (same_product c product) false (same_bucket_id id.Single (bucket_id_of at))
+
+-- the nets of the place are those of the bucket's names
+pub names_nets : (class : PricedClass) (at : Bucket) (product : ProductClass) (fs : List (FactorKey × Holding)) → nets_at (names_place class at product) fs ≡ map (λ a. a.amount) (names_in class at product fs)
+names_nets class at product fs = nets_place (as_price class at) (names_place class at product) (stands class at product) (λ k e. elsewhere class at product k.product k.factor e) fs
+
+-- ---- in which order
+
+less : (class : PricedClass) (at : Bucket) (product : ProductClass) (k l : FactorKey) (x y : List ℕ) → same_product k.product product ≡ true → same_product l.product product ≡ true → as_price class at (risk k.factor) ≡ Some x → as_price class at (risk l.factor) ≡ Some y → key_cmp k l ≡ Less → name_cmp x y ≡ Less
+less Equities at product k l x y p q e d h =
+    let i = is_equity at k.factor x e in
+    let j = is_equity at l.factor y d in
+    sym (by_factor product k l (factor.Equity x i.of) (factor.Equity y j.of) p q i.is j.is
+    ∙ ap (λ o. ordering_then (name_cmp x y) (ordering_then o Equal)) (tied_buckets i.of j.of at i.inside j.inside) ∙ then_Equal (name_cmp x y)) ∙ h
+less Commodities at product k l x y p q e d h =
+    let i = is_commodity at k.factor x e in
+    let j = is_commodity at l.factor y d in
+    sym (by_factor product k l (factor.Commodity x i.of) (factor.Commodity y j.of) p q i.is j.is
+    ∙ ap (λ o. ordering_then (name_cmp x y) (ordering_then o Equal)) (tied_buckets (bucket.Number i.of) (bucket.Number j.of) at i.inside j.inside) ∙ then_Equal (name_cmp x y)) ∙ h
+
+names_ascend : (class : PricedClass) (at : Bucket) (product : ProductClass) (fs : List (FactorKey × Holding)) → IsBook fs → IsStrictlySortedBy name_cmp (map (λ a. a.of) (names_in class at product fs))
+names_ascend class at product fs book = select_ascends (as_price class at) name_cmp product (less class at product) fs book
+
+-- ---- their value
+
+pub names_value : (b : PricedBucket) (class : PricedClass) (at : Bucket) (product : ProductClass) (fs : List (FactorKey × Holding)) (factors : List Weighed) (rho : ℤ) → IsBook fs → factors ≡ map (λ a. weighed_alone (b.terms).weight ((b.terms).thresholds).delta a.amount) (names_in class at product fs) → rho ≡ six (b.terms).rho → bucket_value scaling.Concentrated factors (λ _ _. rho) (record { 0 = one }) ≡ price_value b (names_in class at product fs)
+names_value b class at product fs factors rho book made is =
+    value_is name_cmp nat_list_cmp_total same_name (λ x y. refl) scaling.Concentrated (name_rho b) (λ a. weighted_name (b.terms).weight ((b.terms).thresholds).delta a.of a.amount) (λ a. refl) (record { of = []; amount = pos 0 })
+    (names_in class at product fs) (names_ascend class at product fs book) factors (λ _ _. rho) made (λ i j l m apart. is)
+
+-- ---- their sizes
+
+pub names_crs : (w t : ℤ) (amounts : List (Amount (List ℕ))) → AreTerms w t → AreSmall (λ x. w) amounts → AllByRecursion (λ a. (weighed_alone w t a.amount).cr.0 <ℤ pos 347000000) amounts
+names_crs w t amounts terms small =
+    each_weaker (λ (a : Amount (List ℕ)). IsSmall w a.amount) (λ a. (weighed_alone w t a.amount).cr.0 <ℤ pos 347000000) (λ a its. cr_below (cr a.amount t) (alone_size w t a.amount terms its)) amounts small
+
+pub names_close : (w t : ℤ) (amounts : List (Amount (List ℕ))) → AreTerms w t → AreSmall (λ x. w) amounts → AllByRecursion (λ a. unsigned_abs (weighed_alone w t a.amount).w * 10 ^ 10 ≤ size_one (λ x. w) a * 346999999 + 10 ^ 10) amounts
+names_close w t amounts terms small =
+    each_weaker (λ (a : Amount (List ℕ)). IsSmall w a.amount) (λ a. unsigned_abs (weighed_alone w t a.amount).w * 10 ^ 10 ≤ size_one (λ x. w) a * 346999999 + 10 ^ 10)
+    (λ a its. weighted_close w a.amount (cr a.amount t) (alone_size w t a.amount terms its)) amounts small
+
+-- the weighed nets of the place are those of the names
+pub names_made : (w t u : ℤ) (class : PricedClass) (at : Bucket) (product : ProductClass) (fs : List (FactorKey × Holding)) (place : Place) (factors made : List Weighed) → factors ≡ made → made ≡ map (weighed_alone w u) (nets_at place fs) → u ≡ t → place ≡ names_place class at product → factors ≡ map (λ a. weighed_alone w t a.amount) (names_in class at product fs)
+names_made w t u class at product fs place factors made same e is there =
+    same ∙ e ∙ ap (λ z. map (weighed_alone w z) (nets_at place fs)) is ∙ ap (λ p. map (weighed_alone w t) (nets_at p fs)) there
+    ∙ ap (map (weighed_alone w t)) (names_nets class at product fs) ∙ map-map (weighed_alone w t) (λ (a : Amount (List ℕ)). a.amount) (names_in class at product fs)

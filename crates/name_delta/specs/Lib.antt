@@ -1,0 +1,9 @@
+pub mod Values
+pub mod Base
+pub mod Alone
+pub mod Currencies
+pub mod Names
+pub mod Points
+pub mod Ids
+pub mod Delta
+pub mod Combine

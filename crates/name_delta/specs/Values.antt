@@ -1,0 +1,54 @@
+-- Which buckets have a value, and what is known of it.
+use Rattle.std.specs.Prelude.{◌≡◌, ◌*◌, ◌^◌, ◌<◌, ◌≤◌, List, map, length, ℤ, pos, ◌+ℤ◌, ◌*ℤ◌, ◌≤ℤ◌, unsigned_abs}
+use Rattle.std.specs.List.{AllByRecursion}
+use Rattle.simm_kinds.specs.declared.kinds.ProductClass.{ProductClass}
+use Rattle.simm_kinds.specs.declared.key.FactorKey.{FactorKey}
+use Rattle.simm_rules.specs.declared.values.BucketMargin.{BucketMargin}
+use Rattle.simm_rules.specs.Net.{Sensitivity, in_product}
+use Rattle.simm_rules.specs.Risks.{Amount}
+use Rattle.simm_rules.specs.Concentration.{one}
+use Rattle.simm_rules.specs.Bucket.{Weighted}
+use Rattle.simm_rules.specs.Gross.{size_by}
+use Rattle.factor_book.specs.declared.holding.Holding.{Holding}
+use Rattle.factor_book.specs.declared.place.Place.{Place}
+use Rattle.factor_book.specs.Factors.{net_of}
+use Rattle.factor_book.specs.Places.{factors_at}
+use Rattle.weighted_bucket.specs.declared.weighed.Weighed.{Weighed}
+
+-- the net sensitivities of a product class among the factors of a book, in key order
+abbrev pub nets_in : ProductClass → List (FactorKey × Holding) → List Sensitivity
+nets_in product factors = in_product product (map net_of factors)
+
+-- the nets of factors, and those of a place
+abbrev pub nets : List (FactorKey × Holding) → List ℤ
+nets factors = map (λ f. (f.1).net) factors
+
+abbrev pub nets_at : Place → List (FactorKey × Holding) → List ℤ
+nets_at place factors = nets (factors_at place factors)
+
+-- the factors of a bucket in range: no more than 2,000, whose weighted sizes come to at most 10^13 cents
+pub record IsInRange {A : Type 0} (weight : A → ℤ) (amounts : List (Amount A)) : Type 0 where
+  pub few : length amounts ≤ 2000
+  pub small : size_by weight amounts ≤ℤ pos (10 ^ 17)
+
+-- the size of one of them, weighted, in ten-thousandths of a cent
+abbrev pub IsSmall : ℤ → ℤ → Type 0
+IsSmall weight amount = unsigned_abs amount * unsigned_abs weight ≤ 10 ^ 17
+
+abbrev pub AreSmall : {A : Type 0} → (A → ℤ) → List (Amount A) → Type 0
+AreSmall weight amounts = AllByRecursion (λ a. IsSmall (weight a.of) a.amount) amounts
+
+-- The sizes of a bucket's value. Concentration factors are below 347, and each weighted value is less than a cent off, so that
+-- the gross sizes of all buckets of a class in range add up to less than 8.4 * 10^15 cents.
+pub record IsSized {A : Type 0} (weight : A → ℤ) (amounts : List (Amount A)) (value : BucketMargin) : Type 0 where
+  pub not_negative : pos 0 ≤ℤ value.k
+  pub held : unsigned_abs value.s ≤ unsigned_abs value.k
+  pub margin : unsigned_abs value.k ≤ unsigned_abs value.gross
+  pub sum : unsigned_abs value.sum ≤ unsigned_abs value.gross
+  pub gross : (value.gross *ℤ pos (10 ^ 10)) ≤ℤ (size_by weight amounts *ℤ pos 346999999 +ℤ pos (length amounts) *ℤ pos (10 ^ 10))
+  pub below : unsigned_abs value.gross < 84 * 10 ^ 14
+  pub unconcentrated : value.cr.0 ≡ one
+
+-- a factor of the rule as the engine has it
+abbrev pub weighed_as : {A : Type 0} → Weighted A → Weighed
+weighed_as f = record { w = f.w; cr = record { 0 = f.cr } }

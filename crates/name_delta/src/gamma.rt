@@ -1,0 +1,46 @@
+ghost use Rattle.std.specs.Prelude.{◌≡◌, ℕ, ◌<◌, ◌≤◌, length, unsigned_abs};
+ghost use Rattle.pair_sum.specs.WithItself.{with_itself};
+ghost use Rattle.pair_sum.proofs.Itself.{with_itself-one};
+ghost use Rattle.name_delta.specs.Combine.{gamma_in, gamma_at};
+
+use crate::named::NamedClass;
+use crate::six::in_millionths;
+use mh_units::Corr6;
+use pair_sum::Correlation;
+use simm_params::Params;
+
+/// The correlations of numbered buckets, by their places among those that the file lists.
+#[derive(Drop)]
+pub struct GammaTable<'a> {
+    pub params: &'a Params,
+    pub class: NamedClass,
+    pub places: Vec<usize>,
+    ghost symmetric: { (i j : ℕ) → with_itself (gamma_at (gamma_in params.now class) places.items) i j ≡ with_itself (gamma_at (gamma_in params.now class) places.items) j i },
+    ghost at_most_one: { (i j : ℕ) → unsigned_abs (with_itself (gamma_at (gamma_in params.now class) places.items) i j) ≤ 1000000 },
+}
+
+impl Correlation for GammaTable<'_> {
+    ghost size = { λ x. length x.places.items };
+
+    ghost corr = { λ x. with_itself (gamma_at (gamma_in x.params.now x.class) x.places.items) };
+
+    ghost symmetric = { λ x i j _ _. x.symmetric i j };
+
+    ghost at_most_one = { λ x i j _ _. x.at_most_one i j };
+
+    ghost one_with_itself = { λ x i _. with_itself-one (gamma_at (gamma_in x.params.now x.class) x.places.items) i };
+
+    fn size(&self) -> usize {
+        self.places.len()
+    }
+
+    fn corr(&self, i: usize, j: usize) -> Corr6 {
+        if i == j {
+            return Corr6::ONE;
+        }
+        in_millionths(
+            self.class
+                .gamma(self.params, self.places[i], self.places[j]),
+        )
+    }
+}
