@@ -3,4 +3,4 @@ pub mod Repeated
 pub mod Variants
 pub mod Orders
 pub mod Rows
-pub mod FxRows
+pub mod BuiltRows

@@ -2,14 +2,11 @@
 use Rattle.std.specs.Prelude.{◌≡◌, ◌^◌, List, [], ◌∷◌, ℕ, length, Option, Some, None, Result, Ok, Err, Bool, true, false, ◌&&◌, ◌||◌, not, ◌==◌, nat_lt, nat_le, ℤ, pos, unsigned_abs, int_le, if◌then◌else◌, map}
 use Rattle.std.specs.List.{flat_map, list_any, list_all}
 use Rattle.simm_kinds.specs.declared.kinds.ProductClass.{ProductClass}
-use Rattle.simm_kinds.specs.declared.factor.Factor.{Factor}
-use Rattle.simm_kinds.specs.declared.factor.Factor.TheVariants as factor
 use Rattle.simm_kinds.specs.declared.row.CrifRow.{CrifRow}
 use Rattle.simm_kinds.specs.declared.row.CrifRow.TheVariants as row
 use Rattle.simm_kinds.specs.declared.row.TradeRows.{TradeRows}
 use Rattle.simm_kinds.specs.declared.fault.MakeFault.{MakeFault}
 use Rattle.simm_kinds.specs.declared.fault.MakeFault.TheVariants as fault
-use Rattle.simm_kinds.specs.NameText.{is_currency}
 pub use Rattle.simm_kinds.specs.Repeats.{repeats}
 use Rattle.simm_kinds.specs.Order.{same_name, same_product}
 use Rattle.simm_kinds.specs.Built.{is_built_row}
@@ -85,30 +82,3 @@ abbrev pub MakesBatch : List TradeRows → Result (List TradeRows) MakeFault →
 MakesBatch trades (Ok batch) = (batch ≡ trades) × (batch_fault trades ≡ None)
 MakesBatch trades (Err fault.Memory) = Unit {0}
 MakesBatch trades (Err f) = batch_fault trades ≡ Some f
-
--- a factor of a currency
-abbrev pub IsFx : Factor → Type 0
-IsFx (factor.IrCurve c t s) = ⊥
-IsFx (factor.Inflation c) = ⊥
-IsFx (factor.XccyBasis c) = ⊥
-IsFx (factor.IrVol c t) = ⊥
-IsFx (factor.InflationVol c t) = ⊥
-IsFx (factor.CreditQ i b t l) = ⊥
-IsFx (factor.CreditVol i b t l) = ⊥
-IsFx (factor.CreditNonQ i b t l) = ⊥
-IsFx (factor.CreditVolNonQ i b t l) = ⊥
-IsFx (factor.BaseCorr i) = ⊥
-IsFx (factor.Equity i b) = ⊥
-IsFx (factor.EquityVol i b t) = ⊥
-IsFx (factor.Commodity n b) = ⊥
-IsFx (factor.CommodityVol n b t) = ⊥
-IsFx (factor.Fx c) = is_currency c ≡ true
-IsFx (factor.FxVol p t) = ⊥
-
--- a sensitivity to a currency
-abbrev pub IsFxRow : CrifRow → Type 0
-IsFxRow (row.Sensitivity key amount) = IsFx key.factor
-IsFxRow (row.Notional qualifier amount) = ⊥
-IsFxRow (row.FixedAmount amount) = ⊥
-IsFxRow (row.NotionalFactor qualifier factor) = ⊥
-IsFxRow (row.Multiplier product factor) = ⊥

@@ -193,28 +193,25 @@ impl Factor {
         }
     }
 
-    /// Whether the margin of sensitivities to the factor is built: of those to a currency alone.
+    /// Whether the margin of sensitivities to the factor is built: of all but volatilities.
     pub fn is_built(&self) -> bool
         ensures { result ≡ is_built self.now }
     {
         match self {
-            Factor::Fx { currency } => {
-                let _three_letters = currency.letters();
-                true
-            }
             Factor::IrCurve { .. }
             | Factor::Inflation { .. }
             | Factor::XccyBasis { .. }
-            | Factor::IrVol { .. }
-            | Factor::InflationVol { .. }
             | Factor::CreditQ { .. }
-            | Factor::CreditVol { .. }
             | Factor::CreditNonQ { .. }
-            | Factor::CreditVolNonQ { .. }
             | Factor::BaseCorr { .. }
             | Factor::Equity { .. }
-            | Factor::EquityVol { .. }
             | Factor::Commodity { .. }
+            | Factor::Fx { .. } => true,
+            Factor::IrVol { .. }
+            | Factor::InflationVol { .. }
+            | Factor::CreditVol { .. }
+            | Factor::CreditVolNonQ { .. }
+            | Factor::EquityVol { .. }
             | Factor::CommodityVol { .. }
             | Factor::FxVol { .. } => false,
         }

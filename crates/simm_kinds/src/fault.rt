@@ -53,7 +53,7 @@ pub enum MakeFault {
     EmptyTrade,
     /// An amount is out of its risk type's range.
     Amount,
-    /// A row is no sensitivity to a currency. It stands until every margin is built.
+    /// A row is no sensitivity of delta or base correlation. It stands until every margin is built.
     Unbuilt,
     /// There is no memory for the tests.
     Memory,

@@ -20,7 +20,7 @@ mod repeats;
 mod row;
 mod words;
 
-pub use batch::{Batch, built_rows_are_fx};
+pub use batch::{Batch, batches_are_built};
 pub use bucket::Bucket;
 pub use bucket_number::BucketNumber;
 pub use credit_tenor::CreditTenor;
