@@ -1,0 +1,2 @@
+//! The range of a book: the counts and weighted sizes up to which margins are calculated, by the factors that it nets to.
+#![tactic(auto)]
