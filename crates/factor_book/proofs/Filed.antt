@@ -155,7 +155,7 @@ module _ (filed : List (Place × List (FactorKey × Holding))) (f : AreFiled fil
       (ap any_is (at_places place fs) ∙ sym (any_different place_cmp (is_at (place_cmp place)) (tied_place place) (map (λ x. place_of x.0) fs) ∙ any-filter (is_at (place_cmp place)) (λ x. place_of x.0) fs))
       ∙ sym (lookup-graph (λ p. factors_at p fs) (is_at (place_cmp place)) place (one_place place) (places_of fs))
 
-places_ascend : (fs : List (FactorKey × Holding)) → IsStrictlySortedBy place_cmp (keys_of (by_place fs))
+pub places_ascend : (fs : List (FactorKey × Holding)) → IsStrictlySortedBy place_cmp (keys_of (by_place fs))
 places_ascend fs = subst (IsStrictlySortedBy place_cmp) (sym (keys-graph (λ p. factors_at p fs) (places_of fs))) (different_ascends place_cmp place_total (map (λ x. place_of x.0) fs))
 
 -- the entries are the factors by place

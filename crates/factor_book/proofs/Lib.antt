@@ -6,5 +6,6 @@ pub mod Standing
 pub mod Held
 pub mod Netting
 pub mod Filed
+pub mod Sides
 pub mod Books
 pub mod Rows

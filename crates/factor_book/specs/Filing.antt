@@ -1,17 +1,19 @@
 -- How the factors of a book are filed: by place, and there by key. Nobody who reads a book has to read this.
-use Rattle.std.specs.Prelude.{ℕ, ◌≡◌, ◌≢◌, ◌+◌, ◌^◌, ◌<◌, List, [], ◌∷◌, ◌++◌, length, cond, Option, Some, None, IsSome, IfSome, ℤ}
+use Rattle.std.specs.Prelude.{ℕ, ◌≡◌, ◌≢◌, ◌+◌, ◌*◌, ◌^◌, ◌<◌, Bool, ◌&&◌, List, [], ◌∷◌, ◌++◌, length, cond, Option, Some, None, IsSome, IfSome, ℤ}
 use Rattle.std.specs.List.{flat_map, AllByRecursion}
 use Rattle.std.specs.List.Sorted.{IsStrictlySortedBy}
 use Rattle.std.specs.Map.{lookup, keys_of}
 use Rattle.std.specs.BTreeMap.{insert_entry, is_at}
 use Rattle.simm_kinds.specs.declared.key.FactorKey.{FactorKey}
-use Rattle.simm_kinds.specs.Order.{same_key, key_cmp}
+use Rattle.simm_kinds.specs.Order.{product_place, class_place, same_product, same_class, same_key, key_cmp}
 use Rattle.simm_rules.specs.Net.{Sensitivity}
 use Rattle.factor_book.specs.declared.place.Place.{Place}
+use Rattle.factor_book.specs.declared.at.SideAt.{SideAt}
 use Rattle.factor_book.specs.declared.holding.Holding.{Holding}
 use Rattle.factor_book.specs.declared.filing.Left.{Left}
 use Rattle.factor_book.specs.declared.filing.Left.TheVariants as left
-use Rattle.factor_book.specs.Place.{place_of, place_cmp}
+use Rattle.factor_book.specs.Place.{place_of, book_side_place, place_cmp}
+use Rattle.factor_book.specs.Places.{same_side}
 use Rattle.factor_book.specs.Holdings.{IsSmall, shrunk}
 use Rattle.factor_book.specs.Factors.{factors_in}
 
@@ -88,3 +90,12 @@ pub record TakesAt (old new : List (Place × List (FactorKey × Holding))) (key 
   pub taken : (k : FactorKey) → lookup (same_key k) factors
       ≡ cond (same_key key k) (shrunk (found old key) amount) (found_in (lookup (is_at (place_cmp (place_of key))) old) k)
   pub leaves : Leaves rest (shrunk (found old key) amount) factors
+
+-- ---- the places of a side stand together
+
+abbrev pub is_of : SideAt → Place → Bool
+is_of at place = same_product place.product at.product && (same_class place.class at.class && same_side place.side at.side)
+
+-- how many sides stand before it
+abbrev pub sides_before : SideAt → ℕ
+sides_before at = product_place at.product * 12 + (class_place at.class * 2 + book_side_place at.side)

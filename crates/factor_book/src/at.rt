@@ -1,3 +1,4 @@
+use crate::place::BookSide;
 use simm_kinds::{BucketId, ProductClass, RiskClass};
 
 /// One bucket of one risk class in one product class.
@@ -13,4 +14,12 @@ pub struct BucketAt {
 pub struct ClassAt {
     pub product: ProductClass,
     pub class: RiskClass,
+}
+
+/// One side of one risk class in one product class.
+#[derive(Clone, Copy, Debug, PartialEq, Eq)]
+pub struct SideAt {
+    pub product: ProductClass,
+    pub class: RiskClass,
+    pub side: BookSide,
 }

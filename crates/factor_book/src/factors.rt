@@ -9,17 +9,19 @@ ghost use Rattle.factor_book.specs.declared.place.Place.{Place};
 ghost use Rattle.factor_book.specs.declared.holding.Holding.{Holding};
 ghost use Rattle.factor_book.specs.Holdings.{IsSmall};
 ghost use Rattle.factor_book.specs.Factors.{factors_in, factors_of, IsBook, HasRoom, AreHeld};
-ghost use Rattle.factor_book.specs.Places.{factors_at, by_place};
+ghost use Rattle.factor_book.specs.Places.{factors_at, by_place, by_bucket};
 ghost use Rattle.factor_book.specs.Filing.{AreSmall, HasRoomFor, Holds};
 
+use crate::at::SideAt;
 use crate::filing::{add_at_place, take_at_place};
 use crate::place::Place;
 use crate::place_factors::PlaceFactors;
+use crate::side_places::side_bounds;
 use mh_units::Cents;
 use simm_kinds::{CrifRow, FactorKey};
 use std::alloc::{AllocError, Global};
 use std::collections::BTreeMap;
-use std::collections::btree_map::Iter;
+use std::collections::btree_map::{Iter, Range};
 use std::marker::Model;
 
 /// The risk factors of the rows that the book holds: for each its net sensitivity, its gross size and its number of rows.
@@ -131,6 +133,16 @@ impl Factors {
         ensures all { IsPermutation self.now (flat_map (λ e. e.1) (by_place self.now)) }
     {
         self.by_place.iter()
+    }
+
+    /// Lends each place of a side that has a factor, in the order of buckets, with its factors in key order. It takes no
+    /// memory, and costs the logarithm of the number of places, and what it lends.
+    pub fn side(&self, at: SideAt) -> Range<'_, Place, PlaceFactors>
+        ensures rest { result ≡ by_bucket at self.now }
+        ensures runs { ShowsInOrder (deref_pair {K = Place} {X = List (FactorKey × Holding)}) }
+    {
+        let (start, end) = side_bounds(at);
+        self.by_place.range((start.as_ref(), end.as_ref()))
     }
 
     /// Takes rows that are held.

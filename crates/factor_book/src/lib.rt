@@ -9,8 +9,9 @@ mod holding;
 mod laws;
 mod place;
 mod place_factors;
+mod side_places;
 
-pub use at::{BucketAt, ClassAt};
+pub use at::{BucketAt, ClassAt, SideAt};
 pub use factors::Factors;
 pub use holding::Holding;
 pub use laws::{factors_are_netted, order_is_free};
