@@ -1,9 +1,8 @@
--- What the grammar has is a batch of FX rows.
+-- What the grammar has is a batch.
 use Rattle.std.proofs.Common.{◌≡◌, ◌==◌, ◌∷◌, [], ◌++◌, ℕ, ◌+◌, ◌<◌, ◌≤◌, ◌^◌, Bool, true, false, not, ◌&&◌, ◌||◌, cond, ltb, ℤ, unsigned_abs, List, length, map, fold, Option, Some, None, ok_or, inl, inr, ◌⊎◌, ◌≢◌, Result, Ok, Err, zero, suc, refl, ap, subst, ◌∙◌, arith, length-append, zero-add}
 use Rattle.std.specs.List.{list_any, list_all, flat_map, AllByRecursion}
 use Rattle.std.proofs.lemmas.Bool.{and_parts, or_from, ne_eqb, eqb-false, ltb-false, le-ltb, le-leb, not-true}
 use Rattle.std.proofs.lemmas.List.{nil_from_length}
-use Rattle.std.proofs.lemmas.Option.{cond_some}
 use Rattle.std.specs.Prelude.{codes}
 use Rattle.std.specs.Result.{result_map_both}
 use Rattle.mh_units.specs.declared.quantities.Cents.{Cents}
@@ -15,17 +14,12 @@ use Rattle.mh_units.specs.Numeral.{cents_of, number_of, with_sign, signed, is_mi
 use Rattle.simm_kinds.specs.declared.row.CrifRow.{CrifRow}
 use Rattle.simm_kinds.specs.declared.row.CrifRow.TheVariants as row
 use Rattle.simm_kinds.specs.declared.row.TradeRows.{TradeRows}
-use Rattle.simm_kinds.specs.Currency.{currency_text, upper}
 use Rattle.simm_kinds.specs.Built.{is_built_row}
 use Rattle.simm_kinds.specs.Batch.{IsBatch, rows_of, repeats, factor_names, multiplied, is_misplaced, is_in_range, is_param}
 use Rattle.simm_kinds.specs.Order.{same_name, same_product}
-use Rattle.simm_kinds.specs.declared.factor.Factor.{Factor}
-use Rattle.simm_kinds.specs.declared.factor.Factor.TheVariants as factor
 use Rattle.simm_kinds.specs.declared.kinds.RiskType.{RiskType}
-use Rattle.simm_kinds.specs.declared.kinds.RiskType.TheVariants as kind
 use Rattle.simm_kinds.specs.Kinds.{kind_named}
 use Rattle.simm_kinds.specs.Words.{is_word}
-use Rattle.simm_kinds.specs.declared.kinds.ProductClass.{ProductClass}
 use Rattle.simm_kinds.specs.NameText.{is_full_name}
 use Rattle.crif_reader.specs.declared.columns.Columns.{Columns}
 use Rattle.crif_reader.specs.declared.fault.CrifFault.TheVariants.{Row, TooManyRows, EmptyBatch}
@@ -42,7 +36,8 @@ use Rattle.crif_reader.specs.Grammar.{Kept, Crif, none_kept, with_taken, at_reco
 use Rattle.crif_reader.specs.Grammar.{rows_of as file_rows_of}
 use Rattle.crif_reader.specs.Growth.{with_entry}
 use Rattle.crif_reader.proofs.Gathered.{grown-gathered, trade_in, repeats-trade_names}
-use Rattle.crif_reader.proofs.Known.{known_fx}
+use Rattle.crif_reader.proofs.Binds.{bind_ok, same_ok}
+use Rattle.crif_reader.proofs.Known.{known_is_built, known_is_sensitivity}
 
 -- ---- rows and trades that may stand in a batch
 
@@ -167,13 +162,6 @@ batch-gathered es good some few =
 
 -- ---- what a record has
 
-bind_ok : {A B E P : Type 0} (f : A → Result B E) (r : Result A E) (y : B) → (r >>= f) ≡ Ok y → ((x : A) → r ≡ Ok x → f x ≡ Ok y → P) → P
-bind_ok f (Ok x) y e k = k x refl e
-bind_ok f (Err d) y e k = cc
-
-same_ok : {A E : Type 0} (x y : A) → ◌≡◌ {A = Result A E} (Ok x) (Ok y) → x ≡ y
-same_ok x y e = cc
-
 either : {A : Type 0} (b : Bool) (x y z : A) → cond b x y ≡ z → ((b ≡ true) × (x ≡ z)) ⊎ ((b ≡ false) × (y ≡ z))
 either true x y z e = inl (refl, e)
 either false x y z e = inr (refl, e)
@@ -227,27 +215,20 @@ trade_named text trade e =
     let some = eqb-false (length text) 0 (not-true _ tests.0) in
     rw (← parts.1) (omega arith)
 
--- a factor of a currency is built
-built_currency : (t : Texts) (f : Factor) (product : ProductClass) (amount : Cents) → factor_of kind.Fx t ≡ Ok f → is_built_row (row.Sensitivity (record { product = product; factor = f }) amount) ≡ true
-built_currency t f product amount e =
-    bind_ok _ (ok_or (currency_text t.qualifier) fault.Qualifier) f e (λ currency is_currency e1.
-    let letters = cond_some _ (upper t.qualifier) currency (some_ok (currency_text t.qualifier) fault.Qualifier currency is_currency) in
-    rw (← same_ok (factor.Fx currency) f e1) (rw (← letters.1) letters.0))
-
-good_sensitivity : (t : Texts) (e : Entry) → sensitivity_of kind.Fx t ≡ Ok e → IsGoodEntry e
+good_sensitivity : (k : RiskType) (t : Texts) (e : Entry) → is_known k ≡ true → sensitivity_of k t ≡ Ok e → IsGoodEntry e
 unfolding sensitivity_of
-good_sensitivity t e h =
+good_sensitivity k t e known h =
     bind_ok _ (trade_of t) e h (λ trade is_trade h1.
     bind_ok _ (product_of t) e h1 (λ product is_product h2.
-    bind_ok _ (factor_of kind.Fx t) e h2 (λ f is_factor h3.
+    bind_ok _ (factor_of k t) e h2 (λ f is_factor h3.
     bind_ok _ (amount_of t) e h3 (λ amount is_amount h4.
     subst IsGoodEntry (same_ok _ e h4) (record {
       named = trade_named t.trade_id trade is_trade;
-      row = record { built = built_currency t f product amount is_factor; size = le-leb (unsigned_abs amount.0) (10 ^ 15) (amount_size t amount is_amount) };
+      row = record { built = known_is_built k t f known is_factor; size = le-leb (unsigned_abs amount.0) (10 ^ 15) (amount_size t amount is_amount) };
     })))))
 
 good_known : (k : RiskType) (t : Texts) (e : Entry) → is_known k ≡ true → entry_of k t ≡ Ok e → IsGoodEntry e
-good_known k t e known h = good_sensitivity t e (rw (known_fx k known) at h)
+good_known k t e known h = good_sensitivity k t e known (rw (known_is_sensitivity k t known) at h)
 
 good_typed : (t : Texts) (e : Entry) → typed_of t ≡ Ok (Some e) → IsGoodEntry e
 unfolding typed_of

@@ -3,6 +3,7 @@ pub mod Places
 pub mod Gathered
 pub mod FieldsAt
 pub mod NotedRows
+pub mod Binds
 pub mod Known
 pub mod Batches
 pub mod Runs

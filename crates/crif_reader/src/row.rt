@@ -172,10 +172,22 @@ fn entry_of(alloc: Global, kind: RiskType, fields: &Fields) -> Result<Entry, Row
     }
 }
 
+/// Until every margin is built, the types of delta and base correlation are read.
 fn is_known(kind: RiskType) -> bool
     ensures { result ≡ is_known kind }
 {
-    matches!(kind, RiskType::Fx)
+    matches!(
+        kind,
+        RiskType::IrCurve
+            | RiskType::Inflation
+            | RiskType::XccyBasis
+            | RiskType::CreditQ
+            | RiskType::CreditNonQ
+            | RiskType::BaseCorr
+            | RiskType::Equity
+            | RiskType::Commodity
+            | RiskType::Fx
+    )
 }
 
 fn is_present_value(kind: RiskType) -> bool
