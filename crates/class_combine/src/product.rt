@@ -1,0 +1,78 @@
+ghost use Rattle.std.specs.Prelude.{◌≡◌, ◌*◌, ◌^◌, ◌≤◌, pos, ◌≤ℤ◌, unsigned_abs};
+ghost use Rattle.simm_kinds.specs.declared.kinds.RiskClass.{RiskClass as Class};
+ghost use Rattle.simm_rules.specs.Simm.{classes as each_class, joined};
+ghost use Rattle.simm_rules.specs.Sums.{total_by, total_by_pairs};
+ghost use Rattle.class_combine.specs.Classes.{class_in, class_pair, AreClassMargins};
+
+use mh_units::{Cents, div_up, least_root};
+use simm_kinds::RiskClass;
+use simm_params::Params;
+use simm_rules::ClassMargins;
+
+/// The margin of a product class that has these margins of its risk classes: the root of all ordered pairs of them, each by
+/// the correlation of the two classes, upwards to the cent.
+pub fn product_margin(params: &Params, classes: &ClassMargins) -> Cents
+    requires { AreClassMargins classes.now }
+    ensures value { result.0 ≡ joined params.now (λ class. (class_in classes.now class).0) }
+    ensures low { pos 0 ≤ℤ result.0 }
+    ensures size { result.0 ≤ℤ pos (10 ^ 17) }
+{
+    let square = div_up(pairs(params, classes), 10_000);
+    if square <= 0 {
+        Cents(0)
+    } else {
+        Cents(least_root(square as u128) as i128)
+    }
+}
+
+// All ordered pairs of classes, in cents squared times 10^4.
+fn pairs(params: &Params, classes: &ClassMargins) -> i128
+    requires { AreClassMargins classes.now }
+    ensures value { result ≡ total_by_pairs (class_pair params.now classes.now) each_class }
+    ensures size { unsigned_abs result ≤ 10000 * (96 * 10 ^ 15 * (96 * 10 ^ 15)) }
+{
+    pairs_with(params, classes, RiskClass::IR)
+        + pairs_with(params, classes, RiskClass::CreditQ)
+        + pairs_with(params, classes, RiskClass::CreditNonQ)
+        + pairs_with(params, classes, RiskClass::Equity)
+        + pairs_with(params, classes, RiskClass::Commodity)
+        + pairs_with(params, classes, RiskClass::FX)
+}
+
+// A class and each class, in cents squared times 10^4.
+fn pairs_with(params: &Params, classes: &ClassMargins, class: RiskClass) -> i128
+    requires { AreClassMargins classes.now }
+    ensures value { result ≡ total_by (class_pair params.now classes.now class) each_class }
+    ensures size { unsigned_abs result ≤ 6 * (10000 * (16 * 10 ^ 15 * (16 * 10 ^ 15))) }
+{
+    pair(params, classes, class, RiskClass::IR)
+        + pair(params, classes, class, RiskClass::CreditQ)
+        + pair(params, classes, class, RiskClass::CreditNonQ)
+        + pair(params, classes, class, RiskClass::Equity)
+        + pair(params, classes, class, RiskClass::Commodity)
+        + pair(params, classes, class, RiskClass::FX)
+}
+
+// The product of the margins of two classes and their correlation, in cents squared times 10^4.
+fn pair(params: &Params, classes: &ClassMargins, a: RiskClass, b: RiskClass) -> i128
+    requires { AreClassMargins classes.now }
+    ensures value { result ≡ class_pair params.now classes.now a b }
+    ensures size { unsigned_abs result ≤ 10000 * (16 * 10 ^ 15 * (16 * 10 ^ 15)) }
+{
+    let correlation = params.psi(a, b);
+    i128::from(correlation.0) * margin_of(classes, a).0 * margin_of(classes, b).0
+}
+
+// The margin of a class.
+fn margin_of(classes: &ClassMargins, class: RiskClass) -> Cents
+    ensures { result ≡ class_in classes.now class }
+{
+    match class {
+        RiskClass::IR => classes.ir,
+        RiskClass::CreditQ => classes.credit_q,
+        RiskClass::CreditNonQ => classes.credit_nonq,
+        RiskClass::Equity => classes.equity,
+        RiskClass::Commodity => classes.commodity,
+        RiskClass::FX => classes.fx,
+    }
+}
