@@ -1,2 +1,6 @@
 //! The range of a book: the counts and weighted sizes up to which margins are calculated, by the factors that it nets to.
 #![tactic(auto)]
+
+mod laws;
+
+pub use laws::{fewer_are_in_range, range_bounds};

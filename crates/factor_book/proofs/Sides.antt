@@ -71,12 +71,12 @@ parts_are : (p q c d s t : ℕ) → c < 6 → d < 6 → s < 2 → t < 2 → ((p 
 parts_are p q c d s t a b e f =
     same_tests ((p == q) && ((c == d) && (s == t))) (p * 12 + (c * 2 + s) == q * 12 + (d * 2 + t))
     (λ h.
-      let both = and_parts (p == q) ((c == d) && (s == t)) h in
-      let rest = and_parts (c == d) (s == t) both.1 in
-      eq-eqb _ _ (omega (arith, eqb-true p q both.0, eqb-true c d rest.0, eqb-true s t rest.1)))
+    let both = and_parts (p == q) ((c == d) && (s == t)) h in
+    let rest = and_parts (c == d) (s == t) both.1 in
+    eq-eqb _ _ (omega (arith, eqb-true p q both.0, eqb-true c d rest.0, eqb-true s t rest.1)))
     (λ h.
-      let same : p * 12 + (c * 2 + s) ≡ q * 12 + (d * 2 + t) = eqb-true _ _ h in
-      and_from (p == q) ((c == d) && (s == t)) (eq-eqb p q (omega (arith, same))) (and_from (c == d) (s == t) (eq-eqb c d (omega (arith, same))) (eq-eqb s t (omega (arith, same)))))
+    let same : p * 12 + (c * 2 + s) ≡ q * 12 + (d * 2 + t) = eqb-true _ _ h in
+    and_from (p == q) ((c == d) && (s == t)) (eq-eqb p q (omega (arith, same))) (and_from (c == d) (s == t) (eq-eqb c d (omega (arith, same))) (eq-eqb s t (omega (arith, same)))))
 
 is_of-number : (at : SideAt) (q : Place) → is_of at q ≡ (sides_before (side_of_place q) == sides_before at)
 is_of-number at q =
@@ -118,10 +118,10 @@ after_last at q =
     let t = side_below q.side in
     less_first (product_place at.product) (product_place q.product) (sides_before at) (sides_before (side_of_place q)) _
     (λ e. less_first (class_place at.class) (class_place q.class) (sides_before at) (sides_before (side_of_place q)) _
-      (λ f. less_first (book_side_place at.side) (book_side_place q.side) (sides_before at) (sides_before (side_of_place q)) _
-        (λ g. not_before (sides_before at) (sides_before (side_of_place q)) (bucket_id_cmp id.Single q.bucket) (single_last q.bucket) (omega (arith, e, f, g)))
-        (λ l. omega (arith, e, f, l)) (λ l. omega (arith, e, f, l)))
-      (λ l. omega (arith, e, l, s, t)) (λ l. omega (arith, e, l, s, t)))
+    (λ f. less_first (book_side_place at.side) (book_side_place q.side) (sides_before at) (sides_before (side_of_place q)) _
+    (λ g. not_before (sides_before at) (sides_before (side_of_place q)) (bucket_id_cmp id.Single q.bucket) (single_last q.bucket) (omega (arith, e, f, g)))
+    (λ l. omega (arith, e, f, l)) (λ l. omega (arith, e, f, l)))
+    (λ l. omega (arith, e, l, s, t)) (λ l. omega (arith, e, l, s, t)))
     (λ l. omega (arith, l, c, d, s, t)) (λ l. omega (arith, l, c, d, s, t))
 
 last_number : (m n : ℕ) → m ≡ 0 → (true && not (nat_lt m n)) ≡ (n == m)

@@ -1,0 +1,28 @@
+//! What a book in range keeps, and what the range of a book depends on.
+ghost use Rattle.std.specs.Prelude.{◌≡◌, List, None, Bool};
+ghost use Rattle.std.specs.List.{filter};
+ghost use Rattle.simm_kinds.specs.declared.row.CrifRow.{CrifRow as Row};
+ghost use Rattle.simm_kinds.specs.declared.row.TradeRows.{TradeRows as Trade};
+ghost use Rattle.simm_kinds.specs.Batch.{rows_of};
+ghost use Rattle.simm_rules.specs.Range.{range};
+ghost use Rattle.book_range.specs.Bounded.{IsBounded};
+
+use simm_params::Params;
+
+/// No quantity of a book in range is above its limit. It does nothing.
+pub fn range_bounds(params: &Params)
+    ensures { (held : List Row) → range params.now held ≡ None → IsBounded params.now held }
+{
+    let _params = params;
+}
+
+/// Some trades of a book in range are in range. It does nothing.
+pub fn fewer_are_in_range(params: &Params)
+    ensures { (test : Trade → Bool) (trades : List Trade) → range params.now (rows_of trades) ≡ None
+        → range params.now (rows_of (filter test trades)) ≡ None }
+{
+    params.facts();
+    params.rate_facts();
+    params.credit_facts();
+    params.priced_facts();
+}
