@@ -45,12 +45,18 @@ const HEADER: &str =
 const EMPTY: [&str; 2] = ["", "T,FX,PV\n"];
 
 /// What follows the header, and the fault of its first record.
-const FAULTS: [(&str, RowFault); 9] = [
+const FAULTS: [(&str, RowFault); 15] = [
     ("T,FX,Risk_FX,EUR,,,,1,USD,1,more\n", RowFault::FieldCount),
     (",,Risk_None,,,,,,,\n", RowFault::RiskType),
+    (",,Risk_EquityVol,,,,,,,\n", RowFault::RiskType),
+    (",,Param_AddOnFixedAmount,,,,,,,\n", RowFault::RiskType),
     (" ,,Risk_FX,,,,,,,\n", RowFault::Trade),
     ("T,Rate,Risk_FX,,,,,,,\n", RowFault::ProductClass),
     ("T,FX,Risk_FX,EURO,,,,,,\n", RowFault::Qualifier),
+    ("T,Equity,Risk_Equity,,0\n", RowFault::Qualifier),
+    ("T,Equity,Risk_Equity,X,0\n", RowFault::Bucket),
+    ("T,FX,Risk_IRCurve,EUR,,4y\n", RowFault::Label1),
+    ("T,FX,Risk_IRCurve,EUR,,5y,OI\n", RowFault::Label2),
     ("T,FX,Risk_FX,EUR\n", RowFault::Amount(NumeralFault::Empty)),
     (
         "T,FX,Risk_FX,EUR,,,,1,EUR,\n",

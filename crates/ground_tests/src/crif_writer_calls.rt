@@ -29,3 +29,27 @@ fn a_written_batch_reads_back(rt: HostRuntime) {
         .expect(&rt, "memory");
     assert!(rt; again.as_slice() == TEXT);
 }
+
+/// A row of each risk type that is read, as it is written.
+const EVERY_TYPE: &[u8] =
+    b"TradeID\tProductClass\tRiskType\tQualifier\tBucket\tLabel1\tLabel2\tAmount\tAmountCurrency\tAmountUSD\n\
+T1\tRatesFX\tRisk_IRCurve\tEUR\t\t1y\tLibor3m\t1.00\tUSD\t1.00\n\
+T1\tRatesFX\tRisk_Inflation\tEUR\t\t\t\t-2.00\tUSD\t-2.00\n\
+T1\tRatesFX\tRisk_XCcyBasis\tEUR\t\t\t\t3.00\tUSD\t3.00\n\
+T1\tCredit\tRisk_CreditQ\tISIN:X\t1\t5y\tEUR\t4.00\tUSD\t4.00\n\
+T1\tCredit\tRisk_CreditNonQ\tRMBS A\tResidual\t10y\t\t5.00\tUSD\t5.00\n\
+T1\tCredit\tRisk_BaseCorr\tCDX IG\t\t\t\t6.00\tUSD\t6.00\n\
+T2\tEquity\tRisk_Equity\tISIN:A\tResidual\t\t\t7.00\tUSD\t7.00\n\
+T2\tCommodity\tRisk_Commodity\tCrude\t64\t\t\t8.00\tUSD\t8.00\n\
+T2\tRatesFX\tRisk_FX\tEUR\t\t\t\t9.00\tUSD\t9.00\n";
+
+#[test]
+fn a_batch_of_every_type_is_written_as_it_is_read(rt: HostRuntime) {
+    let read = read_batch(rt.alloc(), EVERY_TYPE)
+        .ok()
+        .expect(&rt, "a batch");
+    let text = write_batch(rt.alloc(), &read.batch)
+        .ok()
+        .expect(&rt, "memory");
+    assert!(rt; text.as_slice() == EVERY_TYPE);
+}

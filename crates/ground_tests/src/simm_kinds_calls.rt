@@ -294,7 +294,7 @@ fn each_factor_has_its_class_side_and_bucket(rt: HostRuntime) {
         let factor = factor_of(&rt, kind).expect(&rt, "a factor");
         assert!(rt; factor.kind() == kind && factor.class() == class && factor.side() == side);
         assert!(rt; bucket_number(factor.bucket()) == number);
-        assert!(rt; factor.is_built() == (kind == RiskType::Fx));
+        assert!(rt; factor.is_built() == (side != Side::Volatility));
     }
 }
 
@@ -485,6 +485,24 @@ fn add_ons_are_no_batch_yet(rt: HostRuntime) {
             other.rows.push(row).ok().expect(&rt, "memory");
         }
         assert_eq!(rt; batch_with(&rt, other).err(), Some(fault));
+    }
+}
+
+#[test]
+fn volatilities_are_no_batch_yet(rt: HostRuntime) {
+    for (kind, _, side, _) in FACTORS {
+        let factor = factor_of(&rt, kind).expect(&rt, "a factor");
+        let product = ProductClass::Credit;
+        let key = FactorKey { product, factor };
+        let amount = Cents(1);
+        let mut other = trade(&rt, "T2", "EUR", 1, 0);
+        let row = CrifRow::Sensitivity { key, amount };
+        other.rows.push(row).ok().expect(&rt, "memory");
+        let fault = batch_with(&rt, other).err();
+        assert_eq!(rt;
+            fault,
+            (side == Side::Volatility).then_some(MakeFault::Unbuilt)
+        );
     }
 }
 
