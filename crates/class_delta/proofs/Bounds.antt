@@ -1,0 +1,215 @@
+-- What the range of a book says of the buckets of its classes.
+use Rattle.std.proofs.Common.{◌≡◌, ◌^◌, ℕ, ◌*◌, ◌≤◌, List, [], ◌∷◌, map, length, Some, not, ap, ℤ, pos, negsuc, ◌*ℤ◌, ◌≤ℤ◌, unsigned_abs, arith}
+use Rattle.std.specs.List.{AllByRecursion}
+use Rattle.std.proofs.lemmas.Int.{ints}
+use Rattle.std.proofs.lemmas.List.{length-map}
+use Rattle.std.proofs.lemmas.List.Elements.{recursion_from_All}
+use Rattle.simm_kinds.specs.declared.kinds.ProductClass.{ProductClass}
+use Rattle.simm_kinds.specs.declared.kinds.RiskClass.TheVariants as class
+use Rattle.simm_kinds.specs.declared.bucket.Bucket.{Bucket}
+use Rattle.simm_kinds.specs.declared.key.FactorKey.{FactorKey}
+use Rattle.simm_kinds.specs.declared.row.CrifRow.{CrifRow}
+use Rattle.simm_kinds.specs.Order.{same_product}
+use Rattle.simm_rules.specs.declared.values.BucketMargin.{BucketMargin}
+use Rattle.simm_rules.specs.Params.{Params, CreditBucket, PricedBucket}
+use Rattle.simm_rules.specs.Sums.{total_by}
+use Rattle.simm_rules.specs.Net.{Sensitivity, sensitivities, in_product}
+use Rattle.simm_rules.specs.Risks.{CreditClass, Qualifying, Non_qualifying, PricedClass, Equities, Commodities, Amount, select}
+use Rattle.simm_rules.specs.BaseCorrelation.{as_index}
+use Rattle.simm_rules.specs.Bucket.{Weighted}
+use Rattle.simm_rules.specs.Credit.{as_credit, credit_params}
+use Rattle.simm_rules.specs.ForeignExchange.{as_currency, is_own_currency, fx_weight}
+use Rattle.simm_rules.specs.Gross.{size_by, credit_size, price_size}
+use Rattle.simm_rules.specs.Priced.{as_price, priced_params}
+use Rattle.simm_rules.specs.Rates.{as_rate, rate_weight, rates_in}
+use Rattle.simm_params.specs.Buckets.{AreInOrder}
+use Rattle.simm_params.specs.ClassRanges.{IsCreditBucket, IsPricedBucket}
+use Rattle.simm_params.specs.Facts.{IsParams, IsCreditParams, IsPricedParams}
+use Rattle.factor_book.specs.declared.holding.Holding.{Holding}
+use Rattle.factor_book.specs.Factors.{factors_of, net_of}
+use Rattle.factor_book.specs.Places.{factors_at}
+use Rattle.book_range.specs.Bounded.{IsBounded}
+use Rattle.ir_delta.specs.Range.{IsClass}
+use Rattle.ir_delta.proofs.Lent.{rate_place, standing}
+use Rattle.ir_delta.proofs.Weights.{weight_within}
+use Rattle.name_delta.specs.Base.{base_place, indices_of, index_weight}
+use Rattle.name_delta.specs.Currencies.{as_risky, currency_place, currencies_in}
+use Rattle.name_delta.specs.Names.{names_place, names_in}
+use Rattle.name_delta.specs.Points.{points_place, points_in, as_issuer}
+use Rattle.name_delta.specs.Values.{nets_in, IsInRange, IsSized}
+use Rattle.name_delta.proofs.Currencies.{currencies_at}
+use Rattle.name_delta.proofs.CreditPoints.{issuer_amount, points_nets}
+use Rattle.name_delta.proofs.Indices.{indices_at}
+use Rattle.name_delta.proofs.Lists.{each_weaker}
+use Rattle.name_delta.proofs.Names.{names_nets}
+use Rattle.name_delta.proofs.Shrinking.{SizesAreNetted, nets_shrink, filter_shrinks}
+use Rattle.class_delta.proofs.Lists.{filter-length, select-length}
+
+-- ---- sums that are not negative
+
+times_low : (a : ℕ) (w : ℤ) → pos 0 ≤ℤ w → pos 0 ≤ℤ (pos a *ℤ w)
+times_low a (pos w) low = omega (arith, ints)
+times_low a (negsuc w) low = absurd low.le
+
+pub size_low : {A : Type 0} (weight : A → ℤ) → ((x : A) → pos 0 ≤ℤ weight x) → (amounts : List (Amount A)) → pos 0 ≤ℤ size_by weight amounts
+size_low weight low [] = omega (arith, ints)
+size_low weight low (a ∷ amounts) = omega (arith, ints, times_low (unsigned_abs a.amount) (weight a.of) (low a.of), size_low weight low amounts)
+
+pub total_low : {X : Type 0} (f : X → ℤ) (xs : List X) → AllByRecursion (λ x. pos 0 ≤ℤ f x) xs → pos 0 ≤ℤ total_by f xs
+total_low f [] h = omega (arith, ints)
+total_low f (x ∷ xs) h = omega (arith, ints, h.0, total_low f xs h.1)
+
+-- the sizes of values
+pub gross_low : {A : Type 0} (fs : List (Weighted A)) → pos 0 ≤ℤ total_by (λ k. pos (unsigned_abs k.w)) fs
+gross_low [] = omega (arith, ints)
+gross_low (f ∷ fs) = omega (arith, ints, gross_low fs)
+
+-- ---- the margin of a bucket in range
+
+pub value_most : {A : Type 0} (weight : A → ℤ) (amounts : List (Amount A)) (value : BucketMargin) → IsInRange weight amounts → IsSized weight amounts value → pos 0 ≤ℤ value.gross → value.k ≤ℤ pos (4 * 10 ^ 15)
+value_most weight amounts value range its low = omega (arith, ints, its.gross, its.margin, its.not_negative, range.small, range.few)
+
+-- ---- a class of which the file lists buckets
+
+-- its buckets in order, and their amounts in range
+pub record HasClass {X A : Type 0} (id : X → Bucket) (weight : X → ℤ) (amounts : Bucket → List (Amount A)) (xs : List X) : Type 0 where
+  pub in_order : AreInOrder (map id xs)
+  pub few : length xs ≤ 65
+  pub few_each : (b : Bucket) → length (amounts b) ≤ 2000
+  pub low : AllByRecursion (λ x. pos 0 ≤ℤ weight x) xs
+  pub total : total_by (λ x. size_by (λ _. weight x) (amounts (id x))) xs ≤ℤ pos (10 ^ 17)
+
+-- ---- the classes that have one bucket
+
+module _ (p : Params) (facts : IsParams p) (held : List CrifRow) (bounded : IsBounded p held) (product : ProductClass) (sizes : SizesAreNetted held) where
+  abbrev fs : List (FactorKey × Holding)
+  fs = factors_of held
+
+  abbrev ss : List Sensitivity
+  ss = in_product product (sensitivities held)
+
+  weights_low : (class : CreditClass) → IsCreditParams (credit_params p class) → AllByRecursion (λ b. pos 0 ≤ℤ (b.terms).weight) (credit_params p class).buckets
+  weights_low class its =
+      each_weaker IsCreditBucket (λ b. pos 0 ≤ℤ (b.terms).weight) (λ b own. omega (arith, ints, own.terms.weight.low)) (credit_params p class).buckets
+      (recursion_from_All IsCreditBucket (credit_params p class).buckets its.ranged.buckets)
+
+  pub indices_range : IsInRange (index_weight p) (indices_of product fs)
+  indices_range =
+      let class_low = total_low (λ b. size_by (λ point. (b.terms).weight) (select (as_credit Qualifying (b.terms).id) ss)) p.credit_q.buckets (each_low p.credit_q.buckets (weights_low Qualifying facts.credit_q)) in
+      record {
+        few = omega (arith, ap length (indices_at product fs), length-map (indices_of product fs) (λ (a : Amount (List ℕ)). a.amount), length-map (factors_at (base_place product) fs) (λ (f : FactorKey × Holding). (f.1).net), bounded.each (base_place product));
+        small = omega (arith, ints, nets_shrink as_index (index_weight p) (λ x. omega (arith, ints, facts.base_weight.low)) held sizes product, bounded.delta product class.CreditQ, class_low);
+      }
+    where
+      each_low : (bs : List CreditBucket) → AllByRecursion (λ b. pos 0 ≤ℤ (b.terms).weight) bs → AllByRecursion (λ b. pos 0 ≤ℤ size_by (λ point. (b.terms).weight) (select (as_credit Qualifying (b.terms).id) ss)) bs
+      each_low [] h = tt
+      each_low (b ∷ bs) h = (size_low (λ point. (b.terms).weight) (λ point. h.0) (select (as_credit Qualifying (b.terms).id) ss), each_low bs h.1)
+
+  currencies_few : length (currencies_in p product fs) ≤ 2000
+  currencies_few =
+      omega (arith, ap length (currencies_at p product fs), select-length (as_risky p) (map net_of (factors_at (currency_place product) fs)), length-map (factors_at (currency_place product) fs) net_of, bounded.each (currency_place product))
+
+  pub currencies_range : ((currency : List ℕ) → pos 0 ≤ℤ fx_weight p currency) → IsInRange (fx_weight p) (currencies_in p product fs)
+  currencies_range low = record {
+    few = currencies_few;
+    small = omega (
+      arith,
+      ints,
+      nets_shrink as_currency (fx_weight p) low held sizes product,
+      filter_shrinks (fx_weight p) low (λ (a : Amount (List ℕ)). not (is_own_currency p a.of)) (select as_currency (nets_in product fs)),
+      bounded.delta product class.FX,
+    );
+  }
+
+  -- ---- interest rates
+
+  rates_few : (currency : List ℕ) → length (rates_in currency (nets_in product fs)) ≤ 2000
+  rates_few currency =
+      let place = rate_place product currency in
+      omega (arith, ap length (standing product currency fs), select-length as_rate (map net_of (factors_at place fs)), length-map (factors_at place fs) net_of, bounded.each place)
+
+  pub rates_range : IsClass p (nets_in product fs)
+  rates_range = record {
+    few = omega (arith, select-length as_rate (nets_in product fs), filter-length (λ (s : Sensitivity). same_product s.key.product product) (map net_of fs), length-map fs net_of, bounded.keys);
+    few_each = rates_few;
+    small = omega (arith, ints, nets_shrink as_rate (rate_weight p) (λ r. omega (arith, ints, (weight_within p facts r).low)) held sizes product, bounded.delta product class.IR);
+  }
+
+  -- ---- the classes of which the file lists buckets
+
+  module _ {X : Type 0} (f g : X → ℤ) where
+    totals_le : (xs : List X) → AllByRecursion (λ x. f x ≤ℤ g x) xs → total_by f xs ≤ℤ total_by g xs
+    totals_le [] h = omega (arith, ints)
+    totals_le (x ∷ xs) h = omega (arith, ints, h.0, totals_le xs h.1)
+
+  credit_of : (class : CreditClass) → IsCreditParams (credit_params p class)
+  credit_of Qualifying = facts.credit_q
+  credit_of Non_qualifying = facts.credit_nq
+
+  priced_of : (class : PricedClass) → IsPricedParams (priced_params p class)
+  priced_of Equities = facts.equity
+  priced_of Commodities = facts.commodity
+
+  credit_low : (class : CreditClass) → AllByRecursion (λ b. pos 0 ≤ℤ (b.terms).weight) (credit_params p class).buckets
+  credit_low class = weights_low class (credit_of class)
+
+  priced_low : (class : PricedClass) → AllByRecursion (λ b. pos 0 ≤ℤ (b.terms).weight) (priced_params p class).buckets
+  priced_low class =
+      each_weaker IsPricedBucket (λ b. pos 0 ≤ℤ (b.terms).weight) (λ b its. omega (arith, ints, its.terms.weight.low)) (priced_params p class).buckets
+      (recursion_from_All IsPricedBucket (priced_params p class).buckets (priced_of class).ranged.buckets)
+
+  credit_small : (class : CreditClass) → credit_size p class ss ≤ℤ pos (10 ^ 17)
+  credit_small Qualifying = omega (arith, ints, bounded.delta product class.CreditQ, size_low (λ (index : List ℕ). p.base_weight) (λ index. omega (arith, ints, facts.base_weight.low)) (select as_index ss))
+  credit_small Non_qualifying = bounded.delta product class.CreditNonQ
+
+  priced_small : (class : PricedClass) → price_size p class ss ≤ℤ pos (10 ^ 17)
+  priced_small Equities = bounded.delta product class.Equity
+  priced_small Commodities = bounded.delta product class.Commodity
+
+  points_few : (class : CreditClass) (b : Bucket) → length (points_in class b product fs) ≤ 2000
+  points_few class b =
+      let place = points_place class b product in
+      omega (
+        arith,
+        ap length (points_nets class b product fs),
+        length-map (points_in class b product fs) issuer_amount,
+        select-length as_issuer (map net_of (factors_at place fs)),
+        length-map (factors_at place fs) net_of,
+        bounded.each place,
+      )
+
+  names_few : (class : PricedClass) (b : Bucket) → length (names_in class b product fs) ≤ 2000
+  names_few class b =
+      let place = names_place class b product in
+      omega (arith, ap length (names_nets class b product fs), length-map (names_in class b product fs) (λ (a : Amount (List ℕ)). a.amount), length-map (factors_at place fs) (λ (f : FactorKey × Holding). (f.1).net), bounded.each place)
+
+  pub credit_class : (class : CreditClass) → HasClass (λ b. (b.terms).id) (λ b. (b.terms).weight) (λ b. points_in class b product fs) (credit_params p class).buckets
+  credit_class class =
+      let net : CreditBucket → ℤ = λ b. size_by (λ point. (b.terms).weight) (points_in class (b.terms).id product fs) in
+      let gross : CreditBucket → ℤ = λ b. size_by (λ point. (b.terms).weight) (select (as_credit class (b.terms).id) ss) in
+      let each : AllByRecursion (λ b. net b ≤ℤ gross b) (credit_params p class).buckets =
+      each_weaker (λ (b : CreditBucket). pos 0 ≤ℤ (b.terms).weight) (λ b. net b ≤ℤ gross b) (λ b low. nets_shrink (as_credit class (b.terms).id) (λ point. (b.terms).weight) (λ point. low) held sizes product) (credit_params p class).buckets (credit_low class) in
+      record {
+        in_order = (credit_of class).ranged.in_order;
+        few = (credit_of class).ranged.few;
+        few_each = points_few class;
+        low = credit_low class;
+        total = omega (arith, ints, totals_le net gross (credit_params p class).buckets each, credit_small class);
+      }
+
+  pub priced_class : (class : PricedClass) → HasClass (λ b. (b.terms).id) (λ b. (b.terms).weight) (λ b. names_in class b product fs) (priced_params p class).buckets
+  priced_class class =
+      let net : PricedBucket → ℤ = λ b. size_by (λ name. (b.terms).weight) (names_in class (b.terms).id product fs) in
+      let gross : PricedBucket → ℤ = λ b. size_by (λ name. (b.terms).weight) (select (as_price class (b.terms).id) ss) in
+      let each : AllByRecursion (λ b. net b ≤ℤ gross b) (priced_params p class).buckets =
+      each_weaker (λ (b : PricedBucket). pos 0 ≤ℤ (b.terms).weight) (λ b. net b ≤ℤ gross b) (λ b low. nets_shrink (as_price class (b.terms).id) (λ name. (b.terms).weight) (λ name. low) held sizes product) (priced_params p class).buckets (priced_low class) in
+      record {
+        in_order = (priced_of class).ranged.in_order;
+        few = (priced_of class).ranged.few;
+        few_each = names_few class;
+        low = priced_low class;
+        total = omega (arith, ints, totals_le net gross (priced_params p class).buckets each, priced_small class);
+      }
+
+pub was_value : (m n : BucketMargin) → Some m ≡ Some n → m ≡ n
+was_value m n e = cc

@@ -1,0 +1,225 @@
+-- The parts of each class of which the file lists buckets: in range, and their margin the rule's.
+use Rattle.std.proofs.Common.{◌≡◌, ◌^◌, ℕ, ◌*◌, ◌≤◌, List, [], ◌∷◌, map, true, false, Some, refl, sym, ap, ◌∙◌, subst, ℤ, pos, ◌≤ℤ◌, unsigned_abs}
+use Rattle.std.specs.Prelude.{sum_by}
+use Rattle.std.specs.List.{list_any, list_all, AllByRecursion}
+use Rattle.std.specs.List.Sorted.{IsStrictlySortedBy}
+use Rattle.simm_kinds.specs.declared.kinds.ProductClass.{ProductClass}
+use Rattle.simm_kinds.specs.declared.kinds.RiskClass.{RiskClass}
+use Rattle.simm_kinds.specs.declared.kinds.RiskClass.TheVariants as class
+use Rattle.simm_kinds.specs.declared.kinds.BucketId.{BucketId}
+use Rattle.simm_kinds.specs.declared.kinds.BucketId.TheVariants as id
+use Rattle.simm_kinds.specs.declared.bucket.Bucket.{Bucket}
+use Rattle.simm_kinds.specs.declared.bucket.Bucket.TheVariants as bucket
+use Rattle.simm_kinds.specs.declared.key.FactorKey.{FactorKey}
+use Rattle.simm_kinds.specs.declared.row.CrifRow.{CrifRow}
+use Rattle.simm_kinds.specs.Factors.{bucket_id_of}
+use Rattle.simm_kinds.specs.Order.{bucket_id_cmp, same_bucket_id}
+use Rattle.simm_rules.specs.declared.values.BucketMargin.{BucketMargin}
+use Rattle.simm_rules.specs.Params.{Params, CreditBucket, PricedBucket}
+use Rattle.simm_rules.specs.Net.{Sensitivity}
+use Rattle.simm_rules.specs.Risks.{CreditClass, Qualifying, Non_qualifying, PricedClass, Equities, Commodities, CreditPoint, Amount, select}
+use Rattle.simm_rules.specs.Across.{margin_over}
+use Rattle.simm_rules.specs.Admits.{admits}
+use Rattle.simm_rules.specs.Credit.{as_credit, credit_params, listed_credit, weighted_point, credit_value}
+use Rattle.simm_rules.specs.Credit.{credit_delta as credit_margin}
+use Rattle.simm_rules.specs.Priced.{as_price, priced_params, listed_priced, weighted_name, price_value, price_delta}
+use Rattle.simm_params.specs.Facts.{IsParams}
+use Rattle.factor_book.specs.declared.at.ClassAt.{ClassAt}
+use Rattle.factor_book.specs.declared.holding.Holding.{Holding}
+use Rattle.factor_book.specs.Factors.{factors_of}
+use Rattle.factor_book.specs.Places.{factors_at}
+use Rattle.book_range.specs.Bounded.{IsBounded}
+use Rattle.name_delta.specs.Combine.{parts_in, combined_by_class, IsListed, HasBucket, AreSized, AreParts}
+use Rattle.name_delta.specs.Delta.{credit_delta, priced_delta, IsCreditReady, IsPricedReady, IsReady, IsCreditSized, IsPricedSized}
+use Rattle.name_delta.specs.Ids.{listed_id}
+use Rattle.name_delta.specs.Names.{names_place, names_in}
+use Rattle.name_delta.specs.Points.{points_place, points_in, issuer_nets}
+use Rattle.name_delta.specs.Values.{nets_in, nets}
+use Rattle.name_delta.proofs.CreditPoints.{issuer_amount, points_nets}
+use Rattle.name_delta.proofs.Empty.{credit_kept, priced_kept}
+use Rattle.name_delta.proofs.Lists.{each_weaker, each_both, each_unmap}
+use Rattle.name_delta.proofs.Names.{names_nets}
+use Rattle.name_delta.proofs.Shrinking.{SizesAreNetted}
+use Rattle.class_delta.specs.Class.{class_delta_of}
+use Rattle.class_delta.specs.Buckets.{listed_buckets, bucket_at, IsNumbered, IsValued}
+use Rattle.class_delta.proofs.Bounds.{gross_low, credit_class, priced_class}
+use Rattle.class_delta.proofs.InBook.{place_in, listed_ascend, none_at, listed_each}
+use Rattle.class_delta.proofs.Listed.{ready, IsOwned, owned, margin_of_parts, parts_small, parts_sized}
+
+abbrev Whole : Type 0
+Whole = BucketId × BucketMargin
+
+nothing : {X Y : Type 0} (f : X → Y) (xs : List X) → map f xs ≡ [] → xs ≡ []
+nothing f [] e = refl
+nothing f (x ∷ xs) e = absurd (cc)
+
+points_gross : (b : CreditBucket) (points : List (Amount CreditPoint)) → pos 0 ≤ℤ (credit_value b points).gross
+points_gross b points = gross_low (map (weighted_point (b.terms).weight ((b.terms).thresholds).delta points) points)
+
+names_gross : (b : PricedBucket) (names : List (Amount (List ℕ))) → pos 0 ≤ℤ (price_value b names).gross
+names_gross b names = gross_low (map (λ (a : Amount (List ℕ)). weighted_name (b.terms).weight ((b.terms).thresholds).delta a.of a.amount) names)
+
+-- what the parts of a class come to
+pub record IsDone (p : Params) (c : RiskClass) (ss : List Sensitivity) (parts : List Whole) : Type 0 where
+  pub are : AreParts p c parts
+  pub margin : (z : ℤ) → Some z ≡ combined_by_class p c parts → z ≡ class_delta_of p ss c
+  pub small : sum_by (λ part. unsigned_abs (part.1).k) parts ≤ 4 * 10 ^ 15
+
+was_some : (z : ℤ) (y : ℤ) → Some z ≡ Some y → z ≡ y
+was_some z y e = cc
+
+module _ (p : Params) (facts : IsParams p) (held : List CrifRow) (bounded : IsBounded p held) (product : ProductClass) (sizes : SizesAreNetted held) where
+  abbrev fs : List (FactorKey × Holding)
+  fs = factors_of held
+
+  abbrev ss : List Sensitivity
+  ss = nets_in product fs
+
+  abbrev ids : List Whole → List BucketId
+  ids parts = map (λ part. part.0) parts
+
+  -- ---- credit
+
+  module _ (c : CreditClass) where
+    abbrev points : Bucket → List (Amount CreditPoint)
+    points b = points_in c b product fs
+
+    abbrev credit_owned : Whole → Type 0
+    credit_owned = IsOwned (λ (b : CreditBucket). (b.terms).id) (λ b. (b.terms).weight) credit_value points_gross points (credit_params p c).buckets (credit_class p facts held bounded product sizes c)
+
+    credit_ready : (k : BucketId) → IsListed (listed_credit (credit_params p c)) (listed_id k) → IsCreditReady p c (listed_id k) product fs
+    credit_ready (id.Number n) h = ready (λ (b : CreditBucket). (b.terms).id) (λ b. (b.terms).weight) credit_value points_gross points (credit_params p c).buckets (credit_class p facts held bounded product sizes c) (bucket.Number n) h
+    credit_ready id.Residual h = ready (λ (b : CreditBucket). (b.terms).id) (λ b. (b.terms).weight) credit_value points_gross points (credit_params p c).buckets (credit_class p facts held bounded product sizes c) bucket.Residual h
+    credit_ready (id.Currency currency) h = absurd h
+    credit_ready id.Single h = absurd h
+
+    credit_owns : (part : Whole) → IsListed (listed_credit (credit_params p c)) (listed_id part.0) → Some part.1 ≡ credit_delta p c (listed_id part.0) product fs → IsCreditSized p c (listed_id part.0) product fs part.1 → credit_owned part
+    credit_owns (id.Number n, m) h value sized = owned (λ (b : CreditBucket). (b.terms).id) (λ b. (b.terms).weight) credit_value points_gross points (credit_params p c).buckets (credit_class p facts held bounded product sizes c) (bucket.Number n) m h value sized
+    credit_owns (id.Residual, m) h value sized = owned (λ (b : CreditBucket). (b.terms).id) (λ b. (b.terms).weight) credit_value points_gross points (credit_params p c).buckets (credit_class p facts held bounded product sizes c) bucket.Residual m h value sized
+    credit_owns (id.Currency currency, m) h value sized = absurd h
+    credit_owns (id.Single, m) h value sized = absurd h
+
+    no_points : (b : Bucket) → factors_at (points_place c b product) fs ≡ [] → points b ≡ []
+    no_points b e = nothing issuer_amount (points b) (sym (points_nets c b product fs) ∙ ap issuer_nets e)
+
+    no_credit : (parts : List Whole) (at : ClassAt) → ids parts ≡ listed_buckets at fs → (b : Bucket) → place_in at b ≡ points_place c b product → list_any (λ k. same_bucket_id k (bucket_id_of b)) (ids parts) ≡ false → select (as_credit c b) ss ≡ []
+    no_credit parts at are b there none =
+        no_points b (ap (λ place. factors_at place fs) (sym there) ∙ none_at at b fs (sym (ap (list_any (λ k. same_bucket_id k (bucket_id_of b))) are) ∙ none))
+
+    credit_total : (parts : List Whole) (at : ClassAt) → AllByRecursion credit_owned parts → ids parts ≡ listed_buckets at fs → ((b : Bucket) → place_in at b ≡ points_place c b product) → margin_over (listed_credit (credit_params p c)) (credit_params p c).gamma (parts_in parts) ≡ credit_margin (credit_params p c) c ss
+    credit_total parts at own are there =
+        margin_of_parts (λ (b : CreditBucket). (b.terms).id) (λ b. (b.terms).weight) credit_value points_gross points (credit_params p c).buckets (credit_class p facts held bounded product sizes c) (credit_params p c).gamma parts own (subst (IsStrictlySortedBy bucket_id_cmp) (sym are) (listed_ascend at fs))
+        ∙ credit_kept (credit_params p c) c ss (λ b. list_any (λ k. same_bucket_id k (bucket_id_of b)) (ids parts)) (λ b none. no_credit parts at are b (there b) none)
+
+  -- ---- equity and commodities
+
+  module _ (c : PricedClass) where
+    abbrev names : Bucket → List (Amount (List ℕ))
+    names b = names_in c b product fs
+
+    abbrev priced_owned : Whole → Type 0
+    priced_owned = IsOwned (λ (b : PricedBucket). (b.terms).id) (λ b. (b.terms).weight) price_value names_gross names (priced_params p c).buckets (priced_class p facts held bounded product sizes c)
+
+    priced_ready : (k : BucketId) → IsListed (listed_priced (priced_params p c)) (listed_id k) → IsPricedReady p c (listed_id k) product fs
+    priced_ready (id.Number n) h = ready (λ (b : PricedBucket). (b.terms).id) (λ b. (b.terms).weight) price_value names_gross names (priced_params p c).buckets (priced_class p facts held bounded product sizes c) (bucket.Number n) h
+    priced_ready id.Residual h = ready (λ (b : PricedBucket). (b.terms).id) (λ b. (b.terms).weight) price_value names_gross names (priced_params p c).buckets (priced_class p facts held bounded product sizes c) bucket.Residual h
+    priced_ready (id.Currency currency) h = absurd h
+    priced_ready id.Single h = absurd h
+
+    priced_owns : (part : Whole) → IsListed (listed_priced (priced_params p c)) (listed_id part.0) → Some part.1 ≡ priced_delta p c (listed_id part.0) product fs → IsPricedSized p c (listed_id part.0) product fs part.1 → priced_owned part
+    priced_owns (id.Number n, m) h value sized = owned (λ (b : PricedBucket). (b.terms).id) (λ b. (b.terms).weight) price_value names_gross names (priced_params p c).buckets (priced_class p facts held bounded product sizes c) (bucket.Number n) m h value sized
+    priced_owns (id.Residual, m) h value sized = owned (λ (b : PricedBucket). (b.terms).id) (λ b. (b.terms).weight) price_value names_gross names (priced_params p c).buckets (priced_class p facts held bounded product sizes c) bucket.Residual m h value sized
+    priced_owns (id.Currency currency, m) h value sized = absurd h
+    priced_owns (id.Single, m) h value sized = absurd h
+
+    no_names : (b : Bucket) → factors_at (names_place c b product) fs ≡ [] → names b ≡ []
+    no_names b e = nothing (λ (a : Amount (List ℕ)). a.amount) (names b) (sym (names_nets c b product fs) ∙ ap nets e)
+
+    no_priced : (parts : List Whole) (at : ClassAt) → ids parts ≡ listed_buckets at fs → (b : Bucket) → place_in at b ≡ names_place c b product → list_any (λ k. same_bucket_id k (bucket_id_of b)) (ids parts) ≡ false → select (as_price c b) ss ≡ []
+    no_priced parts at are b there none =
+        no_names b (ap (λ place. factors_at place fs) (sym there) ∙ none_at at b fs (sym (ap (list_any (λ k. same_bucket_id k (bucket_id_of b))) are) ∙ none))
+
+    priced_total : (parts : List Whole) (at : ClassAt) → AllByRecursion priced_owned parts → ids parts ≡ listed_buckets at fs → ((b : Bucket) → place_in at b ≡ names_place c b product) → margin_over (listed_priced (priced_params p c)) (priced_params p c).gamma (parts_in parts) ≡ price_delta (priced_params p c) c ss
+    priced_total parts at own are there =
+        margin_of_parts (λ (b : PricedBucket). (b.terms).id) (λ b. (b.terms).weight) price_value names_gross names (priced_params p c).buckets (priced_class p facts held bounded product sizes c) (priced_params p c).gamma parts own (subst (IsStrictlySortedBy bucket_id_cmp) (sym are) (listed_ascend at fs))
+        ∙ priced_kept (priced_params p c) c ss (λ b. list_any (λ k. same_bucket_id k (bucket_id_of b)) (ids parts)) (λ b none. no_priced parts at are b (there b) none)
+
+  -- ---- each class
+
+  one_ready : (c : RiskClass) → IsNumbered c → (k : BucketId) → HasBucket p c k → IsReady p (bucket_at (record { product = product; class = c }) k) fs
+  one_ready class.IR n k h = absurd n
+  one_ready class.CreditQ n k h = credit_ready Qualifying k h
+  one_ready class.CreditNonQ n k h = credit_ready Non_qualifying k h
+  one_ready class.Equity n k h = priced_ready Equities k h
+  one_ready class.Commodity n k h = priced_ready Commodities k h
+  one_ready class.FX n k h = absurd n
+
+  module _ (admitted : list_all (admits p) held ≡ true) where
+    pub all_ready : (c : RiskClass) → IsNumbered c → AllByRecursion (λ k. IsReady p (bucket_at (record { product = product; class = c }) k) fs) (listed_buckets (record { product = product; class = c }) fs)
+    all_ready c n =
+        each_weaker (HasBucket p c) (λ k. IsReady p (bucket_at (record { product = product; class = c }) k) fs) (one_ready c n) (listed_buckets (record { product = product; class = c }) fs)
+        (listed_each p (record { product = product; class = c }) n held admitted)
+
+    module _ (parts : List Whole) where
+      has_buckets : (c : RiskClass) → IsNumbered c → ids parts ≡ listed_buckets (record { product = product; class = c }) fs → AllByRecursion (λ part. HasBucket p c part.0) parts
+      has_buckets c n are = each_unmap (HasBucket p c) (λ (part : Whole). part.0) parts (subst (AllByRecursion (HasBucket p c)) (sym are) (listed_each p (record { product = product; class = c }) n held admitted))
+
+      abbrev Both : RiskClass → Whole → Type 0
+      Both c part = HasBucket p c part.0 × IsValued p (record { product = product; class = c }) fs part
+
+      both : (c : RiskClass) → IsNumbered c → ids parts ≡ listed_buckets (record { product = product; class = c }) fs → AllByRecursion (IsValued p (record { product = product; class = c }) fs) parts → AllByRecursion (Both c) parts
+      both c n are values = each_both (λ part. HasBucket p c part.0) (IsValued p (record { product = product; class = c }) fs) parts (has_buckets c n are) values
+
+      ascend : (c : RiskClass) → ids parts ≡ listed_buckets (record { product = product; class = c }) fs → IsStrictlySortedBy bucket_id_cmp (ids parts)
+      ascend c are = subst (IsStrictlySortedBy bucket_id_cmp) (sym are) (listed_ascend (record { product = product; class = c }) fs)
+
+      -- of credit
+      module _ (c : CreditClass) (own : AllByRecursion (credit_owned c) parts) (s : IsStrictlySortedBy bucket_id_cmp (ids parts)) where
+        credit_sized : AreSized parts
+        credit_sized = parts_sized (λ (b : CreditBucket). (b.terms).id) (λ b. (b.terms).weight) credit_value points_gross (points c) (credit_params p c).buckets (credit_class p facts held bounded product sizes c) parts own s
+
+        credit_small : sum_by (λ part. unsigned_abs (part.1).k) parts ≤ 4 * 10 ^ 15
+        credit_small = parts_small (λ (b : CreditBucket). (b.terms).id) (λ b. (b.terms).weight) credit_value points_gross (points c) (credit_params p c).buckets (credit_class p facts held bounded product sizes c) parts own s
+
+      module _ (c : PricedClass) (own : AllByRecursion (priced_owned c) parts) (s : IsStrictlySortedBy bucket_id_cmp (ids parts)) where
+        priced_sized : AreSized parts
+        priced_sized = parts_sized (λ (b : PricedBucket). (b.terms).id) (λ b. (b.terms).weight) price_value names_gross (names c) (priced_params p c).buckets (priced_class p facts held bounded product sizes c) parts own s
+
+        priced_small : sum_by (λ part. unsigned_abs (part.1).k) parts ≤ 4 * 10 ^ 15
+        priced_small = parts_small (λ (b : PricedBucket). (b.terms).id) (λ b. (b.terms).weight) price_value names_gross (names c) (priced_params p c).buckets (priced_class p facts held bounded product sizes c) parts own s
+
+      pub done : (c : RiskClass) → IsNumbered c → ids parts ≡ listed_buckets (record { product = product; class = c }) fs → AllByRecursion (IsValued p (record { product = product; class = c }) fs) parts → IsDone p c ss parts
+      done class.IR n are values = absurd n
+      done class.CreditQ n are values =
+          let own : AllByRecursion (credit_owned Qualifying) parts = each_weaker (Both class.CreditQ) (credit_owned Qualifying) (λ part h. credit_owns Qualifying part h.0 h.1.value h.1.sized) parts (both class.CreditQ n are values) in
+          let s = ascend class.CreditQ are in
+          record {
+            are = record { named = tt; buckets = has_buckets class.CreditQ n are; sized = credit_sized Qualifying own s };
+            margin = λ z e. was_some z _ e ∙ credit_total Qualifying parts (record { product = product; class = class.CreditQ }) own are (λ b. refl);
+            small = credit_small Qualifying own s;
+          }
+      done class.CreditNonQ n are values =
+          let own : AllByRecursion (credit_owned Non_qualifying) parts = each_weaker (Both class.CreditNonQ) (credit_owned Non_qualifying) (λ part h. credit_owns Non_qualifying part h.0 h.1.value h.1.sized) parts (both class.CreditNonQ n are values) in
+          let s = ascend class.CreditNonQ are in
+          record {
+            are = record { named = tt; buckets = has_buckets class.CreditNonQ n are; sized = credit_sized Non_qualifying own s };
+            margin = λ z e. was_some z _ e ∙ credit_total Non_qualifying parts (record { product = product; class = class.CreditNonQ }) own are (λ b. refl);
+            small = credit_small Non_qualifying own s;
+          }
+      done class.Equity n are values =
+          let own : AllByRecursion (priced_owned Equities) parts = each_weaker (Both class.Equity) (priced_owned Equities) (λ part h. priced_owns Equities part h.0 h.1.value h.1.sized) parts (both class.Equity n are values) in
+          let s = ascend class.Equity are in
+          record {
+            are = record { named = tt; buckets = has_buckets class.Equity n are; sized = priced_sized Equities own s };
+            margin = λ z e. was_some z _ e ∙ priced_total Equities parts (record { product = product; class = class.Equity }) own are (λ b. refl);
+            small = priced_small Equities own s;
+          }
+      done class.Commodity n are values =
+          let own : AllByRecursion (priced_owned Commodities) parts = each_weaker (Both class.Commodity) (priced_owned Commodities) (λ part h. priced_owns Commodities part h.0 h.1.value h.1.sized) parts (both class.Commodity n are values) in
+          let s = ascend class.Commodity are in
+          record {
+            are = record { named = tt; buckets = has_buckets class.Commodity n are; sized = priced_sized Commodities own s };
+            margin = λ z e. was_some z _ e ∙ priced_total Commodities parts (record { product = product; class = class.Commodity }) own are (λ b. refl);
+            small = priced_small Commodities own s;
+          }
+      done class.FX n are values = absurd n

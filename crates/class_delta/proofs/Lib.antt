@@ -1,0 +1,9 @@
+pub mod Lists
+pub mod Bounds
+pub mod Totals
+pub mod Listed
+pub mod InBook
+pub mod Classes
+pub mod Margined
+pub mod Lent
+pub mod Valued
