@@ -1,0 +1,4 @@
+pub mod BuiltRows
+pub mod Nothing
+pub mod DeltaAlone
+pub mod Whole

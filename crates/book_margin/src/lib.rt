@@ -1,0 +1,9 @@
+//! The margin of a whole book in range, by the factors that its rows net to: product class after product class, risk class
+//! after risk class, then all together.
+//! (ISDA SIMM methodology, structure of the methodology.)
+#![tactic(auto)]
+
+mod classes;
+mod margin;
+
+pub use margin::margin_in_range;
