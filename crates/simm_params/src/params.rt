@@ -6,8 +6,9 @@ mod rows;
 ghost use Rattle.std.specs.Prelude.{◌≡◌, List, ℕ, IfOk, ◌≤◌, unsigned_abs};
 ghost use Rattle.simm_rules.specs.ForeignExchange.{is_own_currency, fx_weight as weight_of, fx_threshold as threshold_of};
 ghost use Rattle.simm_rules.specs.Simm.{psi};
-ghost use Rattle.simm_params.specs.Ranges.{weights, lambda_bases, IsWithin};
+ghost use Rattle.simm_params.specs.Ranges.{weights, lambda_bases, sigmas, IsWithin};
 ghost use Rattle.simm_params.specs.Categories.{volatility, concentration, category_weight, category_rho, category_threshold};
+ghost use Rattle.simm_params.specs.FxLookups.{pair_sigma};
 ghost use Rattle.simm_params.specs.Facts.{IsParams, IsWeighed};
 ghost use Rattle.simm_params.specs.TablesView.{tables_view};
 
@@ -155,6 +156,14 @@ impl Params {
                 .regular,
             _ => self.tables.fx.rhos.mixed,
         }
+    }
+
+    /// The volatility of a pair whose currencies are of these volatility categories, in ten-thousandths.
+    pub fn fx_sigma(&self, a: VolatilityCategory, b: VolatilityCategory) -> Rate4
+        ensures value { result.0 ≡ pair_sigma self.now.fx a b }
+        ensures range { IsWithin sigmas result.0 }
+    {
+        self.tables.fx.sigma(a, b)
     }
 
     /// The threshold of a concentration category, in cents.
