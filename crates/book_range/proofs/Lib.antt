@@ -4,3 +4,12 @@ pub mod Buckets
 pub mod Bounds
 pub mod Parts
 pub mod Fewer
+pub mod Listed
+pub mod Weighed
+pub mod Grouped
+pub mod Firsts
+pub mod Factored
+pub mod Placed
+pub mod Grosses
+pub mod Counted
+pub mod Pairs

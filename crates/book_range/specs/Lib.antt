@@ -1,1 +1,4 @@
 pub mod Bounded
+pub mod Weights
+pub mod Weighing
+pub mod Faults

@@ -77,7 +77,7 @@ one_id (id.Currency c) (id.Currency d) e = cc
 one_id id.Single id.Single e = refl
 one_id _ _ e = absurd (cc)
 
-exact_ids : CmpEqualImpliesEq bucket_id_cmp
+pub exact_ids : CmpEqualImpliesEq bucket_id_cmp
 exact_ids a b e = one_id a b (exact_bytes (bucket_id_numbers a) (bucket_id_numbers b) e)
 
 one_side : (a b : BookSide) → book_side_place a ≡ book_side_place b → a ≡ b

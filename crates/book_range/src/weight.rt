@@ -1,0 +1,133 @@
+//! What the amounts to a factor weigh in gross sizes.
+ghost use Rattle.std.specs.Prelude.{◌≡◌, ◌^◌, ◌≤◌, unsigned_abs};
+ghost use Rattle.simm_rules.specs.ForeignExchange.{fx_weight, fx_sigma};
+ghost use Rattle.simm_params.specs.ClassKinds.{credit_class, priced_class};
+ghost use Rattle.book_range.specs.Weights.{credit_weight, credit_volatility, price_weight, price_volatility};
+ghost use Rattle.book_range.specs.Weighing.{own_weight, listed_id, bucket_weight};
+
+use mh_units::Rate4;
+use simm_kinds::{Bucket, BucketId, Currency, CurrencyPair, Factor};
+use simm_params::{CreditKind, Params, PricedKind};
+
+/// A weight of 1.
+pub const ONE: Rate4 = Rate4(10_000);
+
+/// A weight of 0.
+const NOTHING: Rate4 = Rate4(0);
+
+/// The weight of a factor that has one of its own, in ten-thousandths: a rate, a currency or a pair.
+pub fn own_weight(params: &Params, factor: &Factor) -> Rate4
+    ensures value { result.0 ≡ own_weight params.now factor.now }
+    ensures bound { unsigned_abs result.0 ≤ 10 ^ 8 }
+{
+    match factor {
+        Factor::IrCurve {
+            currency,
+            tenor,
+            ..
+        } => params.curve_weight(params.curve_category(currency), *tenor),
+        Factor::Inflation { .. } => params.inflation_weight(),
+        Factor::XccyBasis { .. } => params.basis_weight(),
+        Factor::Fx { currency } => currency_weight(params, currency),
+        Factor::FxVol { pair, .. } => pair_volatility(params, pair),
+        Factor::IrVol { .. }
+        | Factor::InflationVol { .. }
+        | Factor::CreditQ { .. }
+        | Factor::CreditVol { .. }
+        | Factor::CreditNonQ { .. }
+        | Factor::CreditVolNonQ { .. }
+        | Factor::BaseCorr { .. }
+        | Factor::Equity { .. }
+        | Factor::EquityVol { .. }
+        | Factor::Commodity { .. }
+        | Factor::CommodityVol { .. } => NOTHING,
+    }
+}
+
+/// The weight of the credit of a bucket, in ten-thousandths: none where the file doesn't list it.
+pub fn credit_weight(params: &Params, kind: CreditKind, id: BucketId) -> Rate4
+    ensures value { result.0 ≡ bucket_weight (credit_weight params.now (credit_class kind)) id }
+    ensures bound { unsigned_abs result.0 ≤ 10 ^ 8 }
+{
+    let Some(bucket) = bucket_of(id) else {
+        return NOTHING;
+    };
+    match params.credit_bucket(kind, bucket) {
+        Some(listed) => listed.terms.weight,
+        None => NOTHING,
+    }
+}
+
+/// The same of its volatilities, each of which weighs 1.
+pub fn credit_volatility(params: &Params, kind: CreditKind, id: BucketId) -> Rate4
+    ensures value { result.0 ≡ bucket_weight (credit_volatility params.now (credit_class kind)) id }
+    ensures bound { unsigned_abs result.0 ≤ 10 ^ 8 }
+{
+    let Some(bucket) = bucket_of(id) else {
+        return NOTHING;
+    };
+    match params.credit_bucket(kind, bucket) {
+        Some(_) => ONE,
+        None => NOTHING,
+    }
+}
+
+/// The weight of the names of a bucket, in ten-thousandths: none where the file doesn't list it.
+pub fn price_weight(params: &Params, kind: PricedKind, id: BucketId) -> Rate4
+    ensures value { result.0 ≡ bucket_weight (price_weight params.now (priced_class kind)) id }
+    ensures bound { unsigned_abs result.0 ≤ 10 ^ 8 }
+{
+    let Some(bucket) = bucket_of(id) else {
+        return NOTHING;
+    };
+    match params.priced_bucket(kind, bucket) {
+        Some(listed) => listed.terms.weight,
+        None => NOTHING,
+    }
+}
+
+/// Their volatility, in ten-thousandths.
+pub fn price_volatility(params: &Params, kind: PricedKind, id: BucketId) -> Rate4
+    ensures value { result.0 ≡ bucket_weight (price_volatility params.now (priced_class kind)) id }
+    ensures bound { unsigned_abs result.0 ≤ 10 ^ 8 }
+{
+    let Some(bucket) = bucket_of(id) else {
+        return NOTHING;
+    };
+    match params.priced_bucket(kind, bucket) {
+        Some(listed) => listed.sigma,
+        None => NOTHING,
+    }
+}
+
+// The bucket of files that an id is of.
+fn bucket_of(id: BucketId) -> Option<Bucket>
+    ensures { result ≡ listed_id id }
+{
+    match id {
+        BucketId::Number(number) => Some(Bucket::Number(number)),
+        BucketId::Residual => Some(Bucket::Residual),
+        BucketId::Currency(_) | BucketId::Single => None,
+    }
+}
+
+fn currency_weight(params: &Params, currency: &Currency) -> Rate4
+    ensures value { result.0 ≡ fx_weight params.now currency.now }
+    ensures bound { unsigned_abs result.0 ≤ 10 ^ 8 }
+{
+    params.facts();
+    if params.is_calculation_currency(currency) {
+        return NOTHING;
+    }
+    params.fx_weight(params.volatility_category(currency))
+}
+
+fn pair_volatility(params: &Params, pair: &CurrencyPair) -> Rate4
+    ensures value { result.0 ≡ fx_sigma params.now pair.now }
+    ensures bound { unsigned_abs result.0 ≤ 10 ^ 8 }
+{
+    let pair = *pair;
+    let first = params.volatility_category(&pair.first());
+    let second = params.volatility_category(&pair.second());
+    params.fx_sigma(first, second)
+}
