@@ -1,2 +1,4 @@
 pub mod Products
 pub mod Totals
+pub mod FixedSums
+pub mod Multiplying

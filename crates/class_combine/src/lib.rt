@@ -3,8 +3,12 @@
 //! (ISDA SIMM methodology, structure: risk classes within a product class; additional margins.)
 #![tactic(auto)]
 
+mod fixed;
+mod multipliers;
 mod product;
 mod whole;
 
+pub use fixed::fixed_amounts;
+pub use multipliers::{ProductAmounts, multiplied_margins};
 pub use product::product_margin;
 pub use whole::{AddOns, ProductClasses, breakdown};

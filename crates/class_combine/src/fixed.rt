@@ -1,0 +1,36 @@
+//! The add-on of fixed amounts.
+ghost use Rattle.std.specs.Prelude.{◌≡◌, ◌≤◌, true, length};
+ghost use Rattle.std.specs.List.{list_all};
+ghost use Rattle.simm_kinds.specs.Batch.{is_in_range};
+ghost use Rattle.simm_rules.specs.AddOns.{fixed_amount, fixed_amounts};
+ghost use Rattle.class_combine.specs.Whole.{IsAddOn};
+
+use mh_units::Cents;
+use simm_kinds::CrifRow;
+
+/// The sum of the fixed amounts of a book, in cents.
+pub fn fixed_amounts(rows: &[CrifRow]) -> Cents
+    requires few { length rows.now ≤ 200000 }
+    requires amounts { list_all is_in_range rows.now ≡ true }
+    ensures value { result.0 ≡ fixed_amounts rows.now }
+    ensures range { IsAddOn result.0 }
+{
+    let mut sum = 0;
+    for row in rows {
+        sum += fixed_amount(row).0;
+    }
+    Cents(sum)
+}
+
+// What a row adds, in cents.
+fn fixed_amount(row: &CrifRow) -> Cents
+    ensures { result.0 ≡ fixed_amount row.now }
+{
+    match row {
+        CrifRow::FixedAmount(amount) => *amount,
+        CrifRow::Sensitivity { .. }
+        | CrifRow::Notional { .. }
+        | CrifRow::NotionalFactor { .. }
+        | CrifRow::Multiplier { .. } => Cents(0),
+    }
+}
