@@ -1,4 +1,7 @@
 pub mod Maps
+pub mod Ranges
+pub mod Books
+pub mod Admitted
 pub mod Sizes
 pub mod Puts
 pub mod Lives

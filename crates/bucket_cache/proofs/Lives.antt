@@ -1,7 +1,8 @@
 -- The book of a live margin stays one: after a batch that is in range, and without some of its trades.
-use Rattle.std.proofs.Common.{◌≡◌, ℕ, ◌≤◌, List, [], ◌∷◌, length, Option, Some, None, Bool, true, false, not, ◌||◌, ◌==◌, cond, if◌then◌else◌, nat_lt, refl, ap, sym, ◌∙◌, arith}
+use Rattle.std.proofs.Common.{◌≡◌, ℕ, ◌<◌, ◌≤◌, List, [], ◌∷◌, length, get_or, Option, Some, None, Bool, true, false, not, ◌||◌, ◌==◌, cond, if◌then◌else◌, nat_lt, refl, ap, sym, ◌∙◌, arith}
 use Rattle.std.specs.List.{list_all, list_any, filter, flat_map}
 use Rattle.std.proofs.lemmas.Bool.{or_parts, and_parts, and_from, ltb-false}
+use Rattle.std.proofs.lemmas.List.Folds.{length-flat_map-take}
 use Rattle.simm_kinds.specs.declared.fault.MakeFault.TheVariants as fault
 use Rattle.simm_kinds.specs.declared.row.CrifRow.{CrifRow}
 use Rattle.simm_kinds.specs.declared.row.TradeRows.{TradeRows}
@@ -11,12 +12,14 @@ use Rattle.simm_kinds.specs.Built.{is_built_row}
 use Rattle.simm_kinds.specs.Order.{same_name, same_product}
 use Rattle.simm_kinds.specs.Repeats.{repeats}
 use Rattle.simm_rules.specs.Params.{Params}
+use Rattle.simm_rules.specs.Admits.{admits}
 use Rattle.simm_rules.specs.Range.{range}
-use Rattle.simm_plain.proofs.Ranges.{range_is}
-use Rattle.bucket_cache.specs.Live.{put_trades, without, IsLive}
+use Rattle.bucket_cache.specs.Live.{put_trades, without, first_unadmitted, IsLive}
 use Rattle.bucket_cache.specs.Entries.{names_of, trade_of, trades_of}
 use Rattle.bucket_cache.proofs.Puts.{all_rows_of, all_puts, count_puts}
-use Rattle.bucket_cache.proofs.Sizes.{few_rows, trades_within}
+use Rattle.bucket_cache.proofs.Admitted.{all_admitted}
+use Rattle.bucket_cache.proofs.Ranges.{few_rows, range_none}
+use Rattle.bucket_cache.proofs.Sizes.{trades_within}
 
 -- ---- batches
 
@@ -64,10 +67,14 @@ batch_facts ts h =
 pub few_in_batch : (ts : List TradeRows) → IsBatch ts → length ts ≤ 100000
 few_in_batch ts h = let facts = batch_facts ts h in omega (arith, trades_within ts facts.filled, facts.few)
 
+pub few_in_trade : (ts : List TradeRows) (i : ℕ) (t : TradeRows) → IsBatch ts → i < length ts → t ≡ get_or ts i t → length t.rows ≤ 100000
+few_in_trade ts i t batch h at =
+    omega (arith, (batch_facts ts batch).few, length-flat_map-take (λ (u : TradeRows). u.rows) ts i t h, ap (λ (u : TradeRows). length u.rows) at)
+
 -- ---- no trades
 
 pub live_none : (p : Params) → IsLive p []
-live_none p = record { built = refl; amounts = refl; filled = refl; in_range = range_is p [] tt }
+live_none p = record { built = refl; amounts = refl; admitted = refl; filled = refl; in_range = range_none p }
 
 -- ---- after a batch
 
@@ -86,10 +93,14 @@ built_after p ts us batch live = all_after is_built_row ts us (batch_facts ts ba
 pub amounts_after : (p : Params) (ts us : List TradeRows) → IsBatch ts → IsLive p us → list_all is_in_range (rows_of (put_trades ts us)) ≡ true
 amounts_after p ts us batch live = all_after is_in_range ts us (batch_facts ts batch).amounts live.amounts
 
-pub live_after : (p : Params) (ts us : List TradeRows) → IsBatch ts → IsLive p us → range p (rows_of (put_trades ts us)) ≡ None → IsLive p (put_trades ts us)
-live_after p ts us batch live none = record {
+pub admitted_after : (p : Params) (ts us : List TradeRows) → first_unadmitted p ts ≡ None → IsLive p us → list_all (admits p) (rows_of (put_trades ts us)) ≡ true
+admitted_after p ts us none live = all_after (admits p) ts us (all_admitted p ts none) live.admitted
+
+pub live_after : (p : Params) (ts us : List TradeRows) → IsBatch ts → first_unadmitted p ts ≡ None → IsLive p us → range p (rows_of (put_trades ts us)) ≡ None → IsLive p (put_trades ts us)
+live_after p ts us batch admitted live none = record {
   built = built_after p ts us batch live;
   amounts = amounts_after p ts us batch live;
+  admitted = admitted_after p ts us admitted live;
   filled = all_puts (λ rows. not (length rows == 0)) ts us (batch_facts ts batch).filled live.filled;
   in_range = none;
 }
@@ -112,7 +123,7 @@ all_among test keep us h =
 
 -- some trades of a book in range are in range
 abbrev FewerInRange : Params → Type 0
-FewerInRange p = (test : TradeRows → Bool) (ts : List TradeRows) → list_all is_built_row (rows_of ts) ≡ true → range p (rows_of ts) ≡ None → range p (rows_of (filter test ts)) ≡ None
+FewerInRange p = (test : TradeRows → Bool) (ts : List TradeRows) → range p (rows_of ts) ≡ None → range p (rows_of (filter test ts)) ≡ None
 
 pub live_without : (p : Params) (names : List (List ℕ)) (us : List TradeRows) → FewerInRange p → IsLive p us → IsLive p (without names us)
 live_without p names us fewer live =
@@ -120,8 +131,9 @@ live_without p names us fewer live =
     record {
       built = all_among is_built_row kept us live.built;
       amounts = all_among is_in_range kept us live.amounts;
+      admitted = all_among (admits p) kept us live.admitted;
       filled = all_kept (λ (t : TradeRows). not (length t.rows == 0)) kept us live.filled;
-      in_range = fewer kept us live.built live.in_range;
+      in_range = fewer kept us live.in_range;
     }
 
 kept_entry : (s b : Bool) (e : List ℕ × List CrifRow) (es : List (List ℕ × List CrifRow)) (us : List TradeRows) → s ≡ b → trades_of es ≡ us → trades_of (cond (not s) (e ∷ es) es) ≡ cond (not b) (trade_of e ∷ us) us

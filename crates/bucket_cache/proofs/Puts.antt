@@ -14,8 +14,8 @@ use Rattle.simm_kinds.specs.declared.row.TradeRows.{TradeRows}
 use Rattle.simm_kinds.specs.Batch.{rows_of}
 use Rattle.simm_kinds.specs.Order.{same_name}
 use Rattle.simm_kinds.specs.Repeats.{repeats}
-use Rattle.simm_plain.specs.declared.lent.LentRows.{LentRows}
-use Rattle.simm_plain.specs.Lent.{all_rows}
+use Rattle.bucket_cache.specs.declared.lent.LentRows.{LentRows}
+use Rattle.bucket_cache.specs.Lent.{all_rows}
 use Rattle.bucket_cache.specs.Live.{put_trade, put_trades}
 use Rattle.bucket_cache.specs.Entries.{trade_of, trades_of, row_lists, lent_lists, names_of, Follows}
 use Rattle.bucket_cache.proofs.Maps.{key_test, same_name-equal, same_name-refl}

@@ -4,17 +4,11 @@ use Rattle.std.specs.List.{list_all}
 use Rattle.std.proofs.lemmas.Bool.{and_parts}
 use Rattle.std.proofs.lemmas.Bool.Decides.{nat_tests}
 use Rattle.std.proofs.lemmas.List.{length-append}
-use Rattle.simm_kinds.specs.declared.row.CrifRow.{CrifRow}
 use Rattle.simm_kinds.specs.declared.row.TradeRows.{TradeRows}
 use Rattle.simm_kinds.specs.Batch.{rows_of}
 use Rattle.simm_rules.specs.Params.{Params}
-use Rattle.simm_rules.specs.Range.{range}
-use Rattle.simm_plain.proofs.LentBooks.{few_rows as counted_few}
-use Rattle.simm_plain.proofs.Ranges.{rows_in_range}
 use Rattle.bucket_cache.specs.Live.{IsLive}
-
-pub few_rows : (p : Params) (rows : List CrifRow) → range p rows ≡ None → length rows ≤ 200000
-few_rows p rows h = counted_few rows (rows_in_range p rows h)
+use Rattle.bucket_cache.proofs.Ranges.{few_rows}
 
 -- each trade has a row
 pub trades_within : (ts : List TradeRows) → list_all (λ t. not (length t.rows == 0)) ts ≡ true → length ts ≤ length (rows_of ts)

@@ -1,5 +1,5 @@
 -- What a live margin holds, and what a batch and a withdrawal make of it.
-use Rattle.std.specs.Prelude.{◌≡◌, ℕ, ◌+◌, zero, suc, List, [], ◌∷◌, map, length, position, slice_get, find, Option, None, option_map, Bool, true, not, ◌==◌, if◌then◌else◌}
+use Rattle.std.specs.Prelude.{◌≡◌, ℕ, ◌+◌, zero, suc, List, [], ◌∷◌, map, length, position, slice_get, find, Option, None, Some, option_map, Bool, true, not, ◌==◌, if◌then◌else◌}
 use Rattle.std.specs.List.{filter, list_all, list_any}
 use Rattle.simm_kinds.specs.declared.row.CrifRow.{CrifRow}
 use Rattle.simm_kinds.specs.declared.row.TradeRows.{TradeRows}
@@ -7,7 +7,9 @@ use Rattle.simm_kinds.specs.Batch.{rows_of, is_in_range}
 use Rattle.simm_kinds.specs.Built.{is_built_row}
 use Rattle.simm_kinds.specs.Order.{same_name}
 use Rattle.simm_rules.specs.Params.{Params}
+use Rattle.simm_rules.specs.Admits.{admits}
 use Rattle.simm_rules.specs.Range.{range}
+use Rattle.bucket_cache.specs.declared.place.RowPlace.{RowPlace}
 
 -- the parameters, and the current trades with their rows
 pub record Live : Type 0 where
@@ -35,6 +37,24 @@ is_current book name = list_any (λ t. same_name name t.trade) book
 abbrev pub first_unknown : List (List ℕ) → List TradeRows → Option ℕ
 first_unknown names book = option_map (λ i. i + 1) (position (λ name. not (is_current book name)) names)
 
+-- the place, from 1, of the first row of a trade that the parameters don't admit
+abbrev pub unadmitted_row : Params → List CrifRow → Option ℕ
+unadmitted_row p rows = option_map (λ i. i + 1) (position (λ row. not (admits p row)) rows)
+
+-- a row of the trade at this place, or else one of the later trades
+abbrev pub row_at : ℕ → Option ℕ → Option RowPlace → Option RowPlace
+row_at trade None later = later
+row_at trade (Some row) later = Some (record { trade = trade; row = row })
+
+-- where the first trade has this place
+abbrev pub unadmitted_from : ℕ → Params → List TradeRows → Option RowPlace
+unadmitted_from place p [] = None
+unadmitted_from place p (t ∷ ts) = row_at place (unadmitted_row p t.rows) (unadmitted_from (place + 1) p ts)
+
+-- the first row of a batch that the parameters don't admit: its trade's place in the batch, and its place in the trade
+abbrev pub first_unadmitted : Params → List TradeRows → Option RowPlace
+first_unadmitted p trades = unadmitted_from 1 p trades
+
 -- the name of the trade at a place, from 1
 abbrev pub name_at : List TradeRows → ℕ → Option (List ℕ)
 name_at book zero = None
@@ -44,9 +64,10 @@ name_at book (suc i) = slice_get (map (λ t. t.trade) book) i
 abbrev pub rows_named : List TradeRows → List ℕ → Option (List CrifRow)
 rows_named book name = option_map (λ t. t.rows) (find (λ t. same_name name t.trade) book)
 
--- Each row is built, and its amount one that a batch can have, each trade has a row, and the book is in range.
+-- Each row is built and admitted, and its amount one that a batch can have, each trade has a row, and the book is in range.
 pub record IsLive (p : Params) (trades : List TradeRows) : Type 0 where
   pub built : list_all is_built_row (rows_of trades) ≡ true
   pub amounts : list_all is_in_range (rows_of trades) ≡ true
+  pub admitted : list_all (admits p) (rows_of trades) ≡ true
   pub filled : list_all (λ t. not (length t.rows == 0)) trades ≡ true
   pub in_range : range p (rows_of trades) ≡ None

@@ -8,7 +8,14 @@ use std::alloc::AllocError;
 /// Why a batch is not accepted.
 #[derive(Clone, Copy, Debug, PartialEq, Eq)]
 pub enum SubmitFault {
-    /// The book with this batch would be out of range: the first quantity that is above its limit.
+    /// The parameter file doesn't list the bucket of this row, which is the first such row of the batch.
+    BucketUnknown {
+        /// The place of the row's trade in the batch, from 1.
+        trade: u32,
+        /// The place of the row in its trade, from 1.
+        row: u32,
+    },
+    /// All rows are admitted, and the book with this batch would be out of range: the first quantity that is above its limit.
     Range(RangeFault),
     /// There is not enough memory.
     Memory,

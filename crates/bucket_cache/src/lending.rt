@@ -4,13 +4,13 @@ ghost use Rattle.simm_kinds.specs.declared.row.TradeRows.{TradeRows as Trade};
 ghost use Rattle.simm_kinds.specs.Batch.{rows_of};
 ghost use Rattle.simm_kinds.specs.Order.{same_name};
 ghost use Rattle.simm_kinds.specs.Repeats.{repeats};
-ghost use Rattle.simm_plain.specs.Lent.{all_rows};
+ghost use Rattle.bucket_cache.specs.Lent.{all_rows};
 ghost use Rattle.bucket_cache.specs.Live.{put_trade, put_trades};
 ghost use Rattle.bucket_cache.specs.Entries.{trades_of, lent_lists, row_lists, Follows};
 
+use crate::lent::LentRows;
 use indexmap::IndexMap;
 use simm_kinds::{CrifRow, Listed, Name, TradeRows};
-use simm_plain::LentRows;
 use std::alloc::{AllocError, Global};
 
 /// The rows of the current trades, in the order of the book, with room for `more` trades.

@@ -4,21 +4,23 @@ ghost use Rattle.simm_kinds.specs.Batch.{IsBatch, rows_of};
 ghost use Rattle.simm_rules.specs.declared.values.RangeFault.{RangeFault as Fault};
 ghost use Rattle.simm_rules.specs.Range.{range};
 ghost use Rattle.simm_rules.specs.Simm.{simm};
-ghost use Rattle.bucket_cache.specs.Live.{put_trades, without, first_unknown, name_at, rows_named};
+ghost use Rattle.bucket_cache.specs.Live.{put_trades, without, first_unadmitted, first_unknown, name_at, rows_named};
 
+use crate::admitting::first_unadmitted;
+use crate::booking::{margin_of, range_fault_of};
 use crate::changing::{copies_of, distinct_names, first_unknown, keep_others, put_all};
 use crate::fault::{SubmitFault, WithdrawFault};
 use crate::lending::{lend_after, lend_current};
+use crate::stand_in::fewer_are_in_range;
 use indexmap::IndexMap;
 use simm_kinds::{CrifRow, Listed, Name, TradeRows};
 use simm_params::Params;
-use simm_plain::{fewer_are_in_range, margin_in_range, range_fault};
 use simm_rules::{Breakdown, RangeFault};
 use std::alloc::{AllocError, Global};
 use std::marker::Model;
 
-/// The current trades of a netting set in the order in which they came, their book in range, with the parameters of
-/// their margin. Contracts see the parameters and the book.
+/// The current trades of a netting set in the order in which they came, their rows admitted and their book in
+/// range, with the parameters of their margin. Contracts see the parameters and the book.
 #[derive(Drop)]
 pub struct LiveMargin {
     params: Params,
@@ -50,19 +52,31 @@ impl LiveMargin {
     ///
     /// # Errors
     ///
-    /// `Range` exactly where the book afterwards would be out of range, with the first quantity that is above its
-    /// limit, and `Memory` for want of memory. Nothing changes then.
+    /// `BucketUnknown` exactly where a row is not admitted, with the place of the first such row; then `Range` exactly
+    /// where the book afterwards would be out of range, with the first quantity that is above its limit; and `Memory` for
+    /// want of memory. Nothing changes then.
     #[tactic(auto, using(crate::proofs::Firsts::first_batch))]
     pub fn submit(&mut self, alloc: Global, trades: &[TradeRows]) -> Result<(), SubmitFault>
         requires { IsBatch trades.now }
+        ensures admitted { OnOk result (first_unadmitted self.old.params trades.now ≡ None) }
         ensures in_range { OnOk result (range self.old.params (rows_of (put_trades trades.now self.old.book)) ≡ None) }
         ensures book { OnOk result (self.new ≡ record self.old { book = put_trades trades.now self.old.book }) }
+        ensures unadmitted { (trade row : ℕ) → result ≡ Err (SubmitFault.BucketUnknown trade row) →
+            first_unadmitted self.old.params trades.now ≡ Some (record { trade = trade; row = row }) }
         ensures range { (fault : Fault) → result ≡ Err (SubmitFault.Range fault) →
             range self.old.params (rows_of (put_trades trades.now self.old.book)) ≡ Some fault }
+        ensures range_of_admitted { (fault : Fault) → result ≡ Err (SubmitFault.Range fault) →
+            first_unadmitted self.old.params trades.now ≡ None }
         ensures unchanged { OnErr result (self.new ≡ self.old) }
         // The first batch is the whole book.
         ensures first { self.old.book ≡ [] → put_trades trades.now self.old.book ≡ trades.now }
     {
+        if let Some(at) = first_unadmitted(&self.params, trades) {
+            return Err(SubmitFault::BucketUnknown {
+                trade: at.trade,
+                row: at.row,
+            });
+        }
         if let Some(fault) = self.fault_after(alloc, trades)? {
             return Err(SubmitFault::Range(fault));
         }
@@ -89,7 +103,7 @@ impl LiveMargin {
             return Err(WithdrawFault::UnknownTrade { place });
         }
         let named = distinct_names(alloc, names)?;
-        fewer_are_in_range(&self.params);
+        fewer_are_in_range(&self.params)?;
         keep_others(&mut self.trades, &named);
         Ok(())
     }
@@ -103,7 +117,7 @@ impl LiveMargin {
         ensures unchanged { self.new ≡ self.old }
     {
         let lent = lend_current(alloc, &self.trades, 0)?;
-        margin_in_range(alloc, &self.params, lent.as_slice())
+        margin_of(alloc, &self.params, lent.as_slice())
     }
 
     /// How many trades are current. It takes no memory, like all that follow.
@@ -136,10 +150,11 @@ impl LiveMargin {
         alloc: Global,
         trades: &[TradeRows],
     ) -> Result<Option<RangeFault>, AllocError>
-        requires { IsBatch trades.now }
+        requires batch { IsBatch trades.now }
+        requires admitted { first_unadmitted self.now.params trades.now ≡ None }
         ensures { IfOk result (λ fault. fault ≡ range self.now.params (rows_of (put_trades trades.now self.now.book))) }
     {
         let lent = lend_after(alloc, &self.trades, trades)?;
-        range_fault(alloc, &self.params, lent.as_slice())
+        range_fault_of(alloc, &self.params, lent.as_slice())
     }
 }

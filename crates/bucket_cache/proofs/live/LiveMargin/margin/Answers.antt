@@ -1,14 +1,14 @@
-use Rattle.std.proofs.Common.{◌≡◌, ◌∙◌, ◌^◌, List, Result, Ok, Err, IfOk, ap, pos, ◌≤ℤ◌, ◌<ℤ◌}
+use Rattle.std.proofs.Common.{◌≡◌, ◌∙◌, List, Result, Ok, Err, IfOk, ap}
 use Rattle.simm_kinds.specs.declared.row.CrifRow.{CrifRow}
 use Rattle.simm_kinds.specs.Batch.{rows_of, is_in_range}
 use Rattle.simm_kinds.specs.Built.{is_built_row}
 use Rattle.std.specs.List.{list_all}
 use Rattle.simm_rules.specs.declared.values.Breakdown.{Breakdown}
 use Rattle.simm_rules.specs.Params.{Params}
+use Rattle.simm_rules.specs.Admits.{admits}
 use Rattle.simm_rules.specs.Range.{range}
 use Rattle.simm_rules.specs.Simm.{simm}
-use Rattle.simm_plain.specs.Lent.{all_rows}
-use Rattle.simm_plain.specs.Parts.{IsTotal}
+use Rattle.bucket_cache.specs.Lent.{all_rows}
 use Rattle.bucket_cache.specs.Live.{Live}
 use Rattle.bucket_cache.specs.Entries.{trades_of}
 use Rattle.bucket_cache.proofs.Puts.{lent_rows}
@@ -18,34 +18,24 @@ same_margin : {E : Type 0} (p q : Params) (xs ys : List CrifRow) (r : Result Bre
 same_margin p q xs ys (Ok b) e d h = h ∙ ap (λ x. simm x xs) e ∙ ap (simm q) d
 same_margin p q xs ys (Err f) e d h = h
 
-pub margin_in_range-requires-clause-in_range : goal.margin_in_range-requires-clause-in_range
-margin_in_range-requires-clause-in_range c =
+pub margin_of-requires-clause-in_range : goal.margin_of-requires-clause-in_range
+margin_of-requires-clause-in_range c =
     ap (range c.self.inside.params) (ap all_rows c.as_slice.ensures.value ∙ lent_rows c.in_ok-lent.lent.items (trades_of c.self.inside.trades.entries) c.in_ok-lent.ensures) ∙ c.self.invariant.in_range
 
-pub margin_in_range-requires-clause-built : goal.margin_in_range-requires-clause-built
-margin_in_range-requires-clause-built c =
+pub margin_of-requires-clause-built : goal.margin_of-requires-clause-built
+margin_of-requires-clause-built c =
     ap (list_all is_built_row) (ap all_rows c.as_slice.ensures.value ∙ lent_rows c.in_ok-lent.lent.items (trades_of c.self.inside.trades.entries) c.in_ok-lent.ensures) ∙ c.self.invariant.built
 
-pub margin_in_range-requires-clause-amounts : goal.margin_in_range-requires-clause-amounts
-margin_in_range-requires-clause-amounts c =
+pub margin_of-requires-clause-amounts : goal.margin_of-requires-clause-amounts
+margin_of-requires-clause-amounts c =
     ap (list_all is_in_range) (ap all_rows c.as_slice.ensures.value ∙ lent_rows c.in_ok-lent.lent.items (trades_of c.self.inside.trades.entries) c.in_ok-lent.ensures) ∙ c.self.invariant.amounts
+
+pub margin_of-requires-clause-admitted : goal.margin_of-requires-clause-admitted
+margin_of-requires-clause-admitted c =
+    ap (list_all (admits c.self.inside.params)) (ap all_rows c.as_slice.ensures.value ∙ lent_rows c.in_ok-lent.lent.items (trades_of c.self.inside.trades.entries) c.in_ok-lent.ensures) ∙ c.self.invariant.admitted
 
 pub returns-clause-value : goal.returns-clause-value
 returns-clause-value c =
-    same_margin c.self.inside.params c.args.self.now.params _ _ c.margin_in_range.result (ap (λ (l : Live). l.params) c.self.view_is)
+    same_margin c.self.inside.params c.args.self.now.params _ _ c.margin_of.result (ap (λ (l : Live). l.params) c.self.view_is)
     (ap all_rows c.as_slice.ensures.value ∙ lent_rows c.in_ok-lent.lent.items (trades_of c.self.inside.trades.entries) c.in_ok-lent.ensures ∙ ap (λ (l : Live). rows_of l.book) c.self.view_is)
-    c.margin_in_range.ensures.value
-
-total_from : {E : Type 0} (r : Result Breakdown E) → IfOk r (λ b. IsTotal b.total.0) → IfOk r (λ b. pos 0 ≤ℤ b.total.0)
-total_from (Ok b) h = h.low
-total_from (Err f) h = tt
-
-total_below : {E : Type 0} (r : Result Breakdown E) → IfOk r (λ b. IsTotal b.total.0) → IfOk r (λ b. b.total.0 <ℤ pos (10 ^ 21))
-total_below (Ok b) h = h.below
-total_below (Err f) h = tt
-
-pub returns-clause-total_from : goal.returns-clause-total_from
-returns-clause-total_from c = total_from c.margin_in_range.result c.margin_in_range.ensures.total
-
-pub returns-clause-total_below : goal.returns-clause-total_below
-returns-clause-total_below c = total_below c.margin_in_range.result c.margin_in_range.ensures.total
+    c.margin_of.ensures.value

@@ -1,6 +1,6 @@
 use Rattle.std.proofs.Common.{◌∙◌, ℕ, List, Result, Ok, Err, OnErr, ap, sym, subst}
 use Rattle.simm_kinds.specs.declared.row.CrifRow.{CrifRow}
-use Rattle.bucket_cache.specs.Live.{Live, IsLive, put_trades}
+use Rattle.bucket_cache.specs.Live.{Live, IsLive, put_trades, first_unadmitted}
 use Rattle.bucket_cache.specs.Entries.{trades_of}
 use Rattle.bucket_cache.proofs.Lives.{live_after}
 use Rattle.bucket_cache.proofs.live.LiveMargin.submit.Goals as goal
@@ -21,7 +21,7 @@ pub invariant_of-self-2 : goal.invariant_of-self-2
 invariant_of-self-2 c =
     let now : IsLive c.args.self.now.params c.args.self.now.book = subst (λ (l : Live). IsLive l.params l.book) c.self.view_is c.self.invariant in
     let put : IsLive c.args.self.now.params (put_trades c.args.trades.now c.args.self.now.book) =
-    live_after c.args.self.now.params c.args.trades.now c.args.self.now.book c.requires now (sym c.in_ok-fault.ensures ∙ c.in_default.is) in
+    live_after c.args.self.now.params c.args.trades.now c.args.self.now.book c.requires (ap (λ (l : Live). first_unadmitted l.params c.args.trades.now) (sym c.self.view_is) ∙ sym c.in_default.ensures) now (sym c.in_ok-fault.ensures ∙ c.in_default-2.is) in
     subst (IsLive c.self.inside.params)
     (sym (c.put_all.ensures ∙ ap (λ xs. put_trades xs (trades_of c.reserve.new.self.entries)) c.in_ok-copies.ensures ∙ ap (λ es. put_trades c.args.trades.now (trades_of es)) c.reserve.ensures.entries))
     (subst (λ (l : Live). IsLive l.params (put_trades c.args.trades.now l.book)) (sym c.self.view_is) put)
