@@ -11,7 +11,8 @@ use Rattle.simm_rules.specs.Params.{Params}
 use Rattle.simm_rules.specs.Range.{range}
 use Rattle.simm_rules.specs.Simm.{simm}
 use Rattle.held_cell.specs.Entries.{entry}
-use Rattle.bucket_cache.specs.Live.{Live}
+use Rattle.bucket_cache.specs.declared.place.RowPlace.{RowPlace}
+use Rattle.bucket_cache.specs.Live.{Live, first_unadmitted}
 use Rattle.csa_terms.specs.Terms.{Agreement, haircut_of}
 use Rattle.collateral_ledger.specs.declared.fault.LedgerFault.TheVariants as fault
 use Rattle.collateral_ledger.specs.Holdings.{Holdings}
@@ -26,7 +27,7 @@ use Rattle.set_core.specs.declared.refusal.Refusal.TheVariants as refusal
 use Rattle.set_core.specs.Book.{Silent, word_of_event, is_accepted, trades_of_event, accepted_trades, starts, book, with_rows_after}
 use Rattle.set_core.specs.Lots.{lots, is_there}
 use Rattle.set_core.specs.Calls.{made, outstanding, is_outstanding, booked}
-use Rattle.set_core.specs.Answer.{first_unknown, if_in_range, if_known, if_put, if_taken, if_closed, if_calling_day, answer, IsLegal}
+use Rattle.set_core.specs.Answer.{first_unknown, if_admitted, if_known, if_put, if_taken, if_closed, if_calling_day, answer, IsLegal}
 use Rattle.set_core.specs.Events.{IsEvent}
 use Rattle.set_core.specs.Room.{event_rows, journal_rows, is_full}
 use Rattle.set_core.specs.Ledger.{held_lot, holdings, holdings_after, ledger_reply}
@@ -76,7 +77,7 @@ booked_is t log = ap (λ values. total values +ℤ total (map settled (outstandi
 
 pub answer_is : (p : Params) (t : Agreement) (log : Log) (e : Event) → AreDifferent (starts [] log) → IsEvent e → live_reply (record { params = p; book = book log }) (holdings t log) e ≡ answer p t log e
 answer_is p t log (event.Submit batch) d is =
-    ap (λ trades. if_in_range (range p (rows_of trades))) (sym (book-submitted log 0 batch (different_trades batch is) (book_different log d)))
+    ap (λ trades. if_admitted (first_unadmitted p batch) (range p (rows_of trades))) (sym (book-submitted log 0 batch (different_trades batch is) (book_different log d)))
 answer_is p t log (event.Withdraw names) d is =
     ap (λ test. if_known (option_map (λ i. i + 1) (position test names))) (fun_ext (λ name. ap not (in_book log name)))
 answer_is p t log (event.PutLot lot class value currency) d is = put_is t log lot class value
@@ -111,9 +112,10 @@ is_settled reply.Accepted = true
 is_settled (reply.Refused _) = true
 is_settled _ = false
 
-range_settled : (f : Option RangeFault) → is_settled (if_in_range f) ≡ true
-range_settled None = refl
-range_settled (Some f) = refl
+submit_settled : (at : Option RowPlace) (f : Option RangeFault) → is_settled (if_admitted at f) ≡ true
+submit_settled None None = refl
+submit_settled None (Some f) = refl
+submit_settled (Some at) f = refl
 
 known_settled : (place : Option ℕ) → is_settled (if_known place) ≡ true
 known_settled None = refl
@@ -144,7 +146,7 @@ withdraw_book log caller names (reply.Called note) h = absurd (true≢false (sym
 withdraw_book log caller names (reply.NoCall excess margin booked) h = absurd (true≢false (sym h))
 
 pub book_is : (log : Log) (caller : ℕ) (e : Event) (r : Reply) (p : Params) (t : Agreement) → AreDifferent (starts [] log) → IsEvent e → r ≡ answer p t log e → live_book (book log) e r ≡ book (log ++ entry caller e r ∷ [])
-book_is log caller (event.Submit batch) r p t d is h = submit_book log caller batch r d is (ap is_settled h ∙ range_settled (range p (rows_of (book (log ++ entry 0 (event.Submit batch) reply.Accepted ∷ [])))))
+book_is log caller (event.Submit batch) r p t d is h = submit_book log caller batch r d is (ap is_settled h ∙ submit_settled (first_unadmitted p batch) (range p (rows_of (book (log ++ entry 0 (event.Submit batch) reply.Accepted ∷ [])))))
 book_is log caller (event.Withdraw names) r p t d is h = withdraw_book log caller names r (ap is_settled h ∙ known_settled (first_unknown log names))
 book_is log caller (event.PutLot lot class value currency) r p t d is h = other_book log caller (event.PutLot lot class value currency) r (λ name. refl) refl
 book_is log caller (event.TakeLot lot) r p t d is h = other_book log caller (event.TakeLot lot) r (λ name. refl) refl

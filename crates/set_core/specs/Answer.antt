@@ -13,6 +13,8 @@ use Rattle.csa_terms.specs.Calendar.{Moment, due_day}
 use Rattle.csa_calls.specs.declared.CallAmount.{CallAmount}
 use Rattle.csa_calls.specs.declared.CallAmount.TheVariants as amount
 use Rattle.csa_calls.specs.CallRule.{call_of, excess}
+use Rattle.bucket_cache.specs.declared.place.RowPlace.{RowPlace}
+use Rattle.bucket_cache.specs.Live.{first_unadmitted}
 use Rattle.collateral_ledger.specs.Refusals.{is_lot_value}
 use Rattle.held_cell.specs.declared.entry.Entry.{Entry}
 use Rattle.held_cell.specs.Entries.{entry}
@@ -32,6 +34,11 @@ first_unknown log names = option_map (λ i. i + 1) (position (λ name. not (is_c
 abbrev pub if_in_range : Option RangeFault → Reply
 if_in_range None = reply.Accepted
 if_in_range (Some f) = reply.Refused (refusal.Range f)
+
+-- the first row that the parameters don't admit is tested before the range
+abbrev pub if_admitted : Option RowPlace → Option RangeFault → Reply
+if_admitted None fault = if_in_range fault
+if_admitted (Some at) fault = reply.Refused (refusal.BucketUnknown at.trade at.row)
 
 abbrev pub if_known : Option ℕ → Reply
 if_known None = reply.Accepted
@@ -94,10 +101,11 @@ if_calling_day t made margin booked moment =
 
 -- ---- all events
 
--- A submit is refused where the book with it is out of range, a withdrawal where a name isn't current; lots and calls
+-- A submit is refused where a row isn't admitted, and then where the book with it is out of range; a withdrawal where a name isn't current; lots and calls
 -- as above. A margin is that of the written rule, and a call is made of it and of what is booked.
 abbrev pub answer : Params → Agreement → List (Entry Event Reply) → Event → Reply
-answer p t log (event.Submit trades) = if_in_range (range p (rows_of (book_with log (event.Submit trades))))
+answer p t log (event.Submit trades) =
+    if_admitted (first_unadmitted p trades) (range p (rows_of (book_with log (event.Submit trades))))
 answer p t log (event.Withdraw names) = if_known (first_unknown log names)
 answer p t log (event.PutLot lot class value currency) = if_put t log lot class value
 answer p t log (event.TakeLot lot) = if_taken (is_there log lot)

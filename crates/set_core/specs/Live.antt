@@ -4,7 +4,7 @@ use Rattle.simm_kinds.specs.declared.row.TradeRows.{TradeRows}
 use Rattle.simm_kinds.specs.Batch.{rows_of}
 use Rattle.simm_rules.specs.Range.{range}
 use Rattle.simm_rules.specs.Simm.{simm}
-use Rattle.bucket_cache.specs.Live.{Live, put_trades, without, first_unknown}
+use Rattle.bucket_cache.specs.Live.{Live, put_trades, without, first_unadmitted, first_unknown}
 use Rattle.collateral_ledger.specs.Holdings.{Holdings}
 use Rattle.collateral_ledger.specs.Booked.{booked_of}
 use Rattle.collateral_ledger.specs.Refusals.{put_refusal, take_refusal, mark_refusal, close_refusal}
@@ -12,12 +12,12 @@ use Rattle.set_core.specs.declared.event.Event.{Event}
 use Rattle.set_core.specs.declared.event.Event.TheVariants as event
 use Rattle.set_core.specs.declared.reply.Reply.{Reply}
 use Rattle.set_core.specs.declared.reply.Reply.TheVariants as reply
-use Rattle.set_core.specs.Answer.{if_in_range, if_known, if_calling_day}
+use Rattle.set_core.specs.Answer.{if_admitted, if_known, if_calling_day}
 use Rattle.set_core.specs.Ledger.{holdings_after, ledger_reply}
 
 -- the reply to an event
 abbrev pub live_reply : Live → Holdings → Event → Reply
-live_reply l h (event.Submit trades) = if_in_range (range l.params (rows_of (put_trades trades l.book)))
+live_reply l h (event.Submit trades) = if_admitted (first_unadmitted l.params trades) (range l.params (rows_of (put_trades trades l.book)))
 live_reply l h (event.Withdraw names) = if_known (first_unknown names l.book)
 live_reply l h (event.PutLot lot class value currency) = ledger_reply (put_refusal h lot class value)
 live_reply l h (event.TakeLot lot) = ledger_reply (take_refusal h lot)

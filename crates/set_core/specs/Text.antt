@@ -15,6 +15,7 @@ use Rattle.set_core.specs.declared.refusal.Refusal.TheVariants as refusal
 -- the number of each refusal
 abbrev pub refusal_number : Refusal → ℕ
 refusal_number (refusal.UnknownTrade place) = 1
+refusal_number (refusal.BucketUnknown trade row) = 2
 refusal_number (refusal.Range f) = 3
 refusal_number refusal.LotKnown = 4
 refusal_number refusal.LotUnknown = 5
@@ -24,9 +25,10 @@ refusal_number (refusal.LotRange value) = 8
 refusal_number (refusal.LotsFull count) = 9
 refusal_number (refusal.DayRange day) = 10
 
--- what follows a refusal's number: a place; a kind, a value and a limit as whole numbers; an amount; a count; a day's number
+-- what follows a refusal's number: a place; the places of a trade and of its row; a kind, a value and a limit as whole numbers; an amount; a count; a day's number
 abbrev pub refusal_fields : Refusal → List ℕ
 refusal_fields (refusal.UnknownTrade place) = codes "\t" ++ decimal place
+refusal_fields (refusal.BucketUnknown trade row) = codes "\t" ++ decimal trade ++ codes "\t" ++ decimal row
 refusal_fields (refusal.Range f) =
     codes "\t" ++ decimal (range_number f.which) ++ codes "\t" ++ signed_decimal f.value ++ codes "\t" ++ signed_decimal f.limit
 refusal_fields (refusal.LotRange value) = codes "\t" ++ money_text value

@@ -48,6 +48,9 @@ fn submit(alloc: Global, live: &mut LiveMargin, batch: &Batch) -> Result<Reply, 
 {
     match live.submit(alloc, batch.trades()) {
         Ok(()) => Ok(Reply::Accepted),
+        Err(SubmitFault::BucketUnknown { trade, row }) => {
+            Ok(Reply::Refused(Refusal::BucketUnknown { trade, row }))
+        }
         Err(SubmitFault::Range(fault)) => Ok(Reply::Refused(Refusal::Range(fault))),
         Err(SubmitFault::Memory) => Err(AllocError),
     }

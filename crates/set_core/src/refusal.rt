@@ -8,7 +8,10 @@ use simm_rules::RangeFault;
 pub enum Refusal {
     /// A withdrawal names a trade that isn't current; the place of the first such name, from 1.
     UnknownTrade { place: u64 },
-    /// The book with this batch would be out of range; the first quantity that is above its limit.
+    /// The parameter file doesn't list the bucket of a row of the batch; the first such row's trade by its place in the
+    /// batch, and the row by its place in the trade, both from 1.
+    BucketUnknown { trade: u32, row: u32 },
+    /// All rows are admitted, and the book with this batch would be out of range; the first quantity that is above its limit.
     Range(RangeFault),
     /// A lot of this name is there.
     LotKnown,
@@ -33,6 +36,7 @@ impl Refusal {
     {
         match self {
             Refusal::UnknownTrade { .. } => 1,
+            Refusal::BucketUnknown { .. } => 2,
             Refusal::Range(_) => 3,
             Refusal::LotKnown => 4,
             Refusal::LotUnknown => 5,

@@ -58,6 +58,10 @@ fn push_refusal(text: &mut Text, refusal: Refusal) -> Result<(), AllocError>
     push_number(text, refusal.number())?;
     match refusal {
         Refusal::UnknownTrade { place } => push_number(text, place),
+        Refusal::BucketUnknown { trade, row } => {
+            push_number(text, trade)?;
+            push_number(text, row)
+        }
         Refusal::Range(fault) => {
             push_number(text, fault.which.number())?;
             push_number(text, fault.value)?;
