@@ -11,7 +11,8 @@ ghost use Rattle.factor_book.specs.Factors.{factors_of};
 ghost use Rattle.bucket_cache.specs.Lent.{all_rows};
 
 use crate::lent::LentRows;
-use crate::stand_in::{margin_in_range, range_fault};
+use book_margin::margin_in_range;
+use book_range::{range_bounds, range_fault};
 use factor_book::Factors;
 use simm_params::Params;
 use simm_rules::{Breakdown, RangeFault, RangeKind};
@@ -38,7 +39,7 @@ pub fn range_fault_of(
         return Ok(Some(fault));
     }
     let factors = net(alloc, lent)?;
-    range_fault(params, &factors, rows)
+    Ok(range_fault(params, &factors, rows))
 }
 
 /// The margin of a book of lent rows, which the caller knows to be in range: from 0 to below 10^21 cents. Each row is
@@ -53,6 +54,7 @@ pub fn margin_of(alloc: Global, params: &Params, lent: &[LentRows]) -> Result<Br
     ensures total_below { IfOk result (λ b. b.total.0 <ℤ pos (10 ^ 21)) }
 {
     let factors = net(alloc, lent)?;
+    range_bounds(params);
     margin_in_range(alloc, params, &factors)
 }
 

@@ -9,7 +9,6 @@ mod lending;
 mod lent;
 mod live;
 mod place;
-mod stand_in;
 
 pub use fault::{SubmitFault, WithdrawFault};
 pub use live::LiveMargin;

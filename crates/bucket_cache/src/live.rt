@@ -11,7 +11,7 @@ use crate::booking::{margin_of, range_fault_of};
 use crate::changing::{copies_of, distinct_names, first_unknown, keep_others, put_all};
 use crate::fault::{SubmitFault, WithdrawFault};
 use crate::lending::{lend_after, lend_current};
-use crate::stand_in::fewer_are_in_range;
+use book_range::fewer_are_in_range;
 use indexmap::IndexMap;
 use simm_kinds::{CrifRow, Listed, Name, TradeRows};
 use simm_params::Params;
@@ -103,7 +103,7 @@ impl LiveMargin {
             return Err(WithdrawFault::UnknownTrade { place });
         }
         let named = distinct_names(alloc, names)?;
-        fewer_are_in_range(&self.params)?;
+        fewer_are_in_range(&self.params);
         keep_others(&mut self.trades, &named);
         Ok(())
     }

@@ -8,7 +8,7 @@ use Rattle.bucket_cache.proofs.live.LiveMargin.withdraw.Goals as goal
 pub invariant_of-self : goal.invariant_of-self
 invariant_of-self c =
     subst (IsLive c.self.inside.params) (sym (ap trades_of c.keep_others.ensures ∙ without-trades_of (is_among c.in_ok-named.named.keys) c.args.names.now c.self.inside.trades.entries c.in_ok-named.ensures))
-    (live_without c.self.inside.params c.args.names.now (trades_of c.self.inside.trades.entries) c.in_ok-fewer_are_in_range.ensures c.self.invariant)
+    (live_without c.self.inside.params c.args.names.now (trades_of c.self.inside.trades.entries) c.fewer_are_in_range.ensures c.self.invariant)
 
 pub returns-clause-book : goal.returns-clause-book
 returns-clause-book c =
