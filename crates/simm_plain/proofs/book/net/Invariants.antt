@@ -1,7 +1,0 @@
-use Rattle.std.proofs.Common.{◌≡◌, take}
-use Rattle.factor_book.specs.Factors.{factors_of}
-use Rattle.simm_plain.specs.Lent.{all_rows}
-use Rattle.simm_plain.proofs.book.net.Given as goal
-
-abbrev pub invariant-loop-trade : goal.invariant-loop-trade
-invariant-loop-trade l = l.factors ≡ factors_of (all_rows (take l.trade-index l.lent))
