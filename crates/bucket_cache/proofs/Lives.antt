@@ -6,7 +6,6 @@ use Rattle.std.proofs.lemmas.List.Folds.{length-flat_map-take}
 use Rattle.simm_kinds.specs.declared.fault.MakeFault.TheVariants as fault
 use Rattle.simm_kinds.specs.declared.row.CrifRow.{CrifRow}
 use Rattle.simm_kinds.specs.declared.row.TradeRows.{TradeRows}
-use Rattle.simm_kinds.specs.declared.kinds.ProductClass.{ProductClass}
 use Rattle.simm_kinds.specs.Batch.{rows_of, IsBatch, has_repeats, is_misplaced, is_in_range, factor_names, multiplied}
 use Rattle.simm_kinds.specs.Built.{is_built_row}
 use Rattle.simm_kinds.specs.Order.{same_name, same_product}

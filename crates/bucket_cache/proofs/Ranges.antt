@@ -12,7 +12,6 @@ use Rattle.simm_rules.specs.declared.values.RangeKind.{RangeKind}
 use Rattle.simm_rules.specs.declared.values.RangeKind.TheVariants as range_kind
 use Rattle.simm_rules.specs.Params.{Params, CreditBucket, PricedBucket}
 use Rattle.simm_rules.specs.Sums.{total_by, first_some}
-use Rattle.simm_rules.specs.Net.{Sensitivity}
 use Rattle.simm_rules.specs.Risks.{CreditClass, Qualifying, Non_qualifying, PricedClass, Equities, Commodities, CreditPoint, select}
 use Rattle.simm_rules.specs.Credit.{as_credit, as_credit_volatility, credit_params}
 use Rattle.simm_rules.specs.Priced.{NameVolatility, as_price, as_price_volatility, priced_params}

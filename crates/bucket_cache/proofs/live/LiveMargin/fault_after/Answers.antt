@@ -1,4 +1,4 @@
-use Rattle.std.proofs.Common.{◌≡◌, ◌∙◌, List, length, Option, None, Result, Ok, Err, IfOk, true, ap, subst, arith}
+use Rattle.std.proofs.Common.{◌≡◌, ◌∙◌, List, length, Option, Result, Ok, Err, IfOk, ap, arith}
 use Rattle.std.specs.List.{list_all}
 use Rattle.simm_kinds.specs.declared.row.CrifRow.{CrifRow}
 use Rattle.simm_kinds.specs.Batch.{rows_of, is_in_range}

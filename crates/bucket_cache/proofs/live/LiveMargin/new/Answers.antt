@@ -1,4 +1,4 @@
-use Rattle.std.proofs.Common.{◌≡◌, sym, subst}
+use Rattle.std.proofs.Common.{sym, subst}
 use Rattle.bucket_cache.specs.Live.{IsLive}
 use Rattle.bucket_cache.specs.Entries.{trades_of}
 use Rattle.bucket_cache.proofs.Lives.{live_none}
