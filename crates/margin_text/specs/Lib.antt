@@ -6,3 +6,4 @@ pub mod ParamsLine
 pub mod TermsLine
 pub mod CrifLine
 pub mod Feeds
+pub mod RefusalLine

@@ -1,4 +1,4 @@
-//! The line of a refused file's first fault.
+//! The line of a refused file's first fault, and of a refused batch.
 ghost use Rattle.std.specs.Prelude.{◌≡◌, ◌≢◌, ◌++◌, codes, decimal, IfOk, OnOk};
 ghost use Rattle.std.specs.Fmt.{signed_decimal};
 ghost use Rattle.simm_params.specs.declared.fault.ParamFault.TheVariants as params;
@@ -8,12 +8,14 @@ ghost use Rattle.margin_text.specs.Fields.{field, last_field};
 ghost use Rattle.margin_text.specs.ParamsLine.{params_fields, params_fault};
 ghost use Rattle.margin_text.specs.TermsLine.{terms_fields, terms_fault};
 ghost use Rattle.margin_text.specs.CrifLine.{crif_fault};
+ghost use Rattle.margin_text.specs.RefusalLine.{refusal_fault};
 
 use crate::crif_fields::push_crif_fields;
 use crate::pieces::{push_field, push_last, push_last_number, push_number};
 use crif_reader::CrifFault;
 use csa_terms::TermsFault;
 use mh_units::Text;
+use set_core::{Refusal, Reply, push_reply};
 use simm_params::ParamFault;
 use std::alloc::{AllocError, Global};
 
@@ -65,6 +67,21 @@ pub fn crif_line(alloc: Global, fault: &CrifFault) -> Result<Text, AllocError>
     };
     let mut line = begun_line(alloc, b"CRIF")?;
     push_crif_fields(&mut line, number, *fault)?;
+    Ok(line)
+}
+
+/// The line of a batch that is refused.
+///
+/// # Errors
+///
+/// For want of memory.
+pub fn refusal_line(alloc: Global, refusal: Refusal) -> Result<Text, AllocError>
+    ensures { IfOk result (λ line. line ≡ refusal_fault refusal) }
+{
+    let mut line = Text::new(alloc);
+    push_field(&mut line, b"FAULT")?;
+    push_reply(&mut line, &Reply::Refused(refusal))?;
+    line.push(b'\n')?;
     Ok(line)
 }
 

@@ -1,4 +1,5 @@
-//! Printed text: the lines of a margin, of a set's journal, of a feed's report and of a refused file's fault.
+//! Printed text: the lines of a margin, of a set's journal, of a feed's report and of the fault of a refused file or
+//! batch.
 #![tactic(auto)]
 
 mod breakdown_lines;
@@ -13,6 +14,6 @@ mod set_journal;
 mod trade_lines;
 
 pub use breakdown_lines::margin_lines;
-pub use fault_lines::{crif_line, params_line, terms_line};
+pub use fault_lines::{crif_line, params_line, refusal_line, terms_line};
 pub use feed_lines::push_report;
 pub use set_journal::{journal_text, push_journal};
