@@ -4,9 +4,18 @@ use Rattle.std.specs.Io.KnownBytes.{append_known}
 use Rattle.mh_io.specs.Sink.{SinkSeen}
 use Rattle.mh_io.specs.Folder.{Telling, File, file_of, FolderSeen}
 use Rattle.simm_kinds.specs.declared.row.TradeRows.{TradeRows}
+use Rattle.simm_kinds.specs.Batch.{rows_of}
 use Rattle.simm_rules.specs.declared.values.Breakdown.{Breakdown}
 use Rattle.simm_rules.specs.Params.{Params}
+use Rattle.simm_rules.specs.declared.values.RangeFault.{RangeFault}
+use Rattle.simm_rules.specs.Range.{range}
 use Rattle.simm_params.specs.Grammar.{params_of}
+use Rattle.bucket_cache.specs.declared.place.RowPlace.{RowPlace}
+use Rattle.bucket_cache.specs.Live.{first_unadmitted}
+use Rattle.set_core.specs.declared.refusal.Refusal.{Refusal}
+use Rattle.set_core.specs.declared.refusal.Refusal.TheVariants as refusal
+use Rattle.set_core.specs.declared.reply.Reply.TheVariants as reply
+use Rattle.set_core.specs.Answer.{if_in_range, if_admitted}
 use Rattle.margin_top.specs.declared.status.Status.{Status}
 use Rattle.margin_top.specs.declared.status.Status.TheVariants as status
 use Rattle.margin_top.specs.declared.fault.FileFault.{FileFault}
@@ -17,7 +26,7 @@ use Rattle.margin_top.specs.declared.fault.CalcFault.{CalcFault}
 use Rattle.margin_top.specs.declared.fault.CalcFault.TheVariants as fault
 use Rattle.margin_top.specs.Files.{Deeds, no_deeds, with_reading, told_after, Did, IsWhole, IsTooLong, IsRead, Failed, NoValue}
 use Rattle.margin_top.specs.Grammars.{GivesTrades, RefusesTrades}
-use Rattle.margin_top.specs.Calc.{GotLine, HasBoth, HasMargin, CrifFails, Cause, MarginPrints, status_of, fault_text, CalcEnds}
+use Rattle.margin_top.specs.Calc.{GotLine, HasBoth, HasMargin, TellsRefusal, CrifFails, Cause, MarginPrints, status_of, fault_text, CalcEnds}
 use Rattle.margin_top.proofs.FileLemmas.{did_more, rises_earlier}
 
 -- what is told of files later is told of them before
@@ -114,5 +123,20 @@ ends_at_fault params_name crif_name old new out_old out_new f s line cause e is 
     at (fault.OfCrif (value.OfFile file.Long)) cause printed = record { f = fault.OfCrif (value.OfFile file.Long); cause = cause; status = refl; printed = printed }
     at (fault.OfCrif (value.OfFile file.Memory)) cause printed = record { f = fault.OfCrif (value.OfFile file.Memory); cause = cause; status = refl; printed = printed }
     at (fault.OfCrif (value.Refused said)) cause printed = record { f = fault.OfCrif (value.Refused said); cause = cause; status = refl; printed = printed }
-    at fault.OutOfRange cause printed = record { f = fault.OutOfRange; cause = cause; status = refl; printed = printed }
+    at (fault.OfBatch line) cause printed = record { f = fault.OfBatch line; cause = cause; status = refl; printed = printed }
     at fault.Memory cause printed = record { f = fault.Memory; cause = cause; status = refl; printed = printed }
+
+-- ---- the refusal of a batch
+
+pub unknown_refused : (at : Option RowPlace) (found : Option RangeFault) (trade row : ℕ) → at ≡ Some (record { trade = trade; row = row }) → if_admitted at found ≡ reply.Refused (refusal.BucketUnknown trade row)
+unknown_refused at found trade row is = ap (λ o. if_admitted o found) is
+
+pub range_refused : (at : Option RowPlace) (found : Option RangeFault) (f : RangeFault) → at ≡ None → found ≡ Some f → if_admitted at found ≡ reply.Refused (refusal.Range f)
+range_refused at found f admitted is = ap (λ o. if_admitted o found) admitted ∙ ap if_in_range is
+
+pub refused_cause : (old new : FolderSeen) (params_name crif_name : List ℕ) (p : Params) (trades : List TradeRows) (why : Refusal) (f : CalcFault) → HasBoth params_name crif_name old new p trades → if_admitted (first_unadmitted p trades) (range p (rows_of trades)) ≡ reply.Refused why → TellsRefusal why f → Cause params_name crif_name old new f
+refused_cause old new params_name crif_name p trades why (fault.OfParams f) both refused tells = absurd tells
+refused_cause old new params_name crif_name p trades why (fault.OfCrif f) both refused tells = absurd tells
+refused_cause old new params_name crif_name p trades why (fault.OfBatch line) both refused tells =
+    record { p = p; trades = trades; why = why; both = both; refused = refused; tells = tells }
+refused_cause old new params_name crif_name p trades why fault.Memory both refused tells = record { p = p; trades = trades; both = both }

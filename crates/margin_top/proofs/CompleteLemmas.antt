@@ -1,5 +1,5 @@
 -- A calculation for which all is well succeeds, or finds no memory.
-use Rattle.std.proofs.Common.{◌≡◌, ℕ, List, Some, None, Result, Ok, Err, IsOkAnd, ap, sym, refl, subst, ◌∙◌}
+use Rattle.std.proofs.Common.{◌≡◌, ℕ, List, Some, Result, Ok, Err, IsOkAnd, ap, sym, refl, subst, ◌∙◌}
 use Rattle.mh_io.specs.Sink.{SinkSeen}
 use Rattle.mh_io.specs.Folder.{FolderSeen}
 use Rattle.simm_kinds.specs.declared.row.TradeRows.{TradeRows}
@@ -7,6 +7,9 @@ use Rattle.simm_kinds.specs.Batch.{rows_of}
 use Rattle.simm_rules.specs.Params.{Params}
 use Rattle.simm_rules.specs.Range.{range}
 use Rattle.simm_params.specs.Grammar.{params_of}
+use Rattle.bucket_cache.specs.Live.{first_unadmitted}
+use Rattle.set_core.specs.declared.reply.Reply.TheVariants as reply
+use Rattle.set_core.specs.Answer.{if_in_range, if_admitted}
 use Rattle.crif_reader.specs.declared.fault.CrifFault.{CrifFault}
 use Rattle.crif_reader.specs.Grammar.{Crif, crif_of}
 use Rattle.margin_top.specs.declared.status.Status.{Status}
@@ -50,12 +53,15 @@ only_memory pn cn old new out_old out_new w (fault.OfCrif f) h =
     (only_memory_for old new before cn w.crif_bytes RefusesTrades w.t f w.told w.has_crif w.crif_fits
     (trades_taken w.crif_bytes w.trades w.crif_read)
     w.finds_stood w.reads_stood h.failed)
-only_memory pn cn old new out_old out_new w fault.OutOfRange h =
+only_memory pn cn old new out_old out_new w (fault.OfBatch line) h =
     let b = h.both in
     let p_is : h.p ≡ w.p = same_params pn cn old new out_old out_new w b.param_bytes h.p (b.params).whole (b.params).values in
     let trades_are : h.trades ≡ w.trades = same_trades pn cn old new out_old out_new w b.crif_bytes h.trades b.whole b.values in
-    let none : range h.p (rows_of h.trades) ≡ None = ap (λ p. range p (rows_of h.trades)) p_is ∙ (ap (λ trades. range w.p (rows_of trades)) trades_are ∙ w.in_range) in
-    let some = h.exceeded in
+    let accepted : if_admitted (first_unadmitted h.p h.trades) (range h.p (rows_of h.trades)) ≡ reply.Accepted =
+    ap (λ p. if_admitted (first_unadmitted p h.trades) (range p (rows_of h.trades))) p_is
+    ∙ ap (λ trades. if_admitted (first_unadmitted w.p trades) (range w.p (rows_of trades))) trades_are
+    ∙ ap (λ o. if_admitted o (range w.p (rows_of w.trades))) w.admitted ∙ ap if_in_range w.in_range in
+    let refused = h.refused in
     cc
 only_memory pn cn old new out_old out_new w fault.Memory h = refl
 

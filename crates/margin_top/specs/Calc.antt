@@ -7,7 +7,6 @@ use Rattle.mh_io.specs.Sink.{SinkSeen, BreaksOff}
 use Rattle.simm_kinds.specs.declared.row.TradeRows.{TradeRows}
 use Rattle.simm_kinds.specs.Batch.{rows_of}
 use Rattle.simm_rules.specs.declared.values.Breakdown.{Breakdown}
-use Rattle.simm_rules.specs.declared.values.RangeFault.{RangeFault}
 use Rattle.simm_rules.specs.Params.{Params}
 use Rattle.simm_rules.specs.Simm.{simm}
 use Rattle.simm_rules.specs.Range.{range}
@@ -20,8 +19,13 @@ use Rattle.margin_top.specs.declared.fault.ValueFault.{ValueFault}
 use Rattle.margin_top.specs.declared.fault.ValueFault.TheVariants as value
 use Rattle.margin_top.specs.declared.fault.CalcFault.{CalcFault}
 use Rattle.margin_top.specs.declared.fault.CalcFault.TheVariants as fault
+use Rattle.bucket_cache.specs.Live.{first_unadmitted}
+use Rattle.set_core.specs.declared.refusal.Refusal.{Refusal}
+use Rattle.set_core.specs.declared.reply.Reply.TheVariants as reply
+use Rattle.set_core.specs.Answer.{if_admitted}
 use Rattle.margin_text.specs.Margins.{margin_text}
-use Rattle.margin_top.specs.Lines.{refused_fault, find_fault, read_fault, long_fault}
+use Rattle.margin_text.specs.RefusalLine.{refusal_fault}
+use Rattle.margin_top.specs.Lines.{find_fault, read_fault, long_fault}
 use Rattle.margin_top.specs.Files.{no_deeds, with_reading, Did, IsWhole, NoValue}
 use Rattle.margin_top.specs.Grammars.{RefusesParams, GivesTrades, RefusesTrades}
 
@@ -63,6 +67,7 @@ pub record HasMargin (params_name crif_name : List ℕ) (old new : FolderSeen) (
   pub p : Params
   pub trades : List TradeRows
   pub both : HasBoth params_name crif_name old new p trades
+  pub admitted : first_unadmitted p trades ≡ None
   pub in_range : range p (rows_of trades) ≡ None
   pub margin : b ≡ simm p (rows_of trades)
 
@@ -74,15 +79,24 @@ pub record CrifFails (params_name crif_name : List ℕ) (old new : FolderSeen) (
   pub params : HasParams old params_name param_bytes p
   pub failed : NoValue old new (with_reading no_deeds params_name param_bytes param_faults) crif_name RefusesTrades f
 
--- both files were read, and the book is out of range
-pub record IsOutOfRange (params_name crif_name : List ℕ) (old new : FolderSeen) : Type 0 where
+-- Both files were read, and the batch is refused as a set's first submit is: at its first row that isn't admitted, or else
+-- where its book is out of range. The line tells the refusal.
+pub record IsRefused (params_name crif_name : List ℕ) (old new : FolderSeen) (line : List ℕ) : Type 0 where
   pub p : Params
   pub trades : List TradeRows
-  pub f : RangeFault
+  pub why : Refusal
   pub both : HasBoth params_name crif_name old new p trades
-  pub exceeded : range p (rows_of trades) ≡ Some f
+  pub refused : if_admitted (first_unadmitted p trades) (range p (rows_of trades)) ≡ reply.Refused why
+  pub tells : line ≡ refusal_fault why
 
--- both files were read, and then memory ran out
+-- the fault that a refusal comes to: its line, or want of memory
+abbrev pub TellsRefusal : Refusal → CalcFault → Type 0
+TellsRefusal why (fault.OfParams f) = ⊥
+TellsRefusal why (fault.OfCrif f) = ⊥
+TellsRefusal why (fault.OfBatch line) = line ≡ refusal_fault why
+TellsRefusal why fault.Memory = Unit {0}
+
+-- both files were read, and then memory ran out, for the margin or for the line of a refusal
 pub record IsStarved (params_name crif_name : List ℕ) (old new : FolderSeen) : Type 0 where
   pub p : Params
   pub trades : List TradeRows
@@ -92,7 +106,7 @@ pub record IsStarved (params_name crif_name : List ℕ) (old new : FolderSeen) :
 abbrev pub Cause : List ℕ → List ℕ → FolderSeen → FolderSeen → CalcFault → Type 0
 Cause params_name crif_name old new (fault.OfParams f) = NoValue old new no_deeds params_name RefusesParams f
 Cause params_name crif_name old new (fault.OfCrif f) = CrifFails params_name crif_name old new f
-Cause params_name crif_name old new fault.OutOfRange = IsOutOfRange params_name crif_name old new
+Cause params_name crif_name old new (fault.OfBatch line) = IsRefused params_name crif_name old new line
 Cause params_name crif_name old new fault.Memory = IsStarved params_name crif_name old new
 
 -- what working out a margin does: the margin, or why there is none
@@ -114,7 +128,7 @@ status_of_value refused (value.Refused line) = refused
 abbrev pub status_of : CalcFault → Status
 status_of (fault.OfParams f) = status_of_value status.Params f
 status_of (fault.OfCrif f) = status_of_value status.Terms f
-status_of fault.OutOfRange = status.Terms
+status_of (fault.OfBatch line) = status.Terms
 status_of fault.Memory = status.Memory
 
 abbrev pub line_of_file : List ℕ → FileFault → List ℕ
@@ -131,7 +145,7 @@ line_of_value name (value.Refused line) = line
 abbrev pub fault_text : List ℕ → List ℕ → CalcFault → List ℕ
 fault_text params_name crif_name (fault.OfParams f) = line_of_value params_name f
 fault_text params_name crif_name (fault.OfCrif f) = line_of_value crif_name f
-fault_text params_name crif_name fault.OutOfRange = refused_fault
+fault_text params_name crif_name (fault.OfBatch line) = line
 fault_text params_name crif_name fault.Memory = []
 
 -- what printing a margin does, by its status

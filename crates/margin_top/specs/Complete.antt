@@ -9,6 +9,7 @@ use Rattle.simm_kinds.specs.Batch.{rows_of}
 use Rattle.simm_rules.specs.Params.{Params}
 use Rattle.simm_rules.specs.Range.{range}
 use Rattle.simm_params.specs.Grammar.{params_of}
+use Rattle.bucket_cache.specs.Live.{first_unadmitted}
 use Rattle.csa_terms.specs.Grammar.{terms_of}
 use Rattle.csa_terms.specs.Terms.{Agreement}
 use Rattle.feed_reader.specs.Feed.{Whole, feed}
@@ -18,8 +19,8 @@ use Rattle.margin_top.specs.Grammars.{GivesTrades}
 use Rattle.margin_top.specs.Desks.{Desks}
 use Rattle.margin_top.specs.Words.{Form, Calc, Run, form_of}
 
--- the folder has both files, neither is too long, both are inside their grammars, the book is in range, and no count
--- of faults rose
+-- the folder has both files, neither is too long, both are inside their grammars, all rows are admitted, the book is in
+-- range, and no count of faults rose
 pub record IsWell (params_name crif_name : List ℕ) (old new : FolderSeen) (out_old out_new : SinkSeen) : Type 0 where
   pub t : Telling
   pub param_bytes : List ℕ
@@ -33,6 +34,7 @@ pub record IsWell (params_name crif_name : List ℕ) (old new : FolderSeen) (out
   pub crif_fits : length crif_bytes ≤ most_bytes
   pub params_read : params_of param_bytes ≡ Some p
   pub crif_read : GivesTrades crif_bytes trades
+  pub admitted : first_unadmitted p trades ≡ None
   pub in_range : range p (rows_of trades) ≡ None
   pub finds_stood : Rises old.find_faults new.find_faults → ⊥
   pub reads_stood : Rises old.read_faults new.read_faults → ⊥

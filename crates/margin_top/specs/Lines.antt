@@ -5,9 +5,6 @@ use Rattle.margin_text.specs.Fields.{last_field}
 abbrev pub words_fault : List ℕ
 words_fault = codes "FAULT\tWORDS\n"
 
-abbrev pub refused_fault : List ℕ
-refused_fault = codes "FAULT\tREFUSED\n"
-
 -- of a file: that it can't be found, can't be read, or is too long
 abbrev pub find_fault : List ℕ → List ℕ
 find_fault name = codes "FAULT\tFIND\t" ++ last_field name

@@ -123,8 +123,8 @@ pub enum CalcFault {
     OfParams(ValueFault),
     /// The CRIF file gave no batch.
     OfCrif(ValueFault),
-    /// The book of the batch is out of range.
-    OutOfRange,
+    /// The batch is refused, with the line that tells why.
+    OfBatch(Text),
     /// Memory ran out after both files were read.
     Memory,
 }
@@ -142,7 +142,7 @@ impl CalcFault {
         match self {
             CalcFault::OfParams(fault) => fault.ending(params, Status::Params),
             CalcFault::OfCrif(fault) => fault.ending(crif, Status::Terms),
-            CalcFault::OutOfRange => (Status::Terms, FaultLine::Whole(b"FAULT\tREFUSED\n")),
+            CalcFault::OfBatch(line) => (Status::Terms, FaultLine::Whole(line.as_slice())),
             CalcFault::Memory => (Status::Memory, FaultLine::Whole(b"")),
         }
     }

@@ -6,7 +6,7 @@ use Rattle.simm_rules.specs.Params.{Params}
 use Rattle.simm_rules.specs.Range.{range}
 use Rattle.simm_rules.specs.Simm.{simm}
 use Rattle.bucket_cache.specs.declared.fault.SubmitFault.TheVariants as submit
-use Rattle.bucket_cache.specs.Live.{Live, put_trades}
+use Rattle.bucket_cache.specs.Live.{Live, put_trades, first_unadmitted}
 use Rattle.margin_top.proofs.margin_of.margin_of_batch.Goals as goal
 
 -- a live margin without trades has just the first batch's rows afterwards
@@ -16,6 +16,9 @@ first_rows live p taken batch empty same first = ap rows_of (first (ap (λ (l : 
 first_range : (live : Live) (p : Params) (taken batch : List TradeRows) → live ≡ record { params = p; book = [] } → taken ≡ batch → (live.book ≡ [] → put_trades taken live.book ≡ taken) → range live.params (rows_of (put_trades taken live.book)) ≡ range p (rows_of batch)
 first_range live p taken batch empty same first =
     ap (λ (l : Live). range l.params (rows_of (put_trades taken live.book))) empty ∙ ap (range p) (first_rows live p taken batch empty same first)
+
+first_admitted : (live : Live) (p : Params) (taken batch : List TradeRows) → live ≡ record { params = p; book = [] } → taken ≡ batch → first_unadmitted live.params taken ≡ first_unadmitted p batch
+first_admitted live p taken batch empty same = ap (λ (l : Live). first_unadmitted l.params taken) empty ∙ ap (first_unadmitted p) same
 
 first_margin : (live new : Live) (p : Params) (taken batch : List TradeRows) → live ≡ record { params = p; book = [] } → taken ≡ batch → (live.book ≡ [] → put_trades taken live.book ≡ taken) → new ≡ record live { book = put_trades taken live.book } → simm new.params (rows_of new.book) ≡ simm p (rows_of batch)
 first_margin live new p taken batch empty same first after =
@@ -31,6 +34,20 @@ pub returns-in_err-submit-clause-range : goal.returns-in_err-submit-clause-range
 returns-in_err-submit-clause-range c = λ fault is.
     sym (first_range c.in_ok-live.live c.args.values c.trades.result.now c.args.batch.now c.in_ok-live.ensures c.trades.ensures.value c.in_err-submit.ensures.first)
     ∙ c.in_err-submit.ensures.range fault (same_fault c.from_residual-in_err-submit.result c.in_err-submit.field-0.0 (submit.Range fault) c.from_residual-in_err-submit.ensures.1 is)
+
+pub returns-in_err-submit-clause-unadmitted : goal.returns-in_err-submit-clause-unadmitted
+returns-in_err-submit-clause-unadmitted c = λ trade row is.
+    sym (first_admitted c.in_ok-live.live c.args.values c.trades.result.now c.args.batch.now c.in_ok-live.ensures c.trades.ensures.value)
+    ∙ c.in_err-submit.ensures.unadmitted trade row (same_fault c.from_residual-in_err-submit.result c.in_err-submit.field-0.0 (submit.BucketUnknown trade row) c.from_residual-in_err-submit.ensures.1 is)
+
+pub returns-in_err-submit-clause-range_of_admitted : goal.returns-in_err-submit-clause-range_of_admitted
+returns-in_err-submit-clause-range_of_admitted c = λ fault is.
+    sym (first_admitted c.in_ok-live.live c.args.values c.trades.result.now c.args.batch.now c.in_ok-live.ensures c.trades.ensures.value)
+    ∙ c.in_err-submit.ensures.range_of_admitted fault (same_fault c.from_residual-in_err-submit.result c.in_err-submit.field-0.0 (submit.Range fault) c.from_residual-in_err-submit.ensures.1 is)
+
+pub returns-clause-admitted : goal.returns-clause-admitted
+returns-clause-admitted c =
+    sym (first_admitted c.in_ok-live.live c.args.values c.trades.result.now c.args.batch.now c.in_ok-live.ensures c.trades.ensures.value) ∙ c.in_ok-submit.ensures.admitted
 
 pub returns-clause-in_range : goal.returns-clause-in_range
 returns-clause-in_range c =

@@ -1,5 +1,5 @@
 use Rattle.std.proofs.Common.{ap, Err}
-use Rattle.margin_top.proofs.CalcLemmas.{crif_failed, both_read}
+use Rattle.margin_top.proofs.CalcLemmas.{crif_failed, both_read, unknown_refused, range_refused, refused_cause}
 use Rattle.margin_top.proofs.margin_of.margin_of_files.Goals as goal
 
 pub returns-in-Err-read_crif_file-clause-ends : goal.returns-in-Err-read_crif_file-clause-ends
@@ -11,18 +11,24 @@ returns-in-Ok-margin_of_batch-clause-ends g c = record {
   p = c.in-Ok.values;
   trades = c.in-Ok-read_crif_file.batch;
   both = both_read _ _ _ c.args.params.now c.args.crif.now c.in-Ok.values c.in-Ok-read_crif_file.batch c.in-Ok.ensures.ends c.in-Ok-read_crif_file.ensures.ends;
+  admitted = c.in-Ok-margin_of_batch.ensures.admitted;
   in_range = c.in-Ok-margin_of_batch.ensures.in_range;
   margin = c.in-Ok-margin_of_batch.ensures.value;
 }
 
+pub returns-in-Err-BucketUnknown-clause-ends : goal.returns-in-Err-BucketUnknown-clause-ends
+returns-in-Err-BucketUnknown-clause-ends g c =
+    refused_cause _ _ c.args.params.now c.args.crif.now c.in-Ok.values c.in-Ok-read_crif_file.batch _ c.refused.result
+    (both_read _ _ _ c.args.params.now c.args.crif.now c.in-Ok.values c.in-Ok-read_crif_file.batch c.in-Ok.ensures.ends c.in-Ok-read_crif_file.ensures.ends)
+    (unknown_refused _ _ _ _ (c.in-Err-BucketUnknown.ensures.unadmitted c.in-Err-BucketUnknown.trade c.in-Err-BucketUnknown.row (ap Err c.in-Err-BucketUnknown.field-0-is)))
+    c.refused.ensures
+
 pub returns-in-Err-Range-clause-ends : goal.returns-in-Err-Range-clause-ends
-returns-in-Err-Range-clause-ends g c = record {
-  p = c.in-Ok.values;
-  trades = c.in-Ok-read_crif_file.batch;
-  f = c.in-Err-Range.field-0-0;
-  both = both_read _ _ _ c.args.params.now c.args.crif.now c.in-Ok.values c.in-Ok-read_crif_file.batch c.in-Ok.ensures.ends c.in-Ok-read_crif_file.ensures.ends;
-  exceeded = c.in-Err-Range.ensures.range c.in-Err-Range.field-0-0 (ap Err c.in-Err-Range.field-0-is);
-}
+returns-in-Err-Range-clause-ends g c =
+    refused_cause _ _ c.args.params.now c.args.crif.now c.in-Ok.values c.in-Ok-read_crif_file.batch _ c.refused-in-Err-Range.result
+    (both_read _ _ _ c.args.params.now c.args.crif.now c.in-Ok.values c.in-Ok-read_crif_file.batch c.in-Ok.ensures.ends c.in-Ok-read_crif_file.ensures.ends)
+    (range_refused _ _ _ (c.in-Err-Range.ensures.range_of_admitted c.in-Err-Range.fault (ap Err c.in-Err-Range.field-0-is)) (c.in-Err-Range.ensures.range c.in-Err-Range.fault (ap Err c.in-Err-Range.field-0-is)))
+    c.refused-in-Err-Range.ensures
 
 pub returns-clause-ends : goal.returns-clause-ends
 returns-clause-ends g c = record {
