@@ -1,5 +1,5 @@
-use crate::makers::{batch, batch_of, name, params};
-use bucket_cache::{LiveMargin, SubmitFault, WithdrawFault};
+use crate::makers::{batch, name, params};
+use bucket_cache::{LiveMargin, WithdrawFault};
 use simm_kinds::{CrifRow, Name};
 use std::process::Abort;
 
@@ -71,18 +71,4 @@ fn a_withdrawn_trade_is_gone(rt: HostRuntime) {
     assert!(rt; withdraw(&rt, &mut live, "T1").is_ok());
     assert!(rt; total(&rt, &mut live) == 370_000 && live.trade_count() == 1);
     assert!(rt; withdraw(&rt, &mut live, "T1") == Err(WithdrawFault::UnknownTrade { place: 1 }));
-}
-
-/// The file lists the first bucket alone.
-const RECORDS: &str = "T3,FX,Risk_FX,EUR,,,,,,1\n\
-T4,Equity,Risk_Equity,ISIN:A,1,,,,,5\n\
-T4,Equity,Risk_Equity,ISIN:A,2,,,,,5\n";
-
-#[test]
-fn the_first_row_of_an_unlisted_bucket_is_named(rt: HostRuntime) {
-    let mut live = submitted(&rt);
-    let batch = batch_of(&rt, RECORDS);
-    let place = SubmitFault::BucketUnknown { trade: 2, row: 2 };
-    assert!(rt; live.submit(rt.alloc(), batch.trades()) == Err(place));
-    assert!(rt; live.trade_count() == 2 && total(&rt, &mut live) == 1_110_000);
 }

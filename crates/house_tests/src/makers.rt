@@ -102,13 +102,7 @@ pub fn name(rt: &(impl Abort + AllocGlobal), text: &str) -> Name {
 
 /// The batch of one trade with one row, of a currency and an amount in dollars.
 pub fn batch(rt: &(impl Abort + AllocGlobal), trade: &str, currency: &str, amount: &str) -> Batch {
-    let record = format!(in rt.alloc(); "{trade},FX,Risk_FX,{currency},,,,,,{amount}\n");
-    batch_of(rt, record.ok().expect(rt, "memory").as_str())
-}
-
-/// The batch of these records.
-pub fn batch_of(rt: &(impl Abort + AllocGlobal), records: &str) -> Batch {
-    let text = format!(in rt.alloc(); "{HEADER}\n{records}");
+    let text = format!(in rt.alloc(); "{HEADER}\n{trade},FX,Risk_FX,{currency},,,,,,{amount}\n");
     let text = text.ok().expect(rt, "memory");
     read_batch(rt.alloc(), text.as_str().as_bytes())
         .ok()
