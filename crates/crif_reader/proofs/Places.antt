@@ -1,13 +1,15 @@
 -- The place of a trade among trades, through a change of one of them and a new one behind them.
-use Rattle.std.proofs.Common.{◌≡◌, ◌∷◌, [], ◌++◌, ℕ, suc, zero, ◌<◌, Bool, true, false, cond, List, length, get_or, set, Option, Some, None, option_map, refl, ap, sym, ◌∙◌, arith}
+use Rattle.std.proofs.Common.{◌≡◌, ◌∷◌, [], ◌++◌, ℕ, suc, zero, ◌<◌, Bool, true, false, cond, List, length, map, get_or, set, slice_get, ◌-◌, length-set, Option, Some, None, option_map, refl, ap, sym, ◌∙◌, arith}
 use Rattle.std.specs.Str.{bytes_eq}
 use Rattle.std.proofs.lemmas.Map.Text.{is_eq-slice_cmp}
+use Rattle.std.proofs.lemmas.Option.{slice_get-map}
+use Rattle.std.proofs.lemmas.List.{length-append}
 use Rattle.std.proofs.lemmas.Slice.Eq.{bytes_eq-Decides}
 use Rattle.std.proofs.lemmas.Bool.Decides.{same_from_decides}
 use Rattle.simm_kinds.specs.declared.row.TradeRows.{TradeRows}
 use Rattle.simm_kinds.specs.Order.{same_name}
 use Rattle.crif_reader.specs.Row.{Entry}
-use Rattle.crif_reader.specs.Growth.{with_entry, place_of}
+use Rattle.crif_reader.specs.Growth.{with_entry, place_of, IsLastFirst}
 
 -- ---- names
 
@@ -74,3 +76,41 @@ place_of-push name (u ∷ ts) t e =
     ap (λ o. cond (same_name name u.trade) (Some 0) (option_map (λ n. suc n) o)) (place_of-push name ts t parts.1)
     ∙ push_step (bytes_eq t.trade name) (same_name name u.trade) (length ts) (place_of name ts)
     (λ yes. let same : name ≡ t.trade = sym ((bytes_eq-Decides t.trade name).0 yes) in rw same parts.0)
+
+-- ---- the last trade
+
+abbrev names_of : List TradeRows → List (List ℕ)
+names_of ts = map (λ (t : TradeRows). t.trade) ts
+
+names-set : (ts : List TradeRows) (place : ℕ) (t u : TradeRows) → t ≡ get_or ts place t → u.trade ≡ t.trade → names_of (set ts place u) ≡ names_of ts
+names-set [] place t u h e = refl
+names-set (v ∷ ts) zero t u h e = ap (λ n. n ∷ names_of ts) (e ∙ ap (λ (x : TradeRows). x.trade) h)
+names-set (v ∷ ts) (suc place) t u h e = ap (λ ns. v.trade ∷ ns) (names-set ts place t u h e)
+
+pub last_first-set : (ts : List TradeRows) (place : ℕ) (t u : TradeRows) → t ≡ get_or ts place t → u.trade ≡ t.trade → IsLastFirst ts → IsLastFirst (set ts place u)
+last_first-set ts place t u h e last = λ name is.
+    let same_length : length (set ts place u) ≡ length ts = length-set ts place u in
+    let there : slice_get (names_of ts) (length ts - 1) ≡ Some name =
+    ap (λ ns. slice_get ns (length ts - 1)) (sym (names-set ts place t u h e)) ∙ ap (λ n. slice_get (names_of (set ts place u)) (n - 1)) (sym same_length) ∙ is in
+    place_of-set name ts place t u h e ∙ last name there ∙ ap (λ n. Some (n - 1)) (sym same_length)
+
+last_there : (ts : List TradeRows) (t : TradeRows) → slice_get (names_of (ts ++ t ∷ [])) (length ts) ≡ Some t.trade
+last_there [] t = refl
+last_there (u ∷ ts) t = last_there ts t
+
+pub last_first-push : (ts : List TradeRows) (t : TradeRows) → place_of t.trade ts ≡ None → IsLastFirst (ts ++ t ∷ [])
+last_first-push ts t nowhere = λ name is.
+    let end : length (ts ++ t ∷ []) - 1 ≡ length ts = omega (arith, length-append ts (t ∷ [])) in
+    let same : name ≡ t.trade = named (sym is ∙ ap (λ n. slice_get (names_of (ts ++ t ∷ [])) n) end ∙ last_there ts t) in
+    place_of-push name ts t nowhere ∙ ap (λ b. cond b (Some (length ts)) (place_of name ts)) ((bytes_eq-Decides t.trade name).1 (sym same)) ∙ ap Some (sym end)
+  where
+    named : {x y : List ℕ} → Some x ≡ Some y → x ≡ y
+    named h = cc
+
+pub last_first-none : IsLastFirst []
+last_first-none = λ name is. cc
+
+-- the last trade's name is that of no earlier one
+pub found_last : (ts : List TradeRows) (name : List ℕ) (t : TradeRows) → IsLastFirst ts → slice_get ts (length ts - 1) ≡ Some t → t.trade ≡ name → place_of name ts ≡ Some (length ts - 1)
+found_last ts name t last is same =
+    last name (slice_get-map (λ (x : TradeRows). x.trade) ts (length ts - 1) ∙ ap (option_map (λ (x : TradeRows). x.trade)) is ∙ ap Some same)

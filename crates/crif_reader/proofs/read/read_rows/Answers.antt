@@ -4,6 +4,7 @@ use Rattle.std.proofs.lemmas.Bool.{eqb-false, eqb-true, not-true, not-false}
 use Rattle.csv.specs.Records.{fields_of}
 use Rattle.crif_reader.specs.Records.{records_left}
 use Rattle.crif_reader.proofs.Runs.{way_starts, way_passes, way_takes, way_fails, way_repeats, way_too_long, way_ends, way_ends_empty}
+use Rattle.crif_reader.proofs.Places.{last_first-none}
 use Rattle.crif_reader.proofs.read.read_rows.Goals as goal
 use Rattle.crif_reader.proofs.read.read_rows.Goals.{in-Some+in_ok-note-in-Some+else-not-branch+in_ok-add_entry-in-Some, in-None}
 
@@ -11,7 +12,7 @@ pub loop-fields-init : goal.loop-fields-init
 loop-fields-init c =
     record {
       reading = c.requires;
-      index = rw c.new-trades.ensures.items (λ name. search rules);
+      index = rw c.new-trades.ensures.items (record { found = λ name. search rules; last = last_first-none });
       way = rw c.new-trades.ensures.items (way_starts c.args.columns.now (records_left c.args.reader.now) c.new-params.result c.new-params.ensures);
       few = omega arith;
     }
