@@ -74,7 +74,8 @@ fn count_fault(rows: usize) -> Option<RangeFault>
     }
 }
 
-fn count_rows(lent: &[LentRows]) -> usize
+/// How many rows the book has.
+pub fn count_rows(lent: &[LentRows]) -> usize
     requires { length (all_rows lent.now) < 2 ^ 63 }
     ensures { result ≡ length (all_rows lent.now) }
 {
@@ -85,8 +86,8 @@ fn count_rows(lent: &[LentRows]) -> usize
     count
 }
 
-// The factors of all rows.
-fn net(alloc: Global, lent: &[LentRows]) -> Result<Factors, AllocError>
+/// The factors of all rows. Want of memory is the only error.
+pub fn net(alloc: Global, lent: &[LentRows]) -> Result<Factors, AllocError>
     requires few { length (all_rows lent.now) ≤ 200000 }
     requires amounts { list_all is_in_range (all_rows lent.now) ≡ true }
     ensures { IfOk result (λ factors. factors ≡ factors_of (all_rows lent.now)) }

@@ -2,6 +2,7 @@
 #![tactic(auto)]
 
 mod admitting;
+mod batch;
 mod booking;
 mod changing;
 mod fault;
@@ -10,5 +11,6 @@ mod lent;
 mod live;
 mod place;
 
+pub use batch::batch_margin;
 pub use fault::{SubmitFault, WithdrawFault};
 pub use live::LiveMargin;

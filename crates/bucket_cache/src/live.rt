@@ -55,7 +55,6 @@ impl LiveMargin {
     /// `BucketUnknown` exactly where a row is not admitted, with the place of the first such row; then `Range` exactly
     /// where the book afterwards would be out of range, with the first quantity that is above its limit; and `Memory` for
     /// want of memory. Nothing changes then.
-    #[tactic(auto, using(crate::proofs::Firsts::first_batch))]
     pub fn submit(&mut self, alloc: Global, trades: &[TradeRows]) -> Result<(), SubmitFault>
         requires { IsBatch trades.now }
         ensures admitted { OnOk result (first_unadmitted self.old.params trades.now ≡ None) }
@@ -68,8 +67,6 @@ impl LiveMargin {
         ensures range_of_admitted { (fault : Fault) → result ≡ Err (SubmitFault.Range fault) →
             first_unadmitted self.old.params trades.now ≡ None }
         ensures unchanged { OnErr result (self.new ≡ self.old) }
-        // The first batch is the whole book.
-        ensures first { self.old.book ≡ [] → put_trades trades.now self.old.book ≡ trades.now }
     {
         if let Some(at) = first_unadmitted(&self.params, trades) {
             return Err(SubmitFault::BucketUnknown {

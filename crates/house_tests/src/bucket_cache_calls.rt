@@ -1,5 +1,5 @@
 use crate::makers::{batch, name, params};
-use bucket_cache::{LiveMargin, WithdrawFault};
+use bucket_cache::{LiveMargin, WithdrawFault, batch_margin};
 use simm_kinds::{CrifRow, Name};
 use std::process::Abort;
 
@@ -71,4 +71,11 @@ fn a_withdrawn_trade_is_gone(rt: HostRuntime) {
     assert!(rt; withdraw(&rt, &mut live, "T1").is_ok());
     assert!(rt; total(&rt, &mut live) == 370_000 && live.trade_count() == 1);
     assert!(rt; withdraw(&rt, &mut live, "T1") == Err(WithdrawFault::UnknownTrade { place: 1 }));
+}
+
+#[test]
+fn a_batch_alone_has_its_margin(rt: HostRuntime) {
+    let batch = batch(&rt, "T1", "EUR", "1000");
+    let margin = batch_margin(rt.alloc(), &params(&rt), batch.trades());
+    assert!(rt; margin.ok().is_some_and(|margin| margin.total.0 == 740_000));
 }
