@@ -1,9 +1,11 @@
 -- A calculation for which all is well succeeds, or finds no memory.
-use Rattle.std.proofs.Common.{◌≡◌, ℕ, List, Some, Result, Ok, Err, IsOkAnd, ap, sym, refl, subst, ◌∙◌}
+use Rattle.std.proofs.Common.{◌≡◌, ℕ, List, Some, None, Result, Ok, Err, IsOkAnd, ap, sym, refl, subst, inl, inr, ◌∙◌}
+use Rattle.mh_io.specs.Faults.{Rises}
 use Rattle.mh_io.specs.Sink.{SinkSeen}
 use Rattle.mh_io.specs.Folder.{FolderSeen}
 use Rattle.simm_kinds.specs.declared.row.TradeRows.{TradeRows}
 use Rattle.simm_kinds.specs.Batch.{rows_of}
+use Rattle.simm_rules.specs.declared.values.Breakdown.{Breakdown}
 use Rattle.simm_rules.specs.Params.{Params}
 use Rattle.simm_rules.specs.Range.{range}
 use Rattle.simm_params.specs.Grammar.{params_of}
@@ -14,11 +16,13 @@ use Rattle.crif_reader.specs.declared.fault.CrifFault.{CrifFault}
 use Rattle.crif_reader.specs.Grammar.{Crif, crif_of}
 use Rattle.margin_top.specs.declared.status.Status.{Status}
 use Rattle.margin_top.specs.declared.status.Status.TheVariants as status
-use Rattle.margin_top.specs.declared.fault.CalcFault.{CalcFault}
-use Rattle.margin_top.specs.declared.fault.CalcFault.TheVariants as fault
+use Rattle.margin_top.specs.declared.fault.InputFile.TheVariants as input
+use Rattle.margin_top.specs.declared.fault.Fault.{Fault}
+use Rattle.margin_top.specs.declared.fault.Fault.TheVariants as fault
 use Rattle.margin_top.specs.Files.{IsWhole, no_deeds, with_reading}
 use Rattle.margin_top.specs.Grammars.{RefusesParams, GivesTrades, RefusesTrades}
-use Rattle.margin_top.specs.Calc.{Cause, status_of, status_of_value, CalcEnds}
+use Rattle.margin_top.specs.Ending.{status_of}
+use Rattle.margin_top.specs.Calc.{CalcCause, MarginPrints, CalcEnds}
 use Rattle.margin_top.specs.Complete.{IsWell, EndsWell}
 use Rattle.margin_top.proofs.KnownFiles.{same_bytes, only_memory_for, params_taken, trades_taken}
 
@@ -42,17 +46,20 @@ same_trades pn cn old new out_old out_new w bytes trades whole read =
 
 -- no fault comes but want of memory
 only_memory : (pn cn : List ℕ) (old new : FolderSeen) (out_old out_new : SinkSeen)
-    → IsWell pn cn old new out_old out_new → (f : CalcFault) → Cause pn cn old new f → status_of f ≡ status.Memory
-only_memory pn cn old new out_old out_new w (fault.OfParams f) h =
-    ap (status_of_value status.Params)
+    → IsWell pn cn old new out_old out_new → (f : Fault) → CalcCause pn cn old new f → status_of f ≡ status.Memory
+only_memory pn cn old new out_old out_new w (fault.OfFile input.Params name f) h =
+    ap (λ e. status_of (fault.OfFile input.Params name e))
     (only_memory_for old new no_deeds pn w.param_bytes RefusesParams w.t f w.told w.has_params w.params_fit
-    (params_taken w.param_bytes w.p w.params_read) w.finds_stood w.reads_stood h)
-only_memory pn cn old new out_old out_new w (fault.OfCrif f) h =
-    let before = with_reading no_deeds pn h.param_bytes h.param_faults in
-    ap (status_of_value status.Terms)
+    (params_taken w.param_bytes w.p w.params_read) w.finds_stood w.reads_stood h.1)
+only_memory pn cn old new out_old out_new w (fault.OfFile input.Crif name f) h =
+    let fails = h.1 in
+    let before = with_reading no_deeds pn fails.param_bytes fails.param_faults in
+    ap (λ e. status_of (fault.OfFile input.Crif name e))
     (only_memory_for old new before cn w.crif_bytes RefusesTrades w.t f w.told w.has_crif w.crif_fits
     (trades_taken w.crif_bytes w.trades w.crif_read)
-    w.finds_stood w.reads_stood h.failed)
+    w.finds_stood w.reads_stood fails.failed)
+only_memory pn cn old new out_old out_new w (fault.OfFile input.Terms name f) h = absurd h
+only_memory pn cn old new out_old out_new w (fault.OfFile input.Feed name f) h = absurd h
 only_memory pn cn old new out_old out_new w (fault.OfBatch line) h =
     let b = h.both in
     let p_is : h.p ≡ w.p = same_params pn cn old new out_old out_new w b.param_bytes h.p (b.params).whole (b.params).values in
@@ -65,15 +72,21 @@ only_memory pn cn old new out_old out_new w (fault.OfBatch line) h =
     cc
 only_memory pn cn old new out_old out_new w fault.Memory h = refl
 
+-- a sink that doesn't fail gets all of a margin
+printed_well : (b : Breakdown) (old new : SinkSeen) (s : Status) → (Rises old.faults new.faults → ⊥) → MarginPrints b old new s → EndsWell s
+printed_well b old new status.Done stood h = tt
+printed_well b old new status.Memory stood h = tt
+printed_well b old new status.Write stood h = absurd (stood h.rose)
+printed_well b old new status.Words stood h = absurd h
+printed_well b old new status.Params stood h = absurd h
+printed_well b old new status.Terms stood h = absurd h
+printed_well b old new status.Find stood h = absurd h
+printed_well b old new status.Read stood h = absurd h
+printed_well b old new status.Feed stood h = absurd h
+printed_well b old new status.Desk stood h = absurd h
+
 -- no other status than Done and Memory comes
 pub ends_well : (pn cn : List ℕ) (old new : FolderSeen) (out_old out_new : SinkSeen) (s : Status) → CalcEnds pn cn old new out_old out_new s → IsWell pn cn old new out_old out_new → EndsWell s
-ends_well pn cn old new out_old out_new status.Done h w = tt
-ends_well pn cn old new out_old out_new status.Memory h w = tt
-ends_well pn cn old new out_old out_new status.Words h w = absurd h
-ends_well pn cn old new out_old out_new status.Feed h w = absurd h
-ends_well pn cn old new out_old out_new status.Desk h w = absurd h
-ends_well pn cn old new out_old out_new status.Write h w = absurd (w.puts_stood (h.printed).rose)
-ends_well pn cn old new out_old out_new status.Params h w = let e : status.Params ≡ status.Memory = sym h.status ∙ only_memory pn cn old new out_old out_new w h.f h.cause in cc
-ends_well pn cn old new out_old out_new status.Terms h w = let e : status.Terms ≡ status.Memory = sym h.status ∙ only_memory pn cn old new out_old out_new w h.f h.cause in cc
-ends_well pn cn old new out_old out_new status.Find h w = let e : status.Find ≡ status.Memory = sym h.status ∙ only_memory pn cn old new out_old out_new w h.f h.cause in cc
-ends_well pn cn old new out_old out_new status.Read h w = let e : status.Read ≡ status.Memory = sym h.status ∙ only_memory pn cn old new out_old out_new w h.f h.cause in cc
+ends_well pn cn old new out_old out_new s (inl h) w = printed_well h.b out_old out_new s w.puts_stood h.printed
+ends_well pn cn old new out_old out_new s (inr h) w =
+    subst EndsWell (sym (only_memory pn cn old new out_old out_new w h.f h.cause) ∙ h.status) tt

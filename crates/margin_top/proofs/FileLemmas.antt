@@ -9,7 +9,8 @@ use Rattle.mh_io.specs.declared.folder.FindRefused.TheVariants as find
 use Rattle.mh_io.specs.declared.reading.ReadAllFault.{ReadAllFault}
 use Rattle.mh_io.specs.declared.reading.ReadAllFault.TheVariants as read
 use Rattle.margin_top.specs.declared.fault.FileFault.{FileFault}
-use Rattle.margin_top.specs.Files.{Deeds, no_deeds, with_reading, with_name, told_after, Did, Failed, FileEnds}
+use Rattle.margin_top.specs.declared.fault.FileFault.TheVariants as why
+use Rattle.margin_top.specs.Files.{Deeds, no_deeds, with_reading, with_name, told_after, Did, NoValue, RefusesNone, ValueEnds, FileEnds}
 use Rattle.margin_top.specs.Faults.{fault_of_find, fault_of_read}
 
 -- a name was asked for, a source of it gave these bytes, and it came back
@@ -73,22 +74,22 @@ did_ask (Some t) name = ap (λ reads. Some (record t { asked = t.asked ++ name �
 pub find_ends : (S : Type 0) (old new : FolderSeen) (name : List ℕ) (r : FindRefused) (result : Result (List ℕ) FileFault) → IsErrAnd result (λ e. e ≡ fault_of_find r) → new.told ≡ told_after_find {S = S} (Err r) name old.told → (r ≡ find.Failed → Rises old.find_faults new.find_faults) → FileEnds old new name result
 find_ends S old new name r (Ok bytes) h told rose = absurd h
 find_ends S old new name find.Failed (Err e) h told rose =
-    subst (Failed old new no_deeds name) (sym h) (record { did = told ∙ did_ask old.told name; rose = rose refl })
+    subst (NoValue old new no_deeds name RefusesNone) (sym h) (record { did = told ∙ did_ask old.told name; rose = rose refl })
 find_ends S old new name find.Memory (Err e) h told rose =
-    subst (Failed old new no_deeds name) (sym h) (inl (told ∙ did_nothing old.told))
+    subst (NoValue old new no_deeds name RefusesNone) (sym h) (inl (told ∙ did_nothing old.told))
 
 -- how the reading of a file ends where it wasn't read to its end
 pub read_ends : (old new : FolderSeen) (name : List ℕ) (r : ReadAllFault) (result : Result (List ℕ) FileFault) (taken : List ℕ) (first faults : ℕ) → IsErrAnd result (λ e. e ≡ fault_of_read r) → Did old new (with_reading no_deeds name taken faults) → IfSome old.told (λ t. (rest : List ℕ) × (file_of t.files name ≡ Some (taken ++ rest))) → StopsAt r (length taken) → first ≡ 0 → (r ≡ read.ReadFault → Rises first faults) → old.read_faults ≤ new.read_faults → new.read_faults ≡ added_faults old.read_faults faults → FileEnds old new name result
 read_ends old new name r (Ok bytes) taken first faults h did front stops none rose kept rises = absurd h
 read_ends old new name read.ReadFault (Err e) taken first faults h did front stops none rose kept rises =
     let failed = rose_from_none faults first none (rose refl) in
-    subst (Failed old new no_deeds name) (sym h)
+    subst (NoValue old new no_deeds name RefusesNone) (sym h)
     (record { taken = taken; faults = faults; did = did; failed = failed; rose = rises_by old.read_faults new.read_faults faults kept rises failed })
 read_ends old new name (read.TooLong n) (Err e) taken first faults h did front stops none rose kept rises =
-    subst (Failed old new no_deeds name) (sym h)
+    subst (NoValue old new no_deeds name RefusesNone) (sym h)
     (record { taken = taken; faults = faults; did = did; long = record { front = front; many = stops.0 } })
 read_ends old new name read.Memory (Err e) taken first faults h did front stops none rose kept rises =
-    subst (Failed old new no_deeds name) (sym h) (inr (record { taken = taken; faults = faults; did = did }))
+    subst (NoValue old new no_deeds name RefusesNone) (sym h) (inr (record { taken = taken; faults = faults; did = did }))
 
 -- two things done one after the other
 pub did_more : (old mid new : FolderSeen) (name bytes : List ℕ) (faults : ℕ) (deeds : Deeds) → Did old mid (with_reading no_deeds name bytes faults) → Did mid new deeds → Did old new (record { names = name ∷ deeds.names; readings = record { name = name; taken = bytes; faults = faults } ∷ deeds.readings })
@@ -103,3 +104,15 @@ did_more old mid new name bytes faults deeds first second =
     joined (Some t) =
         ap Some (ap (λ names. record t { asked = names; reads = t.reads ++ record { name = name; taken = bytes; faults = faults } ∷ [] ++ deeds.readings }) (append_assoc t.asked (name ∷ []) deeds.names)
         ∙ ap (λ reads. record t { asked = t.asked ++ (name ∷ [] ++ deeds.names); reads = reads }) (append_assoc t.reads (record { name = name; taken = bytes; faults = faults } ∷ []) deeds.readings))
+
+-- bytes that weren't read have no value
+pub no_bytes : {A : Type 0} (Has : List ℕ → A → Type 0) (Refuses : List ℕ → List ℕ → Type 0) (old new : FolderSeen) (name : List ℕ) (f : FileFault) (result : Result A FileFault) → IsErrAnd result (λ e. e ≡ f) → NoValue old new no_deeds name RefusesNone f → ValueEnds Has Refuses old new name result
+no_bytes Has Refuses old new name f (Ok value) h ends = absurd h
+no_bytes Has Refuses old new name f (Err e) h ends = subst (NoValue old new no_deeds name Refuses) (sym h) (at f ends)
+  where
+    at : (f : FileFault) → NoValue old new no_deeds name RefusesNone f → NoValue old new no_deeds name Refuses f
+    at why.Missing ends = ends
+    at why.Unread ends = ends
+    at why.Long ends = ends
+    at (why.Refused line) ends = absurd ends.so
+    at why.Memory ends = ends

@@ -16,10 +16,8 @@ use Rattle.margin_text.specs.CrifLine.{crif_fault}
 use Rattle.margin_text.specs.ParamsLine.{params_fault}
 use Rattle.margin_text.specs.TermsLine.{terms_fault}
 use Rattle.margin_top.specs.declared.fault.FileFault.{FileFault}
-use Rattle.margin_top.specs.declared.fault.FileFault.TheVariants as file
-use Rattle.margin_top.specs.declared.fault.ValueFault.{ValueFault}
-use Rattle.margin_top.specs.declared.fault.ValueFault.TheVariants as value
-use Rattle.margin_top.specs.Files.{Deeds, Failed, NoValue}
+use Rattle.margin_top.specs.declared.fault.FileFault.TheVariants as why
+use Rattle.margin_top.specs.Files.{Deeds, NoValue}
 use Rattle.margin_top.specs.Grammars.{RefusesParams, RefusesTerms, GivesTrades, RefusesTrades}
 
 -- what was read whole of a file is the file
@@ -40,30 +38,21 @@ front_bytes told t name taken bytes e h known =
     let same : taken ++ front.0 ≡ bytes = cc in
     (front.0, same)
 
--- of a file that fits no fault comes but want of memory, where no count rose
-pub only_memory_of : (old new : FolderSeen) (before : Deeds) (name bytes : List ℕ)
-    (t : Telling) (f : FileFault) → old.told ≡ Some t → file_of t.files name ≡ Some bytes
-    → length bytes ≤ most_bytes
-    → (Rises old.find_faults new.find_faults → ⊥) → (Rises old.read_faults new.read_faults → ⊥)
-    → Failed old new before name f → f ≡ file.Memory
-only_memory_of old new before name bytes t file.Missing told has few finds reads h = absurd (finds h.rose)
-only_memory_of old new before name bytes t file.Unread told has few finds reads h = absurd (reads h.rose)
-only_memory_of old new before name bytes t file.Long told has few finds reads h =
-    let front = front_bytes old.told t name h.taken bytes told (h.long).front has in
-    absurd (omega (arith, ap length front.1, length-append h.taken front.0, (h.long).many))
-only_memory_of old new before name bytes t file.Memory told has few finds reads h = refl
-
--- the same of a file that isn't refused
+-- of a file that fits and isn't refused no fault comes but want of memory, where no count rose
 pub only_memory_for : (old new : FolderSeen) (before : Deeds) (name bytes : List ℕ) (Refuses : List ℕ → List ℕ → Type 0)
-    (t : Telling) (f : ValueFault) → old.told ≡ Some t → file_of t.files name ≡ Some bytes
+    (t : Telling) (f : FileFault) → old.told ≡ Some t → file_of t.files name ≡ Some bytes
     → length bytes ≤ most_bytes → ((line : List ℕ) → Refuses bytes line → ⊥)
     → (Rises old.find_faults new.find_faults → ⊥) → (Rises old.read_faults new.read_faults → ⊥)
-    → NoValue old new before name Refuses f → f ≡ value.OfFile file.Memory
-only_memory_for old new before name bytes Refuses t (value.OfFile f) told has few so finds reads h =
-    ap value.OfFile (only_memory_of old new before name bytes t f told has few finds reads h)
-only_memory_for old new before name bytes Refuses t (value.Refused line) told has few so finds reads h =
+    → NoValue old new before name Refuses f → f ≡ why.Memory
+only_memory_for old new before name bytes Refuses t why.Missing told has few so finds reads h = absurd (finds h.rose)
+only_memory_for old new before name bytes Refuses t why.Unread told has few so finds reads h = absurd (reads h.rose)
+only_memory_for old new before name bytes Refuses t why.Long told has few so finds reads h =
+    let front = front_bytes old.told t name h.taken bytes told (h.long).front has in
+    absurd (omega (arith, ap length front.1, length-append h.taken front.0, (h.long).many))
+only_memory_for old new before name bytes Refuses t (why.Refused line) told has few so finds reads h =
     let same = same_bytes old.told t name h.bytes bytes told (h.whole).whole has in
     absurd (so line (subst (λ read. Refuses read line) same h.so))
+only_memory_for old new before name bytes Refuses t why.Memory told has few so finds reads h = refl
 
 -- bytes that give parameters are not refused
 pub params_taken : (bytes : List ℕ) (p : Params) → params_of bytes ≡ Some p → (line : List ℕ) → RefusesParams bytes line → ⊥

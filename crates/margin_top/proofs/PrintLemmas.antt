@@ -6,7 +6,7 @@ use Rattle.mh_io.specs.Faults.{Rises}
 use Rattle.mh_io.specs.Sink.{BreaksOff, SinkSeen}
 use Rattle.mh_io.specs.declared.writing.PutFault.{PutFault}
 use Rattle.margin_top.proofs.FileLemmas.{rises_earlier}
-use Rattle.margin_top.specs.Calc.{Got, GotLine}
+use Rattle.margin_top.specs.Printed.{Got, GotLine}
 
 append_twice : (known : Option (List ℕ)) (a b : List ℕ) → append_known (append_known known a) b ≡ append_known known (a ++ b)
 append_twice None a b = refl

@@ -2,7 +2,6 @@
 use Rattle.std.proofs.Common.{◌≡◌, ℕ, ◌≤◌, Bool, true, List, ◌++◌, length, Some, ap, sym, refl, subst, inl, inr, ◌∙◌, length-append, arith}
 use Rattle.mh_io.specs.Sink.{SinkSeen}
 use Rattle.mh_io.specs.Folder.{File, file_of, FolderSeen}
-use Rattle.mh_io.specs.declared.folder.FindRefused.TheVariants as find
 use Rattle.mh_io.specs.Limits.{most_bytes}
 use Rattle.feed_reader.specs.Feed as message
 use Rattle.feed_reader.specs.Feed.{Item, FeedRun, feed}
@@ -13,14 +12,16 @@ use Rattle.feed_gate.specs.declared.report.FeedReport.{FeedReport}
 use Rattle.feed_gate.specs.Run.{IsEnd}
 use Rattle.margin_top.specs.declared.status.Status.{Status}
 use Rattle.margin_top.specs.declared.status.Status.TheVariants as status
-use Rattle.margin_top.specs.declared.run_fault.RunFault.{RunFault}
-use Rattle.margin_top.specs.declared.run_fault.RunFault.TheVariants as fault
+use Rattle.margin_top.specs.declared.fault.InputFile.TheVariants as input
+use Rattle.margin_top.specs.declared.fault.FileFault.TheVariants as why
+use Rattle.margin_top.specs.declared.fault.Fault.{Fault}
+use Rattle.margin_top.specs.declared.fault.Fault.TheVariants as fault
 use Rattle.margin_top.specs.Files.{no_deeds, with_reading}
 use Rattle.margin_top.specs.Grammars.{RefusesParams, RefusesTerms}
-use Rattle.margin_top.specs.Calc.{status_of_value}
+use Rattle.margin_top.specs.Ending.{status_of}
 use Rattle.margin_top.specs.Notices.{notices}
 use Rattle.margin_top.specs.Desks.{Desks}
-use Rattle.margin_top.specs.Run.{HasRun, RunCause, RunLeaves, RunEnds, status_of_end, status_of_run}
+use Rattle.margin_top.specs.Run.{HasRun, RunCause, RunLeaves, RunEnds, status_of_end}
 use Rattle.margin_top.specs.Complete.{IsWellRun, EndsWell}
 use Rattle.margin_top.proofs.FileLemmas.{rises_earlier}
 use Rattle.margin_top.proofs.CalcLemmas.{files_before}
@@ -47,19 +48,27 @@ whole_end (end_at.Memory line) items taken rest bytes ended is front all few who
 module _ {B : Type 0} {pn tn fn : List ℕ} {old new : FolderSeen} {out_old out_new : SinkSeen} {d : Desks B}
     (w : IsWellRun pn tn fn old new out_old out_new d) where
   -- no fault comes but want of memory
-  only_memory : (f : RunFault) → RunCause pn tn fn old new f → status_of_run f ≡ status.Memory
-  only_memory (fault.OfParams f) h =
-      ap (status_of_value status.Params)
+  only_memory : (f : Fault) → RunCause pn tn fn old new f → status_of f ≡ status.Memory
+  only_memory (fault.OfFile input.Params name f) h =
+      ap (λ e. status_of (fault.OfFile input.Params name e))
       (only_memory_for old new no_deeds pn w.param_bytes RefusesParams w.t f w.told w.has_params w.params_fit
-      (params_taken w.param_bytes w.p w.params_read) w.finds_stood w.reads_stood h)
-  only_memory (fault.OfTerms f) h =
-      let before = with_reading no_deeds pn h.param_bytes h.param_faults in
-      ap (status_of_value status.Terms)
+      (params_taken w.param_bytes w.p w.params_read) w.finds_stood w.reads_stood h.1)
+  only_memory (fault.OfFile input.Terms name f) h =
+      let fails = h.1 in
+      let before = with_reading no_deeds pn fails.param_bytes fails.param_faults in
+      ap (λ e. status_of (fault.OfFile input.Terms name e))
       (only_memory_for old new before tn w.terms_bytes RefusesTerms w.t f w.told w.has_terms w.terms_fit
-      (terms_taken w.terms_bytes w.agreements w.terms_read) w.finds_stood w.reads_stood h.failed)
-  only_memory (fault.OfFeed find.Failed) h =
-      absurd (w.finds_stood (rises_earlier old.find_faults (h.mid).find_faults new.find_faults (h.inputs).finds (h.missing).rose))
-  only_memory (fault.OfFeed find.Memory) h = refl
+      (terms_taken w.terms_bytes w.agreements w.terms_read) w.finds_stood w.reads_stood fails.failed)
+  only_memory (fault.OfFile input.Feed name why.Missing) h =
+      let fails = h.1 in
+      let mid = fails.mid in
+      absurd (w.finds_stood (rises_earlier old.find_faults mid.find_faults new.find_faults (fails.inputs).finds (fails.missing).rose))
+  only_memory (fault.OfFile input.Feed name why.Unread) h = absurd (h.1).missing
+  only_memory (fault.OfFile input.Feed name why.Long) h = absurd (h.1).missing
+  only_memory (fault.OfFile input.Feed name (why.Refused line)) h = absurd (h.1).missing
+  only_memory (fault.OfFile input.Feed name why.Memory) h = refl
+  only_memory (fault.OfFile input.Crif name f) h = absurd h
+  only_memory (fault.OfBatch line) h = absurd h
   only_memory fault.Memory h = refl
 
   -- the feed isn't left before its end
@@ -100,4 +109,6 @@ module _ {B : Type 0} {pn tn fn : List ℕ} {old new : FolderSeen} {out_old out_
   -- no other status than Done and Memory comes
   pub run_ends_well : (s : Status) → RunEnds pn tn fn old new out_old out_new d s → EndsWell s
   run_ends_well s (inl h) = leaves_well h.sets h.r s h.run h.leaves
-  run_ends_well s (inr h) = subst EndsWell (sym (only_memory h.f h.cause) ∙ h.status) tt
+  run_ends_well s (inr h) =
+      let fails = h.0 in
+      subst EndsWell (sym (only_memory fails.f fails.cause) ∙ fails.status) tt

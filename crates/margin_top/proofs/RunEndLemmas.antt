@@ -14,7 +14,7 @@ use Rattle.margin_top.specs.declared.status.Status.{Status}
 use Rattle.margin_top.specs.declared.status.Status.TheVariants as status
 use Rattle.margin_top.specs.declared.run_printing.Printed.{Printed}
 use Rattle.margin_top.specs.declared.run_printing.Printed.TheVariants as printed
-use Rattle.margin_top.specs.Calc.{Got, GotLine}
+use Rattle.margin_top.specs.Printed.{Got, GotLine}
 use Rattle.margin_top.specs.Notices.{notices}
 use Rattle.margin_top.specs.Desks.{Desks}
 use Rattle.margin_top.specs.Run.{run_text, status_of_end, RunLeaves}

@@ -1,10 +1,9 @@
 -- The stages of a run, one after the other.
-use Rattle.std.proofs.Common.{◌≡◌, ℕ, ◌≤◌, arith, List, [], ◌∷◌, ◌++◌, map, length, take, drop, zero, suc, append-nil, false, Ok, Err, Some, refl, sym, ap, ◌∙◌, subst, inr, ⊎_elim}
+use Rattle.std.proofs.Common.{◌≡◌, ℕ, ◌≤◌, arith, List, [], ◌∷◌, ◌++◌, map, length, take, drop, zero, suc, append-nil, false, Result, Ok, Err, Some, IsErrAnd, refl, sym, ap, ◌∙◌, subst, ⊎_elim}
 use Rattle.std.specs.List.{AllByRecursion, IsDistinct}
 use Rattle.std.proofs.lemmas.Bool.{cases_lt}
 use Rattle.std.proofs.lemmas.List.{length-map, length-take-le, drop_all, take_all}
 use Rattle.mh_io.specs.Faults.{Rises}
-use Rattle.mh_io.specs.Sink.{SinkSeen}
 use Rattle.mh_io.specs.Folder.{told_after_find, FolderSeen}
 use Rattle.mh_io.specs.declared.folder.FindRefused.{FindRefused}
 use Rattle.mh_io.specs.declared.folder.FindRefused.TheVariants as find
@@ -16,21 +15,21 @@ use Rattle.csa_terms.specs.Terms.{Agreement, AreTerms}
 use Rattle.set_core.specs.Set.{Set}
 use Rattle.feed_gate.specs.declared.report.FeedReport.{FeedReport}
 use Rattle.feed_gate.specs.Sets.{AreApart, AreKept}
-use Rattle.margin_top.specs.declared.status.Status.{Status}
-use Rattle.margin_top.specs.declared.run_fault.RunFault.{RunFault}
-use Rattle.margin_top.specs.declared.fault.ValueFault.{ValueFault}
-use Rattle.margin_top.specs.Files.{no_deeds, with_reading, IsRead, NoValue}
-use Rattle.margin_top.specs.Grammars.{RefusesTerms}
-use Rattle.margin_top.specs.Calc.{GotLine}
-use Rattle.margin_top.specs.Desks.{Desks, AreUntold}
-use Rattle.margin_top.specs.Run.{start, HasInputs, IsFed, HasRun, TermsFail, FindEnds, FeedFails, RunCause, RunEnds, status_of_run, run_fault_text}
+use Rattle.margin_top.specs.declared.fault.FileFault.{FileFault}
+use Rattle.margin_top.specs.Faults.{fault_of_find}
+use Rattle.margin_top.specs.Files.{no_deeds, with_reading, IsRead, FindEnds}
+use Rattle.margin_top.specs.Run.{start, HasInputs, IsFed, HasRun}
+use Rattle.margin_top.specs.RunStages.{FeedEnds}
 use Rattle.margin_top.proofs.FileLemmas.{did_ask, did_nothing, did_more}
-use Rattle.margin_top.proofs.CalcLemmas.{whole_before, no_value_after}
+use Rattle.margin_top.proofs.CalcLemmas.{whole_before}
 
 -- a feed that wasn't found
-pub find_fails : (S : Type 0) (old new : FolderSeen) (name : List ℕ) (why : FindRefused) → new.told ≡ told_after_find {S = S} (Err why) name old.told → (why ≡ find.Failed → Rises old.find_faults new.find_faults) → FindEnds old new name why
-find_fails S old new name find.Failed told rose = record { did = told ∙ did_ask old.told name; rose = rose refl }
-find_fails S old new name find.Memory told rose = told ∙ did_nothing old.told
+pub feed_missing : (S : Type 0) (old new : FolderSeen) (name : List ℕ) (old_sets new_sets : List Set) (r : FindRefused) (result : Result FeedReport FileFault) → IsErrAnd result (λ e. e ≡ fault_of_find r) → new.told ≡ told_after_find {S = S} (Err r) name old.told → (r ≡ find.Failed → Rises old.find_faults new.find_faults) → FeedEnds old new name old_sets new_sets result
+feed_missing S old new name old_sets new_sets r (Ok report) h told rose = absurd h
+feed_missing S old new name old_sets new_sets find.Failed (Err e) h told rose =
+    subst (FindEnds old new name) (sym h) (record { did = told ∙ did_ask old.told name; rose = rose refl })
+feed_missing S old new name old_sets new_sets find.Memory (Err e) h told rose =
+    subst (FindEnds old new name) (sym h) (told ∙ did_nothing old.told)
 
 -- both files were read
 pub inputs_read : (old mid new : FolderSeen) (pn tn : List ℕ) (p : Params) (agreements : List Agreement) → IsRead old mid no_deeds pn (λ bytes. params_of bytes ≡ Some p) → IsRead mid new no_deeds tn (λ bytes. terms_of bytes ≡ Ok agreements) → old.find_faults ≤ new.find_faults → old.read_faults ≤ new.read_faults → HasInputs pn tn old new p agreements
@@ -45,16 +44,6 @@ inputs_read old mid new pn tn p agreements first second finds reads = record {
   terms = second.so;
   finds = finds;
   reads = reads;
-}
-
--- the parameters were read, and then the terms file gave nothing
-pub no_terms : (old mid new : FolderSeen) (pn tn : List ℕ) (p : Params) (f : ValueFault) → IsRead old mid no_deeds pn (λ bytes. params_of bytes ≡ Some p) → old.find_faults ≤ mid.find_faults → old.read_faults ≤ mid.read_faults → NoValue mid new no_deeds tn RefusesTerms f → TermsFail pn tn old new f
-no_terms old mid new pn tn p f first finds reads h = record {
-  param_bytes = first.bytes;
-  param_faults = first.faults;
-  p = p;
-  params = record { whole = first.whole; values = first.so };
-  failed = no_value_after old mid new pn first.bytes tn first.faults RefusesTerms f first.did finds reads h;
 }
 
 -- ---- the sets
@@ -112,11 +101,3 @@ has_run old mid new pn tn fn p agreements started sets r inputs begun fed apart 
   sym (kept.terms ∙ ap (map (λ s. s.terms)) begun ∙ start_terms p agreements),
   omega (arith, apart.few, ap length kept.terms, length-map sets (λ (s : Set). s.terms), length-map started (λ (s : Set). s.terms)),
 )
-
-pub feed_failed : (old mid new : FolderSeen) (pn tn fn : List ℕ) (p : Params) (agreements : List Agreement) (why : FindRefused) → HasInputs pn tn old mid p agreements → FindEnds mid new fn why → FeedFails pn tn fn old new why
-feed_failed old mid new pn tn fn p agreements why inputs h = record { p = p; agreements = agreements; mid = mid; inputs = inputs; missing = h }
-
--- a run ended before its feed, this line was printed, and the desks stand
-pub at_fault : {B : Type 0} (pn tn fn : List ℕ) (old new : FolderSeen) (out_old out_new : SinkSeen) (d : Desks B) (f : RunFault) (s : Status) (line : List ℕ) → RunCause pn tn fn old new f → s ≡ status_of_run f → line ≡ run_fault_text pn tn fn f → GotLine out_old out_new line → AreUntold d → RunEnds pn tn fn old new out_old out_new d s
-at_fault pn tn fn old new out_old out_new d f s line cause status is printed untold =
-    inr (record { f = f; cause = cause; status = sym status; printed = subst (GotLine out_old out_new) is printed; untold = untold })

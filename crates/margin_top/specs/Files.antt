@@ -4,9 +4,7 @@ use Rattle.mh_io.specs.Faults.{Rises}
 use Rattle.mh_io.specs.Folder.{Telling, Reading, FolderSeen, file_of}
 use Rattle.mh_io.specs.Limits.{most_bytes}
 use Rattle.margin_top.specs.declared.fault.FileFault.{FileFault}
-use Rattle.margin_top.specs.declared.fault.FileFault.TheVariants as fault
-use Rattle.margin_top.specs.declared.fault.ValueFault.{ValueFault}
-use Rattle.margin_top.specs.declared.fault.ValueFault.TheVariants as value
+use Rattle.margin_top.specs.declared.fault.FileFault.TheVariants as why
 
 -- no count of faults fell, and as many sources are out as before
 pub record KeepsCounts (old new : FolderSeen) : Type 0 where
@@ -88,24 +86,31 @@ pub record IsTaken (old new : FolderSeen) (before : Deeds) (name : List ℕ) : T
 abbrev pub IsCutShort : FolderSeen → FolderSeen → Deeds → List ℕ → Type 0
 IsCutShort old new before name = Did old new before ⊎ IsTaken old new before name
 
--- why a file wasn't read whole, after what was done before
-abbrev pub Failed : FolderSeen → FolderSeen → Deeds → List ℕ → FileFault → Type 0
-Failed old new before name fault.Missing = IsMissing old new before name
-Failed old new before name fault.Unread = IsUnread old new before name
-Failed old new before name fault.Long = IsLong old new before name
-Failed old new before name fault.Memory = IsCutShort old new before name
+-- why a file gave nothing after what was done before, where Refuses says which bytes have no value, and the line that tells why
+abbrev pub NoValue : FolderSeen → FolderSeen → Deeds → List ℕ → (List ℕ → List ℕ → Type 0) → FileFault → Type 0
+NoValue old new before name Refuses why.Missing = IsMissing old new before name
+NoValue old new before name Refuses why.Unread = IsUnread old new before name
+NoValue old new before name Refuses why.Long = IsLong old new before name
+NoValue old new before name Refuses (why.Refused line) = IsRead old new before name (λ bytes. Refuses bytes line)
+NoValue old new before name Refuses why.Memory = IsCutShort old new before name
 
--- why a file gave no value, where Refuses says which bytes have none, and the line that tells why
-abbrev pub NoValue : FolderSeen → FolderSeen → Deeds → List ℕ → (List ℕ → List ℕ → Type 0) → ValueFault → Type 0
-NoValue old new before name Refuses (value.OfFile f) = Failed old new before name f
-NoValue old new before name Refuses (value.Refused line) = IsRead old new before name (λ bytes. Refuses bytes line)
+-- what reading a file by its grammar does: a value that its bytes have, or why there is none
+abbrev pub ValueEnds : {A : Type 0} → (List ℕ → A → Type 0) → (List ℕ → List ℕ → Type 0) → FolderSeen → FolderSeen → List ℕ → Result A FileFault → Type 0
+ValueEnds Has Refuses old new name (Ok value) = IsRead old new no_deeds name (λ bytes. Has bytes value)
+ValueEnds Has Refuses old new name (Err f) = NoValue old new no_deeds name Refuses f
+
+-- no bytes are refused
+abbrev pub RefusesNone : List ℕ → List ℕ → Type 0
+RefusesNone bytes line = ⊥
 
 -- what reading a whole file does: its bytes, or why there are none
 abbrev pub FileEnds : FolderSeen → FolderSeen → List ℕ → Result (List ℕ) FileFault → Type 0
-FileEnds old new name (Ok bytes) = IsRead old new no_deeds name (λ read. read ≡ bytes)
-FileEnds old new name (Err f) = Failed old new no_deeds name f
+FileEnds old new name result = ValueEnds (λ read bytes. read ≡ bytes) RefusesNone old new name result
 
--- what reading a file by its grammar does: a value that its bytes have, or why there is none
-abbrev pub ValueEnds : {A : Type 0} → (List ℕ → A → Type 0) → (List ℕ → List ℕ → Type 0) → FolderSeen → FolderSeen → List ℕ → Result A ValueFault → Type 0
-ValueEnds Has Refuses old new name (Ok value) = IsRead old new no_deeds name (λ bytes. Has bytes value)
-ValueEnds Has Refuses old new name (Err f) = NoValue old new no_deeds name Refuses f
+-- what finding a file does where no source of it comes: it is missing, or memory ran out
+abbrev pub FindEnds : FolderSeen → FolderSeen → List ℕ → FileFault → Type 0
+FindEnds old new name why.Missing = IsMissing old new no_deeds name
+FindEnds old new name why.Unread = ⊥
+FindEnds old new name why.Long = ⊥
+FindEnds old new name (why.Refused line) = ⊥
+FindEnds old new name why.Memory = Did old new no_deeds

@@ -6,7 +6,8 @@ use Rattle.margin_top.specs.declared.status.Status.{Status}
 use Rattle.margin_top.specs.declared.status.Status.TheVariants as status
 use Rattle.margin_top.specs.Words.{Form, Calc, Run, form_of}
 use Rattle.margin_top.specs.Lines.{words_fault}
-use Rattle.margin_top.specs.Calc.{GotLine, CalcEnds}
+use Rattle.margin_top.specs.Printed.{GotLine}
+use Rattle.margin_top.specs.Calc.{CalcEnds}
 use Rattle.margin_top.specs.Desks.{Desks, AreUntold}
 use Rattle.margin_top.specs.Run.{RunEnds}
 

@@ -5,6 +5,9 @@ pub mod Faults
 pub mod Files
 pub mod Grammars
 pub mod FaultLine
+pub mod Printed
+pub mod Ending
+pub mod AfterParams
 pub mod Calc
 pub mod Notices
 pub mod Desks

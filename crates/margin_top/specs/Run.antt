@@ -5,8 +5,6 @@ use Rattle.mh_io.specs.Faults.{Rises}
 use Rattle.mh_io.specs.Sink.{SinkSeen}
 use Rattle.mh_io.specs.Folder.{file_of, FolderSeen}
 use Rattle.mh_io.specs.Limits.{most_bytes}
-use Rattle.mh_io.specs.declared.folder.FindRefused.{FindRefused}
-use Rattle.mh_io.specs.declared.folder.FindRefused.TheVariants as find
 use Rattle.simm_rules.specs.Params.{Params}
 use Rattle.csa_terms.specs.Grammar.{terms_of}
 use Rattle.csa_terms.specs.Terms.{Agreement}
@@ -19,15 +17,17 @@ use Rattle.margin_text.specs.Journal.{journal_text}
 use Rattle.margin_text.specs.Feeds.{feed_text}
 use Rattle.margin_top.specs.declared.status.Status.{Status}
 use Rattle.margin_top.specs.declared.status.Status.TheVariants as status
-use Rattle.margin_top.specs.declared.fault.ValueFault.{ValueFault}
-use Rattle.margin_top.specs.declared.run_fault.RunFault.{RunFault}
-use Rattle.margin_top.specs.declared.run_fault.RunFault.TheVariants as fault
-use Rattle.margin_top.specs.Lines.{find_fault}
-use Rattle.margin_top.specs.Files.{no_deeds, with_reading, Did, IsWhole, IsMissing, NoValue}
+use Rattle.margin_top.specs.declared.fault.InputFile.TheVariants as input
+use Rattle.margin_top.specs.declared.fault.FileFault.{FileFault}
+use Rattle.margin_top.specs.declared.fault.Fault.{Fault}
+use Rattle.margin_top.specs.declared.fault.Fault.TheVariants as fault
+use Rattle.margin_top.specs.Files.{no_deeds, with_reading, Did, IsWhole, NoValue, FindEnds}
 use Rattle.margin_top.specs.Grammars.{RefusesParams, RefusesTerms}
 use Rattle.margin_top.specs.Notices.{notices}
 use Rattle.margin_top.specs.Desks.{Desks, AreUntold, AreTold, AllAreTold, OneFailed, OneWanted}
-use Rattle.margin_top.specs.Calc.{Got, GotFront, GotLine, HasParams, status_of_value, line_of_value}
+use Rattle.margin_top.specs.Printed.{Got, GotFront, GotLine}
+use Rattle.margin_top.specs.Ending.{EndsAtFault}
+use Rattle.margin_top.specs.AfterParams.{HasParams, FailsAfterParams}
 
 -- the parameter file and then the terms file were read whole, with these values, and no count of faults fell
 pub record HasInputs (params_name terms_name : List ℕ) (old new : FolderSeen) (p : Params) (agreements : List Agreement) : Type 0 where
@@ -79,21 +79,8 @@ run_text sets r =
 
 -- ---- runs that didn't reach the feed
 
--- the parameters were read, and then the terms file gave no terms
-pub record TermsFail (params_name terms_name : List ℕ) (old new : FolderSeen) (f : ValueFault) : Type 0 where
-  pub param_bytes : List ℕ
-  pub param_faults : ℕ
-  pub p : Params
-  pub params : HasParams old params_name param_bytes p
-  pub failed : NoValue old new (with_reading no_deeds params_name param_bytes param_faults) terms_name RefusesTerms f
-
--- a name was asked for, and no source of it came
-abbrev pub FindEnds : FolderSeen → FolderSeen → List ℕ → FindRefused → Type 0
-FindEnds old new name find.Failed = IsMissing old new no_deeds name
-FindEnds old new name find.Memory = Did old new no_deeds
-
 -- both files were read, and then the feed wasn't found
-pub record FeedFails (params_name terms_name feed_name : List ℕ) (old new : FolderSeen) (why : FindRefused) : Type 0 where
+pub record FeedFails (params_name terms_name feed_name : List ℕ) (old new : FolderSeen) (why : FileFault) : Type 0 where
   pub p : Params
   pub agreements : List Agreement
   pub mid : FolderSeen
@@ -106,34 +93,17 @@ pub record RunStarves (params_name terms_name : List ℕ) (old new : FolderSeen)
   pub agreements : List Agreement
   pub inputs : HasInputs params_name terms_name old new p agreements
 
--- what happened at each fault of a run
-abbrev pub RunCause : List ℕ → List ℕ → List ℕ → FolderSeen → FolderSeen → RunFault → Type 0
-RunCause params_name terms_name feed_name old new (fault.OfParams f) = NoValue old new no_deeds params_name RefusesParams f
-RunCause params_name terms_name feed_name old new (fault.OfTerms f) = TermsFail params_name terms_name old new f
-RunCause params_name terms_name feed_name old new (fault.OfFeed why) = FeedFails params_name terms_name feed_name old new why
+-- what happened at each fault of a run, which has no CRIF file and no batch
+abbrev pub RunCause : List ℕ → List ℕ → List ℕ → FolderSeen → FolderSeen → Fault → Type 0
+RunCause params_name terms_name feed_name old new (fault.OfFile input.Params name f) =
+    (name.now ≡ params_name) × NoValue old new no_deeds params_name RefusesParams f
+RunCause params_name terms_name feed_name old new (fault.OfFile input.Terms name f) =
+    (name.now ≡ terms_name) × FailsAfterParams params_name terms_name RefusesTerms old new f
+RunCause params_name terms_name feed_name old new (fault.OfFile input.Feed name f) =
+    (name.now ≡ feed_name) × FeedFails params_name terms_name feed_name old new f
+RunCause params_name terms_name feed_name old new (fault.OfFile input.Crif name f) = ⊥
+RunCause params_name terms_name feed_name old new (fault.OfBatch line) = ⊥
 RunCause params_name terms_name feed_name old new fault.Memory = RunStarves params_name terms_name old new
-
--- the status of each fault
-abbrev pub status_of_find : FindRefused → Status
-status_of_find find.Failed = status.Find
-status_of_find find.Memory = status.Memory
-
-abbrev pub status_of_run : RunFault → Status
-status_of_run (fault.OfParams f) = status_of_value status.Params f
-status_of_run (fault.OfTerms f) = status_of_value status.Terms f
-status_of_run (fault.OfFeed why) = status_of_find why
-status_of_run fault.Memory = status.Memory
-
--- the one line that is printed at each fault; for want of memory none
-abbrev pub find_line : List ℕ → FindRefused → List ℕ
-find_line name find.Failed = find_fault name
-find_line name find.Memory = []
-
-abbrev pub run_fault_text : List ℕ → List ℕ → List ℕ → RunFault → List ℕ
-run_fault_text params_name terms_name feed_name (fault.OfParams f) = line_of_value params_name f
-run_fault_text params_name terms_name feed_name (fault.OfTerms f) = line_of_value terms_name f
-run_fault_text params_name terms_name feed_name (fault.OfFeed why) = find_line feed_name why
-run_fault_text params_name terms_name feed_name fault.Memory = []
 
 -- ---- the ends of a run, by its status
 
@@ -182,16 +152,8 @@ pub record EndsRun {B : Type 0} (params_name terms_name feed_name : List ℕ) (o
   pub run : HasRun params_name terms_name feed_name old new sets r
   pub leaves : RunLeaves sets r out_old out_new d s
 
--- the run ended before, with its cause, its status and its line, and no desk was told
-pub record EndsRunAtFault {B : Type 0} (params_name terms_name feed_name : List ℕ) (old new : FolderSeen) (out_old out_new : SinkSeen) (d : Desks B) (s : Status) : Type 0 where
-  pub f : RunFault
-  pub cause : RunCause params_name terms_name feed_name old new f
-  pub status : status_of_run f ≡ s
-  pub printed : GotLine out_old out_new (run_fault_text params_name terms_name feed_name f)
-  pub untold : AreUntold d
-
--- what a run with this status did
+-- what a run with this status did; where it ended before its feed no desk was told
 abbrev pub RunEnds : {B : Type 0} → List ℕ → List ℕ → List ℕ → FolderSeen → FolderSeen → SinkSeen → SinkSeen → Desks B → Status → Type 0
 RunEnds params_name terms_name feed_name old new out_old out_new d s =
     EndsRun params_name terms_name feed_name old new out_old out_new d s
-    ⊎ EndsRunAtFault params_name terms_name feed_name old new out_old out_new d s
+    ⊎ (EndsAtFault (RunCause params_name terms_name feed_name old new) out_old out_new s × AreUntold d)

@@ -2,7 +2,6 @@
 use Rattle.std.specs.Prelude.{ℕ, ◌≡◌, ◌≤◌, List, length, map, Result, Ok, Err, nat_lt, if◌then◌else◌}
 use Rattle.mh_io.specs.Folder.{FolderSeen}
 use Rattle.mh_io.specs.Sink.{SinkSeen}
-use Rattle.mh_io.specs.declared.folder.FindRefused.{FindRefused}
 use Rattle.set_core.specs.Set.{Set}
 use Rattle.feed_gate.specs.declared.report.FeedEnd.{FeedEnd}
 use Rattle.feed_gate.specs.declared.report.FeedReport.{FeedReport}
@@ -10,19 +9,21 @@ use Rattle.call_desk.specs.declared.publishing.Published.{Published}
 use Rattle.margin_top.specs.declared.status.Status.{Status}
 use Rattle.margin_top.specs.declared.status.Status.TheVariants as status
 use Rattle.margin_top.specs.declared.run_files.Outcome.{Outcome}
-use Rattle.margin_top.specs.declared.run_fault.RunFault.{RunFault}
+use Rattle.margin_top.specs.declared.fault.FileFault.{FileFault}
+use Rattle.margin_top.specs.declared.fault.Fault.{Fault}
 use Rattle.margin_top.specs.declared.run_printing.Printed.{Printed}
 use Rattle.margin_top.specs.declared.run_printing.Printed.TheVariants as printed
-use Rattle.margin_top.specs.Calc.{Got, GotFront}
-use Rattle.margin_top.specs.Run.{IsFed, FindEnds, HasRun, RunCause, status_of_end}
+use Rattle.margin_top.specs.Files.{FindEnds}
+use Rattle.margin_top.specs.Printed.{Got, GotFront}
+use Rattle.margin_top.specs.Run.{IsFed, HasRun, RunCause, status_of_end}
 
 -- what running a feed's file does
-abbrev pub FeedEnds : FolderSeen → FolderSeen → List ℕ → List Set → List Set → Result FeedReport FindRefused → Type 0
+abbrev pub FeedEnds : FolderSeen → FolderSeen → List ℕ → List Set → List Set → Result FeedReport FileFault → Type 0
 FeedEnds old new name old_sets new_sets (Ok r) = IsFed name old new old_sets new_sets r
-FeedEnds old new name old_sets new_sets (Err why) = FindEnds old new name why
+FeedEnds old new name old_sets new_sets (Err f) = FindEnds old new name f
 
 -- what the files of a run do; there are at most sixteen sets, and they keep their terms
-abbrev pub RunFilesEnd : List ℕ → List ℕ → List ℕ → FolderSeen → FolderSeen → Result Outcome RunFault → Type 0
+abbrev pub RunFilesEnd : List ℕ → List ℕ → List ℕ → FolderSeen → FolderSeen → Result Outcome Fault → Type 0
 RunFilesEnd params_name terms_name feed_name old new (Ok run) =
     HasRun params_name terms_name feed_name old new run.sets.items run.report
     × (run.terms ≡ map (λ s. s.terms) run.sets.items) × (length run.sets.items ≤ 16)

@@ -4,7 +4,7 @@ ghost use Rattle.margin_top.specs.Calc.{CalcEnds};
 ghost use Rattle.margin_top.specs.Complete.{IsWell, EndsWell};
 
 use crate::margin_of::margin_of_files;
-use crate::printing::{print_line, print_margin};
+use crate::printing::{end_at_fault, print_margin};
 use crate::status::Status;
 use mh_io::{Folder, Sink};
 use std::alloc::Global;
@@ -33,10 +33,6 @@ pub fn calc<F: Folder, K: Sink>(
 {
     match margin_of_files(alloc, params, crif, folder) {
         Ok(margin) => print_margin(alloc, out, &margin),
-        Err(fault) => {
-            let (status, line) = fault.ending(params, crif);
-            print_line(out, line);
-            status
-        }
+        Err(fault) => end_at_fault(out, &fault),
     }
 }

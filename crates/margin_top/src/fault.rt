@@ -1,12 +1,41 @@
-//! Why files gave nothing, and a calculation no margin.
+//! Why a command ended before its work.
 use crate::fault_line::FaultLine;
 use crate::status::Status;
 use mh_io::{FindRefused, ReadAllFault};
 use mh_units::Text;
 use std::alloc::AllocError;
 
-/// Why a file wasn't read whole.
+/// Which file of a command.
 #[derive(Clone, Copy, Debug, PartialEq, Eq)]
+pub enum InputFile {
+    /// The parameter file.
+    Params,
+    /// The CRIF file.
+    Crif,
+    /// The terms file.
+    Terms,
+    /// A feed.
+    Feed,
+}
+
+impl InputFile {
+    ghost use Rattle.std.specs.Prelude.{◌≡◌};
+    ghost use Rattle.margin_top.specs.Ending.{status_of_refused};
+
+    /// The status where the file is too long, or its grammar refuses it.
+    fn status_of_refused(self) -> Status
+        ensures { result ≡ status_of_refused self }
+    {
+        match self {
+            InputFile::Params => Status::Params,
+            InputFile::Crif | InputFile::Terms => Status::Terms,
+            InputFile::Feed => Status::Feed,
+        }
+    }
+}
+
+/// Why a file gave nothing.
+#[derive(Debug, Drop)]
 pub enum FileFault {
     /// It isn't there or can't be opened.
     Missing,
@@ -14,7 +43,9 @@ pub enum FileFault {
     Unread,
     /// It is too long.
     Long,
-    /// Memory ran out.
+    /// Its grammar refuses it, with the line that tells its first fault.
+    Refused(Text),
+    /// Memory ran out for its bytes, its value or its line.
     Memory,
 }
 
@@ -47,103 +78,70 @@ impl From<ReadAllFault> for FileFault {
     }
 }
 
-impl FileFault {
-    ghost use Rattle.std.specs.Prelude.{◌≡◌};
-    ghost use Rattle.margin_top.specs.FaultLine.{line_text};
-    ghost use Rattle.margin_top.specs.Calc.{status_of_file, line_of_file};
-
-    /// The status and the line of the fault of the file of this name, where `too_long` is the status of one too long.
-    pub(crate) fn ending<'a>(self, name: &'a str, too_long: Status) -> (Status, FaultLine<'a>)
-        ensures status { result.0 ≡ status_of_file too_long self }
-        ensures line { line_text result.1 ≡ line_of_file name.now self }
-    {
-        match self {
-            FileFault::Missing => (Status::Find, FaultLine::Named(b"FAULT\tFIND\t", name)),
-            FileFault::Unread => (Status::Read, FaultLine::Named(b"FAULT\tREAD\t", name)),
-            FileFault::Long => (too_long, FaultLine::Named(b"FAULT\tLONG\t", name)),
-            FileFault::Memory => (Status::Memory, FaultLine::Whole(b"")),
-        }
-    }
-}
-
-/// Why a file gave no value.
-#[derive(Debug, Drop)]
-pub enum ValueFault {
-    /// It wasn't read whole, or memory ran out for its value.
-    OfFile(FileFault),
-    /// Its grammar refuses it, with the line that tells its first fault.
-    Refused(Text),
-}
-
-impl From<FileFault> for ValueFault {
-    ghost use Rattle.std.specs.Prelude.{◌≡◌};
-    ghost use Rattle.margin_top.specs.declared.fault.ValueFault.TheVariants.{OfFile};
-
-    ghost from_gives = { λ fault value. value ≡ OfFile fault };
-
-    fn from(fault: FileFault) -> ValueFault {
-        ValueFault::OfFile(fault)
-    }
-}
-
-impl From<AllocError> for ValueFault {
+impl From<AllocError> for FileFault {
     ghost use Rattle.std.specs.Prelude.{◌≡◌};
     ghost use Rattle.margin_top.specs.declared.fault.FileFault.TheVariants.{Memory};
-    ghost use Rattle.margin_top.specs.declared.fault.ValueFault.TheVariants.{OfFile};
 
-    ghost from_gives = { λ _ value. value ≡ OfFile Memory };
+    ghost from_gives = { λ _ fault. fault ≡ Memory };
 
-    fn from(_error: AllocError) -> ValueFault {
-        ValueFault::OfFile(FileFault::Memory)
+    fn from(_error: AllocError) -> FileFault {
+        FileFault::Memory
     }
 }
 
-impl ValueFault {
-    ghost use Rattle.std.specs.Prelude.{◌≡◌};
-    ghost use Rattle.margin_top.specs.FaultLine.{line_text};
-    ghost use Rattle.margin_top.specs.Calc.{status_of_value, line_of_value};
-
-    /// The status and the line of the fault of the file of this name, where `refused` is the status of one too long or
-    /// refused.
-    pub(crate) fn ending<'a>(&'a self, name: &'a str, refused: Status) -> (Status, FaultLine<'a>)
-        ensures status { result.0 ≡ status_of_value refused self.now }
-        ensures line { line_text result.1 ≡ line_of_value name.now self.now }
-    {
-        match self {
-            ValueFault::OfFile(fault) => fault.ending(name, refused),
-            ValueFault::Refused(line) => (refused, FaultLine::Whole(line.as_slice())),
-        }
-    }
-}
-
-/// Why a calculation gave no margin.
+/// Why a command ended before its work.
 #[derive(Debug, Drop)]
-pub enum CalcFault {
-    /// The parameter file gave no parameters.
-    OfParams(ValueFault),
-    /// The CRIF file gave no batch.
-    OfCrif(ValueFault),
+pub enum Fault<'a> {
+    /// A file of the command gave nothing.
+    OfFile {
+        /// Which file it is.
+        file: InputFile,
+        /// Its name in the folder.
+        name: &'a str,
+        /// Why it gave nothing.
+        why: FileFault,
+    },
     /// The batch is refused, with the line that tells why.
     OfBatch(Text),
-    /// Memory ran out after both files were read.
+    /// Memory ran out after the files were read.
     Memory,
 }
 
-impl CalcFault {
+impl Fault<'_> {
     ghost use Rattle.std.specs.Prelude.{◌≡◌};
     ghost use Rattle.margin_top.specs.FaultLine.{line_text};
-    ghost use Rattle.margin_top.specs.Calc.{status_of, fault_text};
+    ghost use Rattle.margin_top.specs.Ending.{status_of, line_of};
 
-    /// The status and the line of the fault.
-    pub(crate) fn ending<'a>(&'a self, params: &'a str, crif: &'a str) -> (Status, FaultLine<'a>)
-        ensures status { result.0 ≡ status_of self.now }
-        ensures line { line_text result.1 ≡ fault_text params.now crif.now self.now }
+    /// The status of a command that ended so.
+    pub(crate) fn status(&self) -> Status
+        ensures { result ≡ status_of self.now }
     {
         match self {
-            CalcFault::OfParams(fault) => fault.ending(params, Status::Params),
-            CalcFault::OfCrif(fault) => fault.ending(crif, Status::Terms),
-            CalcFault::OfBatch(line) => (Status::Terms, FaultLine::Whole(line.as_slice())),
-            CalcFault::Memory => (Status::Memory, FaultLine::Whole(b"")),
+            Fault::OfFile { file, why, .. } => match why {
+                FileFault::Missing => Status::Find,
+                FileFault::Unread => Status::Read,
+                FileFault::Long | FileFault::Refused(_) => file.status_of_refused(),
+                FileFault::Memory => Status::Memory,
+            },
+            Fault::OfBatch(_) => Status::Terms,
+            Fault::Memory => Status::Memory,
+        }
+    }
+
+    /// The one line of a command that ended so.
+    pub(crate) fn line(&self) -> FaultLine<'_>
+        ensures { line_text result ≡ line_of self.now }
+    {
+        match self {
+            Fault::OfFile { name, why, .. } => match why {
+                FileFault::Missing => FaultLine::Named(b"FAULT\tFIND\t", name),
+                FileFault::Unread => FaultLine::Named(b"FAULT\tREAD\t", name),
+                FileFault::Long => FaultLine::Named(b"FAULT\tLONG\t", name),
+                FileFault::Refused(line) => FaultLine::Whole(line.as_slice()),
+                FileFault::Memory => FaultLine::Whole(b""),
+            },
+            Fault::OfBatch(line) => FaultLine::Whole(line.as_slice()),
+            Fault::Memory => FaultLine::Whole(b""),
         }
     }
 }

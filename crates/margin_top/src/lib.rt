@@ -9,7 +9,6 @@ mod house;
 mod margin_of;
 mod printing;
 mod run_ending;
-mod run_fault;
 mod run_files;
 mod run_printing;
 mod running;

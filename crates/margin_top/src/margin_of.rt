@@ -1,6 +1,6 @@
 ghost use Rattle.std.specs.Prelude.{◌≡◌, ℕ, None, Some, Err, IfOk, OnOk, IsTrue, true};
 ghost use Rattle.simm_kinds.specs.Batch.{rows_of};
-ghost use Rattle.simm_rules.specs.declared.values.RangeFault.{RangeFault as Fault};
+ghost use Rattle.simm_rules.specs.declared.values.RangeFault.{RangeFault};
 ghost use Rattle.simm_rules.specs.Range.{range};
 ghost use Rattle.simm_rules.specs.Simm.{simm};
 ghost use Rattle.bucket_cache.specs.declared.fault.SubmitFault.TheVariants as submit;
@@ -8,7 +8,7 @@ ghost use Rattle.bucket_cache.specs.Live.{first_unadmitted};
 ghost use Rattle.margin_top.specs.Files.{KeepsCounts};
 ghost use Rattle.margin_top.specs.Calc.{TellsRefusal, MarginEnds};
 
-use crate::fault::CalcFault;
+use crate::fault::{Fault, InputFile};
 use crate::value_files::{read_crif_file, read_param_file};
 use bucket_cache::{LiveMargin, SubmitFault};
 use margin_text::refusal_line;
@@ -26,8 +26,8 @@ fn margin_of_batch(alloc: Global, values: Params, batch: &Batch) -> Result<Break
     ensures value { IfOk result (λ margin. margin ≡ simm values (rows_of batch.now)) }
     ensures unadmitted { (trade row : ℕ) → result ≡ Err (submit.BucketUnknown trade row) →
         first_unadmitted values batch.now ≡ Some (record { trade = trade; row = row }) }
-    ensures range { (fault : Fault) → result ≡ Err (submit.Range fault) → range values (rows_of batch.now) ≡ Some fault }
-    ensures range_of_admitted { (fault : Fault) → result ≡ Err (submit.Range fault) → first_unadmitted values batch.now ≡ None }
+    ensures range { (fault : RangeFault) → result ≡ Err (submit.Range fault) → range values (rows_of batch.now) ≡ Some fault }
+    ensures range_of_admitted { (fault : RangeFault) → result ≡ Err (submit.Range fault) → first_unadmitted values batch.now ≡ None }
 {
     let mut live = LiveMargin::new(alloc, values)?;
     live.submit(alloc, batch.trades())?;
@@ -35,32 +35,40 @@ fn margin_of_batch(alloc: Global, values: Params, batch: &Batch) -> Result<Break
 }
 
 /// The fault of a batch that is refused; want of memory where there is none for its line.
-fn refused(alloc: Global, refusal: Refusal) -> CalcFault
+fn refused<'a>(alloc: Global, refusal: Refusal) -> Fault<'a>
     ensures { TellsRefusal refusal result }
 {
     match refusal_line(alloc, refusal) {
-        Ok(line) => CalcFault::OfBatch(line),
-        Err(_) => CalcFault::Memory,
+        Ok(line) => Fault::OfBatch(line),
+        Err(_) => Fault::Memory,
     }
 }
 
 /// Reads both files, and works out the margin of the batch.
-pub(crate) fn margin_of_files<F: Folder>(
+pub(crate) fn margin_of_files<'a, F: Folder>(
     alloc: Global,
-    params: &str,
-    crif: &str,
+    params: &'a str,
+    crif: &'a str,
     folder: &mut F,
-) -> Result<Breakdown, CalcFault>
+) -> Result<Breakdown, Fault<'a>>
     ensures counts { KeepsCounts (F.seen folder.old) (F.seen folder.new) }
     ensures ends { MarginEnds params.now crif.now (F.seen folder.old) (F.seen folder.new) result }
 {
     let values = match read_param_file(alloc, folder, params) {
         Ok(values) => values,
-        Err(fault) => return Err(CalcFault::OfParams(fault)),
+        Err(why) => return Err(Fault::OfFile {
+            file: InputFile::Params,
+            name: params,
+            why,
+        }),
     };
     let batch = match read_crif_file(alloc, folder, crif) {
         Ok(batch) => batch,
-        Err(fault) => return Err(CalcFault::OfCrif(fault)),
+        Err(why) => return Err(Fault::OfFile {
+            file: InputFile::Crif,
+            name: crif,
+            why,
+        }),
     };
     match margin_of_batch(alloc, values, &batch) {
         Ok(margin) => Ok(margin),
@@ -68,6 +76,6 @@ pub(crate) fn margin_of_files<F: Folder>(
             Err(refused(alloc, Refusal::BucketUnknown { trade, row }))
         }
         Err(SubmitFault::Range(fault)) => Err(refused(alloc, Refusal::Range(fault))),
-        Err(SubmitFault::Memory) => Err(CalcFault::Memory),
+        Err(SubmitFault::Memory) => Err(Fault::Memory),
     }
 }

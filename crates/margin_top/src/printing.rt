@@ -1,8 +1,11 @@
-ghost use Rattle.std.specs.Prelude.{◌≤◌, ◌++◌};
+ghost use Rattle.std.specs.Prelude.{◌≡◌, ◌≤◌, ◌++◌};
 ghost use Rattle.margin_text.specs.Fields.{last_field};
 ghost use Rattle.margin_top.specs.FaultLine.{line_text};
-ghost use Rattle.margin_top.specs.Calc.{GotLine, MarginPrints};
+ghost use Rattle.margin_top.specs.Printed.{GotLine};
+ghost use Rattle.margin_top.specs.Ending.{status_of, line_of};
+ghost use Rattle.margin_top.specs.Calc.{MarginPrints};
 
+use crate::fault::Fault;
 use crate::fault_line::FaultLine;
 use crate::status::Status;
 use margin_text::margin_lines;
@@ -22,6 +25,16 @@ pub(crate) fn print_margin<K: Sink>(alloc: Global, out: &mut K, margin: &Breakdo
         Ok(()) => Status::Done,
         Err(_) => Status::Write,
     }
+}
+
+/// Ends a command at a fault: its line is printed, and the command has its status.
+pub(crate) fn end_at_fault<K: Sink>(out: &mut K, fault: &Fault) -> Status
+    ensures count { (K.seen out.old).faults ≤ (K.seen out.new).faults }
+    ensures status { result ≡ status_of fault.now }
+    ensures printed { GotLine (K.seen out.old) (K.seen out.new) (line_of fault.now) }
+{
+    print_line(out, fault.line());
+    fault.status()
 }
 
 /// Prints the line of a fault, or a front of it where the sink fails. It takes no memory.

@@ -5,11 +5,11 @@ ghost use Rattle.margin_top.specs.Files.{KeepsCounts};
 ghost use Rattle.margin_top.specs.Run.{start};
 ghost use Rattle.margin_top.specs.RunStages.{FeedEnds, RunFilesEnd};
 
-use crate::run_fault::RunFault;
+use crate::fault::{Fault, FileFault, InputFile};
 use crate::value_files::{read_param_file, read_terms_file};
 use csa_terms::Terms;
 use feed_gate::{FeedReport, run_feed};
-use mh_io::{FindRefused, Folder};
+use mh_io::Folder;
 use set_core::SetState;
 use simm_params::Params;
 use std::alloc::{AllocError, Global};
@@ -41,42 +41,47 @@ fn run_feed_file<F: Folder>(
     folder: &mut F,
     name: &str,
     sets: &mut [SetState],
-) -> Result<FeedReport, FindRefused>
+) -> Result<FeedReport, FileFault>
     requires { AreApart sets.old }
     ensures counts { KeepsCounts (F.seen folder.old) (F.seen folder.new) }
     ensures kept { OnOk result (AreKept sets.old sets.new) }
     ensures ends { FeedEnds (F.seen folder.old) (F.seen folder.new) name.now sets.old sets.new result }
 {
-    let source = match folder.find(alloc, name) {
-        Ok(source) => source,
-        Err(refused) => return Err(refused),
-    };
+    let source = folder.find(alloc, name)?;
     let (source, report) = run_feed(alloc, source, sets);
     folder.done(source);
     Ok(report)
 }
 
 /// Reads both files, and runs the feed on the sets of the terms.
-pub(crate) fn run_files<F: Folder>(
+pub(crate) fn run_files<'a, F: Folder>(
     alloc: Global,
-    params: &str,
-    terms: &str,
-    feed: &str,
+    params: &'a str,
+    terms: &'a str,
+    feed: &'a str,
     folder: &mut F,
-) -> Result<Outcome, RunFault>
+) -> Result<Outcome, Fault<'a>>
     ensures counts { KeepsCounts (F.seen folder.old) (F.seen folder.new) }
     ensures ends { RunFilesEnd params.now terms.now feed.now (F.seen folder.old) (F.seen folder.new) result }
 {
     let values = match read_param_file(alloc, folder, params) {
         Ok(values) => values,
-        Err(fault) => return Err(RunFault::OfParams(fault)),
+        Err(why) => return Err(Fault::OfFile {
+            file: InputFile::Params,
+            name: params,
+            why,
+        }),
     };
     let agreements = match read_terms_file(alloc, folder, terms) {
         Ok(agreements) => agreements,
-        Err(fault) => return Err(RunFault::OfTerms(fault)),
+        Err(why) => return Err(Fault::OfFile {
+            file: InputFile::Terms,
+            name: terms,
+            why,
+        }),
     };
     let Ok(mut sets) = make_sets(alloc, &values, &agreements) else {
-        return Err(RunFault::Memory);
+        return Err(Fault::Memory);
     };
     match run_feed_file(alloc, folder, feed, &mut sets) {
         Ok(report) => Ok(Outcome {
@@ -84,6 +89,10 @@ pub(crate) fn run_files<F: Folder>(
             sets,
             report,
         }),
-        Err(refused) => Err(RunFault::OfFeed(refused)),
+        Err(why) => Err(Fault::OfFile {
+            file: InputFile::Feed,
+            name: feed,
+            why,
+        }),
     }
 }

@@ -5,7 +5,7 @@ ghost use Rattle.margin_top.specs.Desks.{desks_of};
 ghost use Rattle.margin_top.specs.Run.{RunEnds};
 ghost use Rattle.margin_top.specs.Complete.{IsWellRun, EndsWell};
 
-use crate::printing::print_line;
+use crate::printing::end_at_fault;
 use crate::run_ending::end_run;
 use crate::run_files::run_files;
 use crate::status::Status;
@@ -41,10 +41,6 @@ pub(crate) fn run<F: Folder, K: Sink>(
 {
     match run_files(alloc, files.params, files.terms, files.feed, folder) {
         Ok(run) => end_run(alloc, out, desks, retired, &run),
-        Err(fault) => {
-            let (status, line) = fault.ending(files.params, files.terms, files.feed);
-            print_line(out, line);
-            status
-        }
+        Err(fault) => end_at_fault(out, &fault),
     }
 }

@@ -2,7 +2,7 @@
 ghost use Rattle.margin_top.specs.Files.{KeepsCounts, ValueEnds};
 ghost use Rattle.margin_top.specs.Grammars.{GivesParams, RefusesParams, GivesTrades, RefusesTrades, GivesTerms, RefusesTerms};
 
-use crate::fault::ValueFault;
+use crate::fault::FileFault;
 use crate::file::read_file;
 use crif_reader::read_batch;
 use csa_terms::{Terms, read_terms};
@@ -17,14 +17,14 @@ pub(crate) fn read_param_file<F: Folder>(
     alloc: Global,
     folder: &mut F,
     name: &str,
-) -> Result<Params, ValueFault>
+) -> Result<Params, FileFault>
     ensures counts { KeepsCounts (F.seen folder.old) (F.seen folder.new) }
     ensures ends { ValueEnds GivesParams RefusesParams (F.seen folder.old) (F.seen folder.new) name.now result }
 {
     let bytes = read_file(alloc, folder, name)?;
     match read_params(alloc, bytes.as_slice()) {
         Ok(params) => Ok(params),
-        Err(fault) => Err(ValueFault::Refused(params_line(alloc, &fault)?)),
+        Err(fault) => Err(FileFault::Refused(params_line(alloc, &fault)?)),
     }
 }
 
@@ -33,14 +33,14 @@ pub(crate) fn read_crif_file<F: Folder>(
     alloc: Global,
     folder: &mut F,
     name: &str,
-) -> Result<Batch, ValueFault>
+) -> Result<Batch, FileFault>
     ensures counts { KeepsCounts (F.seen folder.old) (F.seen folder.new) }
     ensures ends { ValueEnds GivesTrades RefusesTrades (F.seen folder.old) (F.seen folder.new) name.now result }
 {
     let bytes = read_file(alloc, folder, name)?;
     match read_batch(alloc, bytes.as_slice()) {
         Ok(read) => Ok(read.batch),
-        Err(fault) => Err(ValueFault::Refused(crif_line(alloc, &fault)?)),
+        Err(fault) => Err(FileFault::Refused(crif_line(alloc, &fault)?)),
     }
 }
 
@@ -49,13 +49,13 @@ pub(crate) fn read_terms_file<F: Folder>(
     alloc: Global,
     folder: &mut F,
     name: &str,
-) -> Result<Terms, ValueFault>
+) -> Result<Terms, FileFault>
     ensures counts { KeepsCounts (F.seen folder.old) (F.seen folder.new) }
     ensures ends { ValueEnds GivesTerms RefusesTerms (F.seen folder.old) (F.seen folder.new) name.now result }
 {
     let bytes = read_file(alloc, folder, name)?;
     match read_terms(alloc, bytes.as_slice()) {
         Ok(terms) => Ok(terms),
-        Err(fault) => Err(ValueFault::Refused(terms_line(alloc, &fault)?)),
+        Err(fault) => Err(FileFault::Refused(terms_line(alloc, &fault)?)),
     }
 }

@@ -1,10 +1,16 @@
-use Rattle.std.proofs.Common.{ap, Err}
-use Rattle.margin_top.proofs.CalcLemmas.{crif_failed, both_read, unknown_refused, range_refused, refused_cause}
+use Rattle.std.proofs.Common.{ap, Err, refl}
+use Rattle.margin_top.specs.Grammars.{RefusesTrades}
+use Rattle.margin_top.proofs.CalcLemmas.{fails_after_params, both_read, unknown_refused, range_refused, refused_cause}
 use Rattle.margin_top.proofs.margin_of.margin_of_files.Goals as goal
 
+pub returns-in-Err-clause-ends : goal.returns-in-Err-clause-ends
+returns-in-Err-clause-ends g c = (refl, c.in-Err.ensures.ends)
+
 pub returns-in-Err-read_crif_file-clause-ends : goal.returns-in-Err-read_crif_file-clause-ends
-returns-in-Err-read_crif_file-clause-ends g c =
-    crif_failed _ _ _ c.args.params.now c.args.crif.now c.in-Ok.values _ c.in-Ok.ensures.ends c.in-Ok.ensures.counts.finds c.in-Ok.ensures.counts.reads c.in-Err-read_crif_file.ensures.ends
+returns-in-Err-read_crif_file-clause-ends g c = (
+  refl,
+  fails_after_params _ _ _ c.args.params.now c.args.crif.now c.in-Ok.values RefusesTrades c.in-Err-read_crif_file.why c.in-Ok.ensures.ends c.in-Ok.ensures.counts.finds c.in-Ok.ensures.counts.reads c.in-Err-read_crif_file.ensures.ends,
+)
 
 pub returns-in-Ok-margin_of_batch-clause-ends : goal.returns-in-Ok-margin_of_batch-clause-ends
 returns-in-Ok-margin_of_batch-clause-ends g c = record {

@@ -1,7 +1,7 @@
 use Rattle.std.proofs.Common.{[], ◌∷◌, ◌++◌, ◌∙◌, sym, subst}
 use Rattle.mh_io.specs.Sink.{SinkSeen}
 use Rattle.margin_text.specs.Fields.{last_field}
-use Rattle.margin_top.specs.Calc.{GotLine}
+use Rattle.margin_top.specs.Printed.{GotLine}
 use Rattle.margin_top.proofs.PrintLemmas.{put_failed, put_went, got_line_after}
 use Rattle.margin_top.proofs.printing.print_named.Goals as goal
 
