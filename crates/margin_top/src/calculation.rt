@@ -15,7 +15,8 @@ use std::alloc::Global;
 /// With status `Done` the sink got the lines of the margin that the written rule gives of the two files; with `Write`
 /// a front of them, since the sink failed. At every other status but `Memory` the sink got one fault line, or a front
 /// of it where the sink failed, and nothing else: `Params` and `Terms` exactly where a file that was read is too long
-/// or refused, `Find` and `Read` only where the folder's count of such faults rose. `Memory` for want of memory.
+/// or refused, `Terms` also where the batch is, `Find` and `Read` only where the folder's count of such faults rose.
+/// `Memory` for want of memory.
 pub fn calc<F: Folder, K: Sink>(
     alloc: Global,
     params: &str,

@@ -6,7 +6,7 @@ use mh_units::Text;
 use std::alloc::AllocError;
 
 /// Which file of a command.
-#[derive(Clone, Copy, Debug, PartialEq, Eq)]
+#[derive(Clone, Copy, Debug)]
 pub enum InputFile {
     /// The parameter file.
     Params,

@@ -10,7 +10,7 @@ pub enum Status {
     Words,
     /// The parameter file is too long, or its grammar refuses it.
     Params,
-    /// The terms file or the CRIF file is too long, or refused by its grammar, or the batch for its range.
+    /// The terms file or the CRIF file is too long, or refused by its grammar, or the batch for a row's bucket or its range.
     Terms,
     /// A file isn't there or can't be opened.
     Find,
