@@ -12,14 +12,14 @@ returns-in-Err-read_crif_file-clause-ends g c = (
   fails_after_params _ _ _ c.args.params.now c.args.crif.now c.in-Ok.values RefusesTrades c.in-Err-read_crif_file.why c.in-Ok.ensures.ends c.in-Ok.ensures.counts.finds c.in-Ok.ensures.counts.reads c.in-Err-read_crif_file.ensures.ends,
 )
 
-pub returns-in-Ok-margin_of_batch-clause-ends : goal.returns-in-Ok-margin_of_batch-clause-ends
-returns-in-Ok-margin_of_batch-clause-ends g c = record {
+pub returns-in-Ok-batch_margin-clause-ends : goal.returns-in-Ok-batch_margin-clause-ends
+returns-in-Ok-batch_margin-clause-ends g c = record {
   p = c.in-Ok.values;
   trades = c.in-Ok-read_crif_file.batch;
   both = both_read _ _ _ c.args.params.now c.args.crif.now c.in-Ok.values c.in-Ok-read_crif_file.batch c.in-Ok.ensures.ends c.in-Ok-read_crif_file.ensures.ends;
-  admitted = c.in-Ok-margin_of_batch.ensures.admitted;
-  in_range = c.in-Ok-margin_of_batch.ensures.in_range;
-  margin = c.in-Ok-margin_of_batch.ensures.value;
+  admitted = c.in-Ok-batch_margin.ensures.admitted;
+  in_range = c.in-Ok-batch_margin.ensures.in_range;
+  margin = c.in-Ok-batch_margin.ensures.value;
 }
 
 pub returns-in-Err-BucketUnknown-clause-ends : goal.returns-in-Err-BucketUnknown-clause-ends
