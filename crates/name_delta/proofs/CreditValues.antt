@@ -73,12 +73,12 @@ module _ (points : List (Amount CreditPoint)) (weight threshold : ℤ) (terms : 
   abbrev issuer_net : List ℕ → ℤ
   issuer_net issuer = total_by (λ a. a.amount) (filter (is_of issuer) points)
 
-  issuer_small : (issuer : List ℕ) → IsSmall weight (issuer_net issuer)
+  pub issuer_small : (issuer : List ℕ) → IsSmall weight (issuer_net issuer)
   issuer_small issuer =
       let net : unsigned_abs (issuer_net issuer) ≤ sum_by size points = omega (arith, total_size (λ (a : Amount CreditPoint). a.amount) (filter (is_of issuer) points), sum_by-filter size (is_of issuer) points) in
       omega (arith, mul-le-mul_right (unsigned_abs weight) net, all_small)
 
-  issuer_size : (issuer : List ℕ) → unsigned_abs (issuer_cr points threshold issuer) ≤ 346999999
+  pub issuer_size : (issuer : List ℕ) → unsigned_abs (issuer_cr points threshold issuer) ≤ 346999999
   issuer_size issuer = alone_size weight threshold (issuer_net issuer) terms (issuer_small issuer)
 
   abbrev weighed_point : Amount CreditPoint → Weighed
@@ -107,7 +107,7 @@ module _ (points : List (Amount CreditPoint)) (weight threshold : ℤ) (terms : 
     abbrev issuer : ℕ → List ℕ
     issuer k = ((point_at k).of).issuer
 
-    count : length grouped ≡ length points
+    pub count : length grouped ≡ length points
     count = groups.count ∙ length-map points issuer_amount
 
     counted : (k : ℕ) → k < length points → k < length nets
@@ -134,16 +134,16 @@ module _ (points : List (Amount CreditPoint)) (weight threshold : ℤ) (terms : 
         (subst (NotAfter (issuer i)) (sym (ap (λ (n : Amount (List ℕ)). n.of) (net_is j m))) (issuer_first (point_at i).of (point_at j).of (before i j h m)))
 
     -- groups tell issuers apart
-    tells : (i j : ℕ) → i < length points → j < length points → ((at grouped i).group == (at grouped j).group) ≡ same_name (issuer i) (issuer j)
+    pub tells : (i j : ℕ) → i < length points → j < length points → ((at grouped i).group == (at grouped j).group) ≡ same_name (issuer i) (issuer j)
     tells i j l m =
         ap (λ (g : Grouped). g.group == (at grouped j).group) (group_is i l) ∙ ap (λ (g : Grouped). changes nets i == g.group) (group_is j m)
         ∙ numbers_tell nets sorted i j (counted i l) (counted j m)
         ∙ ap (λ (n : Amount (List ℕ)). same_name n.of (net_at nets j).of) (net_is i l) ∙ ap (λ (n : Amount (List ℕ)). same_name (issuer i) n.of) (net_is j m)
 
-    x_is : (k : ℕ) → k < length points → (at grouped k).x ≡ (point_at k).amount
+    pub x_is : (k : ℕ) → k < length points → (at grouped k).x ≡ (point_at k).amount
     x_is k h = ap (λ (g : Grouped). g.x) (group_is k h) ∙ ap (λ (n : Amount (List ℕ)). n.amount) (net_is k h)
 
-    threshold_is : (k : ℕ) → k < length points → (at grouped k).threshold ≡ threshold
+    pub threshold_is : (k : ℕ) → k < length points → (at grouped k).threshold ≡ threshold
     threshold_is k h = ap (λ (g : Grouped). g.threshold) (group_is k h)
 
     sizes_same : sum_by (λ g. unsigned_abs g.x) grouped ≡ sum_by size points
@@ -152,11 +152,11 @@ module _ (points : List (Amount CreditPoint)) (weight threshold : ℤ) (terms : 
         ∙ ap (sum_by (λ z. unsigned_abs z)) (maps_alike (λ (g : Grouped). g.x) (λ (a : Amount CreditPoint). a.amount) grouped points no_group none count x_is)
         ∙ sum_by-map (λ z. unsigned_abs z) (λ (a : Amount CreditPoint). a.amount) points
 
-    net_of_group : (k : ℕ) → k < length points → group_net grouped (at grouped k).group ≡ issuer_net (issuer k)
+    pub net_of_group : (k : ℕ) → k < length points → group_net grouped (at grouped k).group ≡ issuer_net (issuer k)
     net_of_group k h =
         totals_alike (λ (g : Grouped). g.x) (λ (a : Amount CreditPoint). a.amount) (λ g. g.group == (at grouped k).group) (is_of (issuer k)) grouped points no_group none count x_is (λ j l. tells j k l h)
 
-    factor_is : (k : ℕ) → k < length points → group_factor grouped (at grouped k) ≡ issuer_cr points threshold (issuer k)
+    pub factor_is : (k : ℕ) → k < length points → group_factor grouped (at grouped k) ≡ issuer_cr points threshold (issuer k)
     factor_is k h = ap (λ z. cr z (at grouped k).threshold) (net_of_group k h) ∙ ap (cr (issuer_net (issuer k))) (threshold_is k h)
 
     inside : (k : ℕ) → k < length grouped → k < length points
@@ -171,7 +171,7 @@ module _ (points : List (Amount CreditPoint)) (weight threshold : ℤ) (terms : 
         } in
         subst (λ z. CanConcentrate z (at grouped k).threshold) (sym (net_of_group k (inside k h))) (subst (CanConcentrate (issuer_net (issuer k))) (sym (threshold_is k (inside k h))) own)
 
-    group_ascends : (i j : ℕ) → i ≤ j → j < length grouped → (at grouped i).group ≤ (at grouped j).group
+    pub group_ascends : (i j : ℕ) → i ≤ j → j < length grouped → (at grouped i).group ≤ (at grouped j).group
     group_ascends i j h l =
         omega (arith, ap (λ (g : Grouped). g.group) (group_is i (inside i (omega arith))), ap (λ (g : Grouped). g.group) (group_is j (inside j l)), numbers_ascend nets sorted i j h (counted j (inside j l)))
 

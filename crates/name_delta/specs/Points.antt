@@ -36,12 +36,12 @@ points_in class at product factors = select (as_credit class at) (nets_in produc
 
 -- ---- issuers
 
--- the issuer of a point of a credit curve
+-- the issuer of a point of a credit curve, or of its volatility
 abbrev pub as_issuer : Risk → Option (List ℕ)
 as_issuer (Of_rate currency rate) = None
 as_issuer (Of_rate_volatility currency v) = None
 as_issuer (Of_credit class b point) = Some point.issuer
-as_issuer (Of_credit_volatility class b point) = None
+as_issuer (Of_credit_volatility class b point) = Some point.issuer
 as_issuer (Of_base_correlation index) = None
 as_issuer (Of_price class b name) = None
 as_issuer (Of_price_volatility class b name tenor) = None

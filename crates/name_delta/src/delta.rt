@@ -5,7 +5,7 @@ ghost use Rattle.name_delta.specs.Delta.{credit_delta, priced_delta, delta_value
 
 use crate::credit::{CreditAt, credit_bucket};
 use crate::fx::fx_bucket;
-use crate::ids::listed;
+use crate::ids::listed_bucket;
 use crate::priced::{PricedAt, priced_bucket};
 use factor_book::{BucketAt, Factors};
 use pair_sum::Steps;
@@ -60,7 +60,7 @@ fn credit<L: Ledger>(
     ensures sizes { IfOk result (IsCreditSized params.now (credit_class kind) (listed_id at.bucket) at.product factors.now) }
     ensures steps { let n = point_count (credit_class kind) (listed_id at.bucket) at.product factors.now in steps.new ≤ steps.old + n * n }
 {
-    let Some(bucket) = listed(&at.bucket) else {
+    let Some(bucket) = listed_bucket(&at.bucket) else {
         unreachable!()
     };
     let at = CreditAt {
@@ -84,7 +84,7 @@ fn priced<L: Ledger>(
     ensures sizes { IfOk result (IsPricedSized params.now (priced_class kind) (listed_id at.bucket) at.product factors.now) }
     ensures steps { let n = name_count (priced_class kind) (listed_id at.bucket) at.product factors.now in steps.new ≤ steps.old + n * n }
 {
-    let Some(bucket) = listed(&at.bucket) else {
+    let Some(bucket) = listed_bucket(&at.bucket) else {
         unreachable!()
     };
     let at = PricedAt {

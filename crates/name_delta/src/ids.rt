@@ -16,7 +16,7 @@ pub fn bucket_id(bucket: &Bucket) -> BucketId
 }
 
 /// The bucket of an id that is one of those that files list.
-pub fn listed(id: &BucketId) -> Option<Bucket>
+pub fn listed_bucket(id: &BucketId) -> Option<Bucket>
     ensures { result ≡ listed_id id.now }
 {
     match id {

@@ -8,7 +8,7 @@ use simm_kinds::{Factor, FactorKey, FullName};
 use std::alloc::{AllocError, Global};
 use weighted_bucket::Grouped;
 
-/// The net sensitivity to a point of an issuer's credit curve.
+/// The net sensitivity to a point of an issuer's credit curve, or to its volatility.
 #[derive(Clone, Copy, Debug)]
 struct Point<'a> {
     issuer: &'a FullName,
@@ -53,10 +53,12 @@ fn points_of<'a>(alloc: Global, lent: &'a PlaceFactors) -> Result<Vec<Point<'a>>
 fn issuer_of(key: &FactorKey) -> Option<&FullName>
     ensures { option_map (λ issuer. issuer.now) result ≡ as_issuer (risk key.now.factor) }
 {
-    if let Factor::CreditQ { issuer, .. } | Factor::CreditNonQ { issuer, .. } = &key.factor {
-        Some(issuer)
-    } else {
-        None
+    match &key.factor {
+        Factor::CreditQ { issuer, .. }
+        | Factor::CreditVol { issuer, .. }
+        | Factor::CreditNonQ { issuer, .. }
+        | Factor::CreditVolNonQ { issuer, .. } => Some(issuer),
+        _ => None,
     }
 }
 
