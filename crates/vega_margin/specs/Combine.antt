@@ -1,0 +1,27 @@
+-- The vega margin of a class over the values of its buckets: across buckets it is joined as that of delta is.
+-- (ISDA SIMM methodology, vega margin: aggregation across buckets.)
+use Rattle.std.specs.Prelude.{List, Option, Some, ℤ}
+use Rattle.simm_kinds.specs.declared.kinds.RiskClass.{RiskClass}
+use Rattle.simm_kinds.specs.declared.kinds.RiskClass.TheVariants as class
+use Rattle.simm_kinds.specs.declared.kinds.BucketId.{BucketId}
+use Rattle.simm_rules.specs.declared.values.BucketMargin.{BucketMargin}
+use Rattle.simm_rules.specs.Params.{Params}
+use Rattle.ir_delta.specs.Parts.{AreParts as AreRateParts, margin_over as rate_margin_over}
+use Rattle.name_delta.specs.Combine.{combined_by_class, AreParts as AreNamedParts}
+
+abbrev pub vega_over : Params → RiskClass → List (BucketId × BucketMargin) → Option ℤ
+vega_over p class.IR parts = Some (rate_margin_over p parts)
+vega_over p class.CreditQ parts = combined_by_class p class.CreditQ parts
+vega_over p class.CreditNonQ parts = combined_by_class p class.CreditNonQ parts
+vega_over p class.Equity parts = combined_by_class p class.Equity parts
+vega_over p class.Commodity parts = combined_by_class p class.Commodity parts
+vega_over p class.FX parts = combined_by_class p class.FX parts
+
+-- which parts have a margin
+abbrev pub AreParts : Params → RiskClass → List (BucketId × BucketMargin) → Type 0
+AreParts p class.IR parts = AreRateParts parts
+AreParts p class.CreditQ parts = AreNamedParts p class.CreditQ parts
+AreParts p class.CreditNonQ parts = AreNamedParts p class.CreditNonQ parts
+AreParts p class.Equity parts = AreNamedParts p class.Equity parts
+AreParts p class.Commodity parts = AreNamedParts p class.Commodity parts
+AreParts p class.FX parts = AreNamedParts p class.FX parts

@@ -1,0 +1,20 @@
+-- Amounts of which those to one thing stand together, as a sum for each.
+use Rattle.std.specs.Prelude.{List, [], ◌∷◌, Bool, if◌then◌else◌, ◌^◌, ◌*ℤ◌, ℤ, pos, ◌+ℤ◌}
+use Rattle.mh_units.specs.Rounding.{away}
+use Rattle.simm_rules.specs.Risks.{Amount}
+
+abbrev pub plus : {A : Type 0} → Amount A → Amount A → Amount A
+plus a b = record { of = b.of; amount = a.amount +ℤ b.amount }
+
+-- the sums, where the amount before is the first
+abbrev pub summed_from : {A : Type 0} → (A → A → Bool) → Amount A → List (Amount A) → List (Amount A)
+summed_from same before [] = before ∷ []
+summed_from same before (a ∷ rest) = if same before.of a.of then summed_from same (plus before a) rest else before ∷ summed_from same a rest
+
+abbrev pub summed : {A : Type 0} → (A → A → Bool) → List (Amount A) → List (Amount A)
+summed same [] = []
+summed same (a ∷ rest) = summed_from same a rest
+
+-- the vega risk of a net change for one unit of volatility: the ratio times the volatility times the net
+abbrev pub vega_risk : ℤ → ℤ → ℤ → ℤ
+vega_risk hvr sigma net = away (hvr *ℤ sigma *ℤ net) (pos (10 ^ 8))

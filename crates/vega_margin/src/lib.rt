@@ -1,0 +1,17 @@
+//! The vega margin of a risk class: the value of a bucket, and the margin over its buckets. Each class adds to the engine of
+//! buckets what is its own: which factors there are, their vega risks, concentration groups, thresholds and correlations.
+//! (ISDA SIMM methodology, vega margin.)
+#![tactic(auto)]
+
+mod across;
+mod credit;
+mod names;
+mod priced;
+mod rate_rho;
+mod rates;
+mod vega;
+mod volatility;
+mod weighing;
+
+pub use across::combine;
+pub use vega::bucket;
