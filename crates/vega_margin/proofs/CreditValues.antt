@@ -50,6 +50,9 @@ module _ (points : List (Amount CreditPoint)) (threshold : ℤ) (weighed : IsWei
   abbrev terms : AreTerms (pos 10000) threshold
   terms = beside_one threshold weighed
 
+  abbrev issuer : ℕ → List ℕ
+  issuer k = ((get_or points k none).of).issuer
+
   count : length grouped ≡ length points
   count = delta.count points (pos 10000) threshold terms range ascends grouped groups
 
@@ -107,9 +110,6 @@ module _ (points : List (Amount CreditPoint)) (threshold : ℤ) (weighed : IsWei
         value_is point_cmp point_total same_point point_tests scaling.Concentrated (credit_rho b) (weighted_point vrw threshold points) (λ a. refl) none points ascends factors (issuer_rho same rho grouped) (points_made factors made) rho_is
         ∙ ap (λ w. value_by w threshold) (sym is_vrw) ∙ ap (value_by (b.terms).vrw) (sym is_threshold)
       where
-        abbrev issuer : ℕ → List ℕ
-        issuer k = ((get_or points k none).of).issuer
-
         rho_is : (i j : ℕ) → i < length points → j < length points → i ≢ j → issuer_rho same rho grouped i j ≡ credit_rho b (get_or points i none).of (get_or points j none).of
         rho_is i j l m apart =
             ap (λ t. if t then same else rho) (delta.tells points (pos 10000) threshold terms range ascends grouped groups i j l m) ∙ ap (λ z. if same_name (issuer i) (issuer j) then z else rho) is_same

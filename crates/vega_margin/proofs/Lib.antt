@@ -4,3 +4,6 @@ pub mod RateNets
 pub mod RateValues
 pub mod VolatilePoints
 pub mod CreditValues
+pub mod Runs
+pub mod NamesTogether
+pub mod Idle

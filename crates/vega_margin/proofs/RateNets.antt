@@ -32,11 +32,11 @@ use Rattle.vega_margin.specs.Rates.{as_volatility, currency_place, volatilities_
 
 -- ---- the order of volatilities: by kind, then by tenor
 
-kind_place : RateVolatility → ℕ
+abbrev pub kind_place : RateVolatility → ℕ
 kind_place (Of_rates t) = 0
 kind_place (Of_inflation t) = 1
 
-tenor_at : RateVolatility → ℕ
+abbrev pub tenor_at : RateVolatility → ℕ
 tenor_at (Of_rates t) = tenor_place t
 tenor_at (Of_inflation t) = tenor_place t
 
@@ -54,6 +54,9 @@ volatility_tests (Of_inflation t) (Of_inflation u) = sym (is_eq-nat (tenor_place
 
 -- ---- those of one currency
 
+abbrev pub alone_of : Amount VolatilityIn → Amount RateVolatility
+alone_of a = record { of = (a.of).volatility; amount = a.amount }
+
 module _ (currency : List ℕ) where
   abbrev of_own : Option VolatilityIn → Option RateVolatility
   of_own None = None
@@ -64,9 +67,6 @@ module _ (currency : List ℕ) where
 
   abbrev is_own : Amount VolatilityIn → Bool
   is_own a = same_name (a.of).currency currency
-
-  abbrev pub alone_of : Amount VolatilityIn → Amount RateVolatility
-  alone_of a = record { of = (a.of).volatility; amount = a.amount }
 
   select-own : (ss : List Sensitivity) → select own ss ≡ map alone_of (filter is_own (select as_rate_volatility ss))
   select-own [] = refl

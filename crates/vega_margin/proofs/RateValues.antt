@@ -90,7 +90,7 @@ module _ (threshold : ℤ) (nets : List (Amount RateVolatility)) where
     abbrev pub W : Amount RateVolatility → Weighted RateVolatility
     W a = record { of = a.of; w = weighted_value vrw a.amount (cr net threshold); cr = cr net threshold }
 
-    weighed_with : ℤ → Amount RateVolatility → Weighed
+    abbrev weighed_with : ℤ → Amount RateVolatility → Weighed
     weighed_with f a = record { w = weighted_value vrw a.amount f; cr = record { 0 = f } }
 
     pub weighed_groups : map (weighed_in vrw groups) groups ≡ map (λ a. weighed_as (W a)) nets
@@ -119,13 +119,13 @@ module _ (p : Params) (currency : List ℕ) (amounts : List (Amount VolatilityIn
   cr_is : cr (net threshold_of nets_alone) threshold_of ≡ rate_volatility_cr p currency amounts
   cr_is = ap (λ z. cr z threshold_of) totals
 
-  with_cr : ℤ → BucketMargin → BucketMargin
+  abbrev with_cr : ℤ → BucketMargin → BucketMargin
   with_cr c m = record { q = m.q; k = m.k; s = m.s; sum = m.sum; gross = m.gross; cr = record { 0 = c } }
 
   none : Amount RateVolatility
   none = record { of = Of_rates tenor.W2; amount = pos 0 }
 
-  weighted_at : ℤ → List (Weighted RateVolatility)
+  abbrev weighted_at : ℤ → List (Weighted RateVolatility)
   weighted_at c = map (λ (a : Amount VolatilityIn). record { of = (a.of).volatility; w = weighted_value p.ir.vrw a.amount c; cr = c }) amounts
 
   pub volatilities_value : (volatilities : List Volatility) (factors : List Weighed) → IsStrictlySortedBy volatility_cmp (map (λ a. a.of) nets_alone) → map rule_volatility volatilities ≡ map (λ a. a.of) nets_alone

@@ -1,11 +1,14 @@
 -- The vega margin of a class over the values of its buckets: across buckets it is joined as that of delta is.
 -- (ISDA SIMM methodology, vega margin: aggregation across buckets.)
-use Rattle.std.specs.Prelude.{List, Option, Some, ℤ}
+use Rattle.std.specs.Prelude.{ℕ, List, map, Option, Some, ℤ}
 use Rattle.simm_kinds.specs.declared.kinds.RiskClass.{RiskClass}
 use Rattle.simm_kinds.specs.declared.kinds.RiskClass.TheVariants as class
 use Rattle.simm_kinds.specs.declared.kinds.BucketId.{BucketId}
+use Rattle.simm_kinds.specs.declared.kinds.BucketId.TheVariants as id
 use Rattle.simm_rules.specs.declared.values.BucketMargin.{BucketMargin}
 use Rattle.simm_rules.specs.Params.{Params}
+use Rattle.simm_rules.specs.Net.{Sensitivity}
+use Rattle.simm_rules.specs.Rates.{volatilities_in, volatility_currencies, currency_vega_value}
 use Rattle.ir_delta.specs.Parts.{AreParts as AreRateParts, margin_over as rate_margin_over}
 use Rattle.name_delta.specs.Combine.{combined_by_class, AreParts as AreNamedParts}
 
@@ -25,3 +28,7 @@ AreParts p class.CreditNonQ parts = AreNamedParts p class.CreditNonQ parts
 AreParts p class.Equity parts = AreNamedParts p class.Equity parts
 AreParts p class.Commodity parts = AreNamedParts p class.Commodity parts
 AreParts p class.FX parts = AreNamedParts p class.FX parts
+
+-- the buckets of the currencies of a product class that have a volatility
+abbrev pub currency_buckets : Params → List Sensitivity → List (BucketId × BucketMargin)
+currency_buckets p ss = map (λ currency. (id.Currency currency, currency_vega_value p currency (volatilities_in currency ss))) (volatility_currencies ss)

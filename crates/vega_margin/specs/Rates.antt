@@ -54,8 +54,11 @@ abbrev pub volatility_nets_at : Place → List (FactorKey × Holding) → List (
 volatility_nets_at place factors = volatility_nets (factors_at place factors)
 
 -- all of a currency are one group
+abbrev pub one_group : ℤ → ℤ → Grouped
+one_group threshold net = record { group = 0; x = net; threshold = threshold }
+
 abbrev pub in_one_group : ℤ → Amount RateVolatility → Grouped
-in_one_group threshold a = record { group = 0; x = a.amount; threshold = threshold }
+in_one_group threshold a = one_group threshold a.amount
 
 -- the concentration factor that all have, also where there are none
 abbrev pub shared_cr : ℤ → List Weighed → ℤ

@@ -5,6 +5,7 @@
 
 mod across;
 mod credit;
+mod laws;
 mod names;
 mod priced;
 mod rate_rho;
@@ -14,4 +15,5 @@ mod volatility;
 mod weighing;
 
 pub use across::combine;
+pub use laws::{currencies_make_vega, empty_buckets_add_nothing, nets_are_no_larger};
 pub use vega::bucket;

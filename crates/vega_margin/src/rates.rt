@@ -2,7 +2,7 @@
 ghost use Rattle.std.specs.Prelude.{◌≡◌, ◌+◌, ◌*◌, ◌^◌, ◌≤◌, IfOk, length, map, pos, ◌≤ℤ◌};
 ghost use Rattle.simm_rules.specs.Rates.{currency_vega_value};
 ghost use Rattle.name_delta.specs.Values.{IsInRange};
-ghost use Rattle.vega_margin.specs.Rates.{volatilities_of, currency_place, rule_volatility, volatility_nets, volatility_nets_at, in_one_group, shared_cr};
+ghost use Rattle.vega_margin.specs.Rates.{volatilities_of, currency_place, rule_volatility, volatility_nets, volatility_nets_at, in_one_group, one_group, shared_cr};
 ghost use Rattle.vega_margin.specs.Values.{alone, IsSized};
 
 use crate::rate_rho::VolatilityRho;
@@ -102,11 +102,7 @@ fn group_lent(
     let mut grouped = Vec::with_capacity(alloc, lent.len())?;
     for (key, holding) in lent.iter() {
         if let Some(volatility) = Volatility::of(key) {
-            grouped.push(Grouped {
-                group: 0,
-                x: holding.net,
-                threshold,
-            })?;
+            grouped.push(one_group(threshold, holding.net))?;
             volatilities.push(volatility)?;
         }
     }
@@ -114,6 +110,17 @@ fn group_lent(
         volatilities,
         grouped,
     })
+}
+
+// A net sensitivity in the one group of a currency.
+fn one_group(threshold: i64, net: i128) -> Grouped
+    ensures { result ≡ one_group threshold net }
+{
+    Grouped {
+        group: 0,
+        x: net,
+        threshold,
+    }
 }
 
 // The concentration factor of a currency, which each of its volatilities has; that of no sensitivity where there are none.

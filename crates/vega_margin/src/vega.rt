@@ -58,12 +58,12 @@ fn rates<L: Ledger>(
     ensures sizes { IfOk result (IsRateSized at.bucket at.product factors.now) }
     ensures steps { let n = rate_count at.bucket at.product factors.now in steps.new ≤ steps.old + n * n }
 {
-    let BucketId::Currency(currency) = at.bucket else {
+    let BucketId::Currency(currency) = &at.bucket else {
         unreachable!()
     };
     let at = CurrencyAt {
         product: at.product,
-        currency,
+        currency: *currency,
     };
     currency_bucket(alloc, params, factors, at, steps)
 }

@@ -1,4 +1,4 @@
-use Rattle.std.proofs.Common.{◌≡◌, ◌∙◌, ◌+◌, ◌*◌, ◌^◌, ◌≤◌, List, map, length, ap, sym, subst, pos, ◌<ℤ◌, ◌≤ℤ◌, unsigned_abs, FitsSigned, rules, arith}
+use Rattle.std.proofs.Common.{◌≡◌, ◌∙◌, ◌+◌, ◌*◌, ◌^◌, ◌≤◌, List, map, length, ap, sym, subst, pos, ◌<ℤ◌, ◌≤ℤ◌, unsigned_abs, ℤ, FitsSigned, rules, arith}
 use Rattle.std.specs.Prelude.{sum_by}
 use Rattle.std.specs.Int.{w64, cast_signed, cast_unsigned}
 use Rattle.std.proofs.lemmas.Int.{ints}
@@ -37,21 +37,21 @@ weigh_groups-requires-clause-groups g c =
     let amounts = volatilities_of currency product fs in
     let t = threshold_of p currency amounts in
     let nets = nets_alone p currency amounts in
-    let fits : FitsSigned w64 c.rate_thresholds.result.vega = search rules in
-    let is : cast_signed w64 (cast_unsigned w64 c.rate_thresholds.result.vega) ≡ t = same64 c.rate_thresholds.result.vega fits ∙ ap (λ (h : Thresholds). h.vega) c.rate_thresholds.ensures in
+    let fits : FitsSigned w64 c.rate_thresholds-threshold.result.vega = search rules in
+    let is : cast_signed w64 (cast_unsigned w64 c.rate_thresholds-threshold.result.vega) ≡ t = same64 c.rate_thresholds-threshold.result.vega fits ∙ ap (λ (h : Thresholds). h.vega) c.rate_thresholds-threshold.ensures in
     let grouped : c.as_slice.result.now ≡ groups t nets = grouped_are t _ nets _ c.as_slice.result.now c.in_ok-bucket.bucket.grouped.items c.as_slice.ensures.value c.in_ok-bucket.ensures.grouped is (nets_are currency product fs) in
     let can : CanWeigh c.as_slice.result.now = subst CanWeigh (sym grouped) (groups_can_weigh t nets (c.rate_facts.ensures.weighed currency).vega (nets_few p currency amounts c.requires) (nets_small p currency amounts c.requires)) in
     can
 
-pub shared_cr-requires-clause-low : goal.shared_cr-requires-clause-low
-shared_cr-requires-clause-low g c =
-    let fits : FitsSigned w64 c.rate_thresholds.result.vega = search rules in
-    subst (λ z. pos 1 ≤ℤ z) (sym (same64 c.rate_thresholds.result.vega fits ∙ ap (λ (h : Thresholds). h.vega) c.rate_thresholds.ensures)) (c.rate_facts.ensures.weighed c.args.at.currency).vega.threshold_low
+pub shared_cr-cr-requires-clause-low : goal.shared_cr-cr-requires-clause-low
+shared_cr-cr-requires-clause-low g c =
+    let fits : FitsSigned w64 c.rate_thresholds-threshold.result.vega = search rules in
+    subst (λ z. pos 1 ≤ℤ z) (sym (same64 c.rate_thresholds-threshold.result.vega fits ∙ ap (λ (h : Thresholds). h.vega) c.rate_thresholds-threshold.ensures)) (c.rate_facts.ensures.weighed c.args.at.currency).vega.threshold_low
 
-pub shared_cr-requires-clause-high : goal.shared_cr-requires-clause-high
-shared_cr-requires-clause-high g c =
-    let fits : FitsSigned w64 c.rate_thresholds.result.vega = search rules in
-    subst (λ z. z ≤ℤ pos (10 ^ 15)) (sym (same64 c.rate_thresholds.result.vega fits ∙ ap (λ (h : Thresholds). h.vega) c.rate_thresholds.ensures)) (c.rate_facts.ensures.weighed c.args.at.currency).vega.threshold_high
+pub shared_cr-cr-requires-clause-high : goal.shared_cr-cr-requires-clause-high
+shared_cr-cr-requires-clause-high g c =
+    let fits : FitsSigned w64 c.rate_thresholds-threshold.result.vega = search rules in
+    subst (λ z. z ≤ℤ pos (10 ^ 15)) (sym (same64 c.rate_thresholds-threshold.result.vega fits ∙ ap (λ (h : Thresholds). h.vega) c.rate_thresholds-threshold.ensures)) (c.rate_facts.ensures.weighed c.args.at.currency).vega.threshold_high
 
 pub invariant_of-rho : goal.invariant_of-rho
 invariant_of-rho g c =
@@ -69,8 +69,8 @@ bucket_margin-requires-clause-size g c =
     let amounts = volatilities_of currency product fs in
     let t = threshold_of p currency amounts in
     let nets = nets_alone p currency amounts in
-    let fits : FitsSigned w64 c.rate_thresholds.result.vega = search rules in
-    let is : cast_signed w64 (cast_unsigned w64 c.rate_thresholds.result.vega) ≡ t = same64 c.rate_thresholds.result.vega fits ∙ ap (λ (h : Thresholds). h.vega) c.rate_thresholds.ensures in
+    let fits : FitsSigned w64 c.rate_thresholds-threshold.result.vega = search rules in
+    let is : cast_signed w64 (cast_unsigned w64 c.rate_thresholds-threshold.result.vega) ≡ t = same64 c.rate_thresholds-threshold.result.vega fits ∙ ap (λ (h : Thresholds). h.vega) c.rate_thresholds-threshold.ensures in
     let grouped : c.as_slice.result.now ≡ groups t nets = grouped_are t _ nets _ c.as_slice.result.now c.in_ok-bucket.bucket.grouped.items c.as_slice.ensures.value c.in_ok-bucket.ensures.grouped is (nets_are currency product fs) in
     let can : CanWeigh c.as_slice.result.now = subst CanWeigh (sym grouped) (groups_can_weigh t nets (c.rate_facts.ensures.weighed currency).vega (nets_few p currency amounts c.requires) (nets_small p currency amounts c.requires)) in
     let made : c.as_slice-3.result.now ≡ map (weighed_in c.rate_vrw.result.0 c.as_slice.result.now) c.as_slice.result.now = c.as_slice-3.ensures.value ∙ c.in_ok-weighed.ensures in
@@ -89,8 +89,8 @@ bucket_margin-requires-clause-from_one g c =
     let amounts = volatilities_of currency product fs in
     let t = threshold_of p currency amounts in
     let nets = nets_alone p currency amounts in
-    let fits : FitsSigned w64 c.rate_thresholds.result.vega = search rules in
-    let is : cast_signed w64 (cast_unsigned w64 c.rate_thresholds.result.vega) ≡ t = same64 c.rate_thresholds.result.vega fits ∙ ap (λ (h : Thresholds). h.vega) c.rate_thresholds.ensures in
+    let fits : FitsSigned w64 c.rate_thresholds-threshold.result.vega = search rules in
+    let is : cast_signed w64 (cast_unsigned w64 c.rate_thresholds-threshold.result.vega) ≡ t = same64 c.rate_thresholds-threshold.result.vega fits ∙ ap (λ (h : Thresholds). h.vega) c.rate_thresholds-threshold.ensures in
     let grouped : c.as_slice.result.now ≡ groups t nets = grouped_are t _ nets _ c.as_slice.result.now c.in_ok-bucket.bucket.grouped.items c.as_slice.ensures.value c.in_ok-bucket.ensures.grouped is (nets_are currency product fs) in
     let can : CanWeigh c.as_slice.result.now = subst CanWeigh (sym grouped) (groups_can_weigh t nets (c.rate_facts.ensures.weighed currency).vega (nets_few p currency amounts c.requires) (nets_small p currency amounts c.requires)) in
     let made : c.as_slice-3.result.now ≡ map (weighed_in c.rate_vrw.result.0 c.as_slice.result.now) c.as_slice.result.now = c.as_slice-3.ensures.value ∙ c.in_ok-weighed.ensures in
@@ -105,8 +105,8 @@ bucket_margin-requires-clause-below g c =
     let amounts = volatilities_of currency product fs in
     let t = threshold_of p currency amounts in
     let nets = nets_alone p currency amounts in
-    let fits : FitsSigned w64 c.rate_thresholds.result.vega = search rules in
-    let is : cast_signed w64 (cast_unsigned w64 c.rate_thresholds.result.vega) ≡ t = same64 c.rate_thresholds.result.vega fits ∙ ap (λ (h : Thresholds). h.vega) c.rate_thresholds.ensures in
+    let fits : FitsSigned w64 c.rate_thresholds-threshold.result.vega = search rules in
+    let is : cast_signed w64 (cast_unsigned w64 c.rate_thresholds-threshold.result.vega) ≡ t = same64 c.rate_thresholds-threshold.result.vega fits ∙ ap (λ (h : Thresholds). h.vega) c.rate_thresholds-threshold.ensures in
     let grouped : c.as_slice.result.now ≡ groups t nets = grouped_are t _ nets _ c.as_slice.result.now c.in_ok-bucket.bucket.grouped.items c.as_slice.ensures.value c.in_ok-bucket.ensures.grouped is (nets_are currency product fs) in
     let can : CanWeigh c.as_slice.result.now = subst CanWeigh (sym grouped) (groups_can_weigh t nets (c.rate_facts.ensures.weighed currency).vega (nets_few p currency amounts c.requires) (nets_small p currency amounts c.requires)) in
     let made : c.as_slice-3.result.now ≡ map (weighed_in c.rate_vrw.result.0 c.as_slice.result.now) c.as_slice.result.now = c.as_slice-3.ensures.value ∙ c.in_ok-weighed.ensures in
@@ -121,8 +121,8 @@ bucket_margin-requires-clause-in_range g c =
     let amounts = volatilities_of currency product fs in
     let t = threshold_of p currency amounts in
     let nets = nets_alone p currency amounts in
-    let fits : FitsSigned w64 c.rate_thresholds.result.vega = search rules in
-    let is : cast_signed w64 (cast_unsigned w64 c.rate_thresholds.result.vega) ≡ t = same64 c.rate_thresholds.result.vega fits ∙ ap (λ (h : Thresholds). h.vega) c.rate_thresholds.ensures in
+    let fits : FitsSigned w64 c.rate_thresholds-threshold.result.vega = search rules in
+    let is : cast_signed w64 (cast_unsigned w64 c.rate_thresholds-threshold.result.vega) ≡ t = same64 c.rate_thresholds-threshold.result.vega fits ∙ ap (λ (h : Thresholds). h.vega) c.rate_thresholds-threshold.ensures in
     let grouped : c.as_slice.result.now ≡ groups t nets = grouped_are t _ nets _ c.as_slice.result.now c.in_ok-bucket.bucket.grouped.items c.as_slice.ensures.value c.in_ok-bucket.ensures.grouped is (nets_are currency product fs) in
     let can : CanWeigh c.as_slice.result.now = subst CanWeigh (sym grouped) (groups_can_weigh t nets (c.rate_facts.ensures.weighed currency).vega (nets_few p currency amounts c.requires) (nets_small p currency amounts c.requires)) in
     let made : c.as_slice-3.result.now ≡ map (weighed_in c.rate_vrw.result.0 c.as_slice.result.now) c.as_slice.result.now = c.as_slice-3.ensures.value ∙ c.in_ok-weighed.ensures in
@@ -137,8 +137,8 @@ returns-clause-value g c =
     let amounts = volatilities_of currency product fs in
     let t = threshold_of p currency amounts in
     let nets = nets_alone p currency amounts in
-    let fits : FitsSigned w64 c.rate_thresholds.result.vega = search rules in
-    let is : cast_signed w64 (cast_unsigned w64 c.rate_thresholds.result.vega) ≡ t = same64 c.rate_thresholds.result.vega fits ∙ ap (λ (h : Thresholds). h.vega) c.rate_thresholds.ensures in
+    let fits : FitsSigned w64 c.rate_thresholds-threshold.result.vega = search rules in
+    let is : cast_signed w64 (cast_unsigned w64 c.rate_thresholds-threshold.result.vega) ≡ t = same64 c.rate_thresholds-threshold.result.vega fits ∙ ap (λ (h : Thresholds). h.vega) c.rate_thresholds-threshold.ensures in
     let grouped : c.as_slice.result.now ≡ groups t nets = grouped_are t _ nets _ c.as_slice.result.now c.in_ok-bucket.bucket.grouped.items c.as_slice.ensures.value c.in_ok-bucket.ensures.grouped is (nets_are currency product fs) in
     let can : CanWeigh c.as_slice.result.now = subst CanWeigh (sym grouped) (groups_can_weigh t nets (c.rate_facts.ensures.weighed currency).vega (nets_few p currency amounts c.requires) (nets_small p currency amounts c.requires)) in
     let made : c.as_slice-3.result.now ≡ map (weighed_in c.rate_vrw.result.0 c.as_slice.result.now) c.as_slice.result.now = c.as_slice-3.ensures.value ∙ c.in_ok-weighed.ensures in
@@ -161,8 +161,8 @@ returns-clause-sizes g c =
     let amounts = volatilities_of currency product fs in
     let t = threshold_of p currency amounts in
     let nets = nets_alone p currency amounts in
-    let fits : FitsSigned w64 c.rate_thresholds.result.vega = search rules in
-    let is : cast_signed w64 (cast_unsigned w64 c.rate_thresholds.result.vega) ≡ t = same64 c.rate_thresholds.result.vega fits ∙ ap (λ (h : Thresholds). h.vega) c.rate_thresholds.ensures in
+    let fits : FitsSigned w64 c.rate_thresholds-threshold.result.vega = search rules in
+    let is : cast_signed w64 (cast_unsigned w64 c.rate_thresholds-threshold.result.vega) ≡ t = same64 c.rate_thresholds-threshold.result.vega fits ∙ ap (λ (h : Thresholds). h.vega) c.rate_thresholds-threshold.ensures in
     let grouped : c.as_slice.result.now ≡ groups t nets = grouped_are t _ nets _ c.as_slice.result.now c.in_ok-bucket.bucket.grouped.items c.as_slice.ensures.value c.in_ok-bucket.ensures.grouped is (nets_are currency product fs) in
     let can : CanWeigh c.as_slice.result.now = subst CanWeigh (sym grouped) (groups_can_weigh t nets (c.rate_facts.ensures.weighed currency).vega (nets_few p currency amounts c.requires) (nets_small p currency amounts c.requires)) in
     let made : c.as_slice-3.result.now ≡ map (weighed_in c.rate_vrw.result.0 c.as_slice.result.now) c.as_slice.result.now = c.as_slice-3.ensures.value ∙ c.in_ok-weighed.ensures in
@@ -187,8 +187,8 @@ returns-clause-steps g c =
     let amounts = volatilities_of currency product fs in
     let t = threshold_of p currency amounts in
     let nets = nets_alone p currency amounts in
-    let fits : FitsSigned w64 c.rate_thresholds.result.vega = search rules in
-    let is : cast_signed w64 (cast_unsigned w64 c.rate_thresholds.result.vega) ≡ t = same64 c.rate_thresholds.result.vega fits ∙ ap (λ (h : Thresholds). h.vega) c.rate_thresholds.ensures in
+    let fits : FitsSigned w64 c.rate_thresholds-threshold.result.vega = search rules in
+    let is : cast_signed w64 (cast_unsigned w64 c.rate_thresholds-threshold.result.vega) ≡ t = same64 c.rate_thresholds-threshold.result.vega fits ∙ ap (λ (h : Thresholds). h.vega) c.rate_thresholds-threshold.ensures in
     let grouped : c.as_slice.result.now ≡ groups t nets = grouped_are t _ nets _ c.as_slice.result.now c.in_ok-bucket.bucket.grouped.items c.as_slice.ensures.value c.in_ok-bucket.ensures.grouped is (nets_are currency product fs) in
     let can : CanWeigh c.as_slice.result.now = subst CanWeigh (sym grouped) (groups_can_weigh t nets (c.rate_facts.ensures.weighed currency).vega (nets_few p currency amounts c.requires) (nets_small p currency amounts c.requires)) in
     let made : c.as_slice-3.result.now ≡ map (weighed_in c.rate_vrw.result.0 c.as_slice.result.now) c.as_slice.result.now = c.as_slice-3.ensures.value ∙ c.in_ok-weighed.ensures in

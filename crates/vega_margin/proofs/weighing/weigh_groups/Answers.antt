@@ -1,4 +1,6 @@
-use Rattle.std.proofs.Common.{◌≡◌, ◌∙◌, ◌<◌, ◌≤◌, ap, sym, subst, pos, unsigned_abs, FitsSigned, rules, arith}
+use Rattle.std.proofs.Common.{◌≡◌, ◌∙◌, ◌+◌, ◌*◌, ◌^◌, ◌<◌, ◌≤◌, ap, sym, subst, pos, unsigned_abs, FitsSigned, rules, arith, mul-le-mul_left}
+use Rattle.std.proofs.lemmas.Int.{ints}
+use Rattle.std.proofs.lemmas.List.Sums.{get_or-le-sum_by}
 use Rattle.std.specs.Int.{w128, cast_signed, cast_unsigned}
 use Rattle.mh_units.proofs.Integers.{same128}
 use Rattle.simm_rules.specs.Bucket.{weighted_value}
@@ -10,6 +12,18 @@ use Rattle.name_delta.proofs.Groups.{factor_at}
 use Rattle.name_delta.proofs.Thick.{cr_size}
 use Rattle.name_delta.proofs.Weighings.{weighed_with, weighed_is}
 use Rattle.vega_margin.proofs.weighing.weigh_groups.Goals as goal
+
+pub weigh-requires-clause-small : goal.weigh-requires-clause-small
+weigh-requires-clause-small c =
+    let grouped = c.args.grouped.now in
+    let place = c.loop-place.place in
+    let none : Grouped = record { group = 0; x = pos 0; threshold = pos 0 } in
+    let x = (at grouped place).x in
+    let fits : FitsSigned w128 x = search rules in
+    let weight : unsigned_abs c.args.vrw.0 ≤ 20000 = omega (arith, ints, c.requires.vrw.low, c.requires.vrw.high) in
+    let size : unsigned_abs x ≤ 12 * 10 ^ 12 + 2000 = omega (arith, get_or-le-sum_by (λ (g : Grouped). unsigned_abs g.x) grouped place none c.loop-place-test.true, c.requires.groups.in_range) in
+    let product : unsigned_abs x * unsigned_abs c.args.vrw.0 ≤ 10 ^ 28 = omega (arith, size, mul-le-mul_left (unsigned_abs x) weight) in
+    subst (λ z. unsigned_abs z * unsigned_abs c.args.vrw.0 ≤ 10 ^ 28) (sym (same128 x fits)) product
 
 pub weigh-requires-clause-below : goal.weigh-requires-clause-below
 weigh-requires-clause-below c =

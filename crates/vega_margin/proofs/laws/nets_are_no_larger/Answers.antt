@@ -1,0 +1,33 @@
+use Rattle.std.proofs.Common.{ℕ, List, ℤ, pos, ◌≤ℤ◌, arith}
+use Rattle.std.proofs.lemmas.Int.{ints}
+use Rattle.simm_kinds.specs.declared.kinds.ProductClass.{ProductClass}
+use Rattle.simm_kinds.specs.declared.row.CrifRow.{CrifRow}
+use Rattle.simm_kinds.specs.Order.{same_name}
+use Rattle.simm_rules.specs.Net.{sensitivities, in_product}
+use Rattle.simm_rules.specs.Risks.{CreditPoint, Amount, select}
+use Rattle.simm_rules.specs.Gross.{size_by}
+use Rattle.simm_rules.specs.Rates.{VolatilityIn, as_rate_volatility}
+use Rattle.simm_rules.specs.Credit.{as_credit_volatility}
+use Rattle.simm_rules.specs.Priced.{NameVolatility, as_price_volatility}
+use Rattle.factor_book.specs.Factors.{factors_of}
+use Rattle.name_delta.specs.Values.{nets_in}
+use Rattle.name_delta.proofs.Shrinking.{SizesAreNetted, nets_shrink, filter_shrinks}
+use Rattle.vega_margin.specs.Rates.{volatilities_of}
+use Rattle.vega_margin.specs.Values.{alone}
+use Rattle.vega_margin.proofs.laws.nets_are_no_larger.Goals as goal
+
+-- 1 is not negative
+low : {A : Type 0} (x : A) → pos 0 ≤ℤ alone x
+low x = omega (arith, ints)
+
+-- those of one currency are some of all
+of_currency : (rows : List CrifRow) → SizesAreNetted rows → (product : ProductClass) (currency : List ℕ) → size_by alone (volatilities_of currency product (factors_of rows)) ≤ℤ size_by alone (select as_rate_volatility (in_product product (sensitivities rows)))
+of_currency rows sizes product currency =
+    omega (arith, ints, nets_shrink as_rate_volatility alone low rows sizes product, filter_shrinks alone low (λ (a : Amount VolatilityIn). same_name (a.of).currency currency) (select as_rate_volatility (nets_in product (factors_of rows))))
+
+pub returns : goal.returns
+returns c = record {
+  volatilities = λ held product currency. of_currency held (c.factors_are_netted.ensures.sizes held) product currency;
+  points = λ held product class at. nets_shrink (as_credit_volatility class at) (λ (x : CreditPoint). alone x) low held (c.factors_are_netted.ensures.sizes held) product;
+  names = λ held product class at sigma least. nets_shrink (as_price_volatility class at) (λ (x : NameVolatility). sigma) (λ x. least) held (c.factors_are_netted.ensures.sizes held) product;
+}

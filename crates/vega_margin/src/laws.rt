@@ -1,0 +1,57 @@
+//! What the margins of classes depend on.
+ghost use Rattle.std.specs.Prelude.{◌≡◌, Bool, ℕ, false, List, [], ℤ, pos, ◌≤ℤ◌};
+ghost use Rattle.std.specs.List.{filter};
+ghost use Rattle.simm_kinds.specs.declared.bucket.Bucket.{Bucket as AnyBucket};
+ghost use Rattle.simm_kinds.specs.declared.kinds.ProductClass.{ProductClass as AnyProduct};
+ghost use Rattle.simm_kinds.specs.declared.row.CrifRow.{CrifRow as Row};
+ghost use Rattle.simm_rules.specs.Params.{CreditParams, PricedParams, Params as ParamsValue};
+ghost use Rattle.simm_rules.specs.Net.{Sensitivity, sensitivities, in_product};
+ghost use Rattle.simm_rules.specs.Risks.{CreditClass, PricedClass, select};
+ghost use Rattle.simm_rules.specs.Gross.{size_by};
+ghost use Rattle.simm_rules.specs.Across.{margin_over};
+ghost use Rattle.simm_rules.specs.Rates.{as_rate_volatility, rate_vega};
+ghost use Rattle.simm_rules.specs.Credit.{as_credit_volatility, listed_credit, credit_vega_parts, credit_vega};
+ghost use Rattle.simm_rules.specs.ForeignExchange.{as_pair_volatility, fx_vega};
+ghost use Rattle.simm_rules.specs.Priced.{as_price_volatility, listed_priced, price_vega_parts, price_vega};
+ghost use Rattle.factor_book.specs.Factors.{factors_of};
+ghost use Rattle.ir_delta.specs.Parts.{margin_over as over_currencies};
+ghost use Rattle.vega_margin.specs.Combine.{currency_buckets};
+ghost use Rattle.vega_margin.specs.Credit.{points_of};
+ghost use Rattle.vega_margin.specs.Priced.{name_volatilities};
+ghost use Rattle.vega_margin.specs.Rates.{volatilities_of};
+ghost use Rattle.vega_margin.specs.Values.{alone};
+
+use factor_book::factors_are_netted;
+use simm_params::Params;
+
+/// The margin over the buckets of the currencies that have a volatility is the rule's vega margin of interest rates. It does
+/// nothing.
+pub fn currencies_make_vega(params: &Params)
+    ensures { (ss : List Sensitivity) → over_currencies params.now (currency_buckets params.now ss) ≡ rate_vega params.now ss }
+{}
+
+/// A bucket without sensitivities adds nothing to the vega margin of its class: the margin over some of the listed buckets,
+/// with all that have sensitivities among them, is the class's. The one bucket of foreign exchange has the margin 0 where it has
+/// no factor. It does nothing.
+pub fn empty_buckets_add_nothing()
+    ensures credit { (c : CreditParams) (class : CreditClass) (ss : List Sensitivity) (test : AnyBucket → Bool)
+        → ((b : AnyBucket) → test b ≡ false → select (as_credit_volatility class b) ss ≡ [])
+        → margin_over (listed_credit c) c.gamma (filter (λ part. test part.at) (credit_vega_parts c class ss)) ≡ credit_vega c class ss }
+    ensures priced { (c : PricedParams) (class : PricedClass) (ss : List Sensitivity) (test : AnyBucket → Bool)
+        → ((b : AnyBucket) → test b ≡ false → select (as_price_volatility class b) ss ≡ [])
+        → margin_over (listed_priced c) c.gamma (filter (λ part. test part.at) (price_vega_parts c class ss)) ≡ price_vega c class ss }
+    ensures pairs { (p : ParamsValue) (ss : List Sensitivity) → select as_pair_volatility ss ≡ [] → fx_vega p ss ≡ pos 0 }
+{}
+
+/// Netting makes no weighted size greater: what the volatilities of a book come to, weighted, in a bucket is at most what the
+/// rows' sensitivities come to, which is what the range of a book bounds. It does nothing.
+pub fn nets_are_no_larger()
+    ensures volatilities { (held : List Row) (product : AnyProduct) (currency : List ℕ)
+        → size_by alone (volatilities_of currency product (factors_of held)) ≤ℤ size_by alone (select as_rate_volatility (in_product product (sensitivities held))) }
+    ensures points { (held : List Row) (product : AnyProduct) (class : CreditClass) (at : AnyBucket)
+        → size_by alone (points_of class at product (factors_of held)) ≤ℤ size_by alone (select (as_credit_volatility class at) (in_product product (sensitivities held))) }
+    ensures names { (held : List Row) (product : AnyProduct) (class : PricedClass) (at : AnyBucket) (sigma : ℤ) → pos 0 ≤ℤ sigma
+        → size_by (λ _. sigma) (name_volatilities class at product (factors_of held)) ≤ℤ size_by (λ _. sigma) (select (as_price_volatility class at) (in_product product (sensitivities held))) }
+{
+    factors_are_netted();
+}
