@@ -6,4 +6,5 @@ pub mod VolatilePoints
 pub mod CreditValues
 pub mod Runs
 pub mod NamesTogether
+pub mod NameRuns
 pub mod Idle

@@ -1,9 +1,9 @@
 //! The names of a bucket of equity or of commodities: what the volatilities of each come to over its tenors.
-ghost use Rattle.std.specs.Prelude.{◌≡◌, ◌*◌, ◌^◌, ◌≤◌, IfOk, option_map, sum_by, unsigned_abs};
+ghost use Rattle.std.specs.Prelude.{◌≡◌, ◌+◌, ◌*◌, ◌^◌, ◌≤◌, IfOk, option_map, sum_by, unsigned_abs};
 ghost use Rattle.simm_kinds.specs.Order.{same_name};
 ghost use Rattle.simm_rules.specs.Risks.{risk};
-ghost use Rattle.vega_margin.specs.Priced.{as_name, name_nets, name_nets_at, name_sums_at, nets_view};
-ghost use Rattle.vega_margin.specs.Together.{summed};
+ghost use Rattle.vega_margin.specs.Priced.{as_name, name_nets, name_nets_at, name_sums_at, net_view, nets_view};
+ghost use Rattle.vega_margin.specs.Together.{plus, summed};
 
 use factor_book::{Factors, Place, PlaceFactors};
 use simm_kinds::{Factor, FactorKey, FullName};
@@ -66,21 +66,30 @@ fn sum_names<'a>(alloc: Global, nets: &[NameNet<'a>]) -> Result<Vec<NameNet<'a>>
     ensures { IfOk result (λ sums. nets_view sums.items ≡ summed same_name (nets_view nets.now)) }
 {
     let mut sums = Vec::with_capacity(alloc, nets.len())?;
-    let Some((first, rest)) = nets.split_first() else {
+    if nets.is_empty() {
         return Ok(sums);
-    };
-    let mut before = *first;
-    for net in rest {
+    }
+    let mut before = nets[0];
+    for place in 1..nets.len() {
+        let net = nets[place];
         if before.name == net.name {
-            before = NameNet {
-                name: net.name,
-                net: before.net + net.net,
-            };
+            before = joined(before, net);
         } else {
             sums.push(before)?;
-            before = *net;
+            before = net;
         }
     }
     sums.push(before)?;
     Ok(sums)
+}
+
+// Two nets of one name.
+fn joined<'a>(before: NameNet<'a>, net: NameNet<'a>) -> NameNet<'a>
+    requires { unsigned_abs before.net + unsigned_abs net.net ≤ 2 * 10 ^ 20 }
+    ensures { net_view result ≡ plus (net_view before) (net_view net) }
+{
+    NameNet {
+        name: net.name,
+        net: before.net + net.net,
+    }
 }
