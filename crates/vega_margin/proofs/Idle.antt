@@ -1,6 +1,8 @@
 -- What the parts of a class come to: those of currencies, and parts without sensitivities.
-use Rattle.std.proofs.Common.{◌≡◌, ℕ, List, [], ◌∷◌, map, Bool, false, refl, ap, ◌∙◌, pos}
+use Rattle.std.proofs.Common.{◌≡◌, ℕ, List, [], ◌∷◌, map, Bool, false, refl, ap, ◌∙◌, ℤ, pos}
 use Rattle.std.specs.List.{filter}
+use Rattle.mh_units.specs.Rounding.{clamp}
+use Rattle.mh_units.proofs.Roundings.{root_square}
 use Rattle.simm_kinds.specs.declared.kinds.BucketId.{BucketId}
 use Rattle.simm_kinds.specs.declared.kinds.BucketId.TheVariants as id
 use Rattle.simm_kinds.specs.declared.bucket.Bucket.{Bucket}
@@ -9,7 +11,8 @@ use Rattle.simm_rules.specs.declared.values.BucketMargin.{BucketMargin}
 use Rattle.simm_rules.specs.Params.{Params, CreditBucket, PricedBucket, CreditParams, PricedParams}
 use Rattle.simm_rules.specs.Net.{Sensitivity}
 use Rattle.simm_rules.specs.Risks.{CreditClass, PricedClass, select}
-use Rattle.simm_rules.specs.Bucket.{concentrated}
+use Rattle.simm_rules.specs.Concentration.{one}
+use Rattle.simm_rules.specs.Bucket.{Weighted, concentrated, bucket_value}
 use Rattle.simm_rules.specs.Across.{Part, outer, margin_over}
 use Rattle.simm_rules.specs.Rates.{volatilities_in, volatility_currencies, currency_vega_value, across_currencies, rate_vega}
 use Rattle.simm_rules.specs.Credit.{as_credit_volatility, same_point, credit_rho, listed_credit, credit_vega_value, credit_vega_parts, credit_vega}
@@ -17,7 +20,7 @@ use Rattle.simm_rules.specs.ForeignExchange.{as_pair_volatility, pair_rho, fx_ve
 use Rattle.simm_rules.specs.Priced.{as_price_volatility, name_rho, listed_priced, price_vega_value, price_vega_parts, price_vega}
 use Rattle.ir_delta.specs.Parts.{parts_of, margin_over as over_currencies}
 use Rattle.name_delta.proofs.Lists.{each_always, each_map}
-use Rattle.name_delta.proofs.Empty.{no_value, value-none, kept_margin}
+use Rattle.name_delta.proofs.Empty.{no_value, kept_margin}
 use Rattle.vega_margin.specs.Combine.{currency_buckets}
 
 -- ---- currencies
@@ -34,6 +37,12 @@ module _ (p : Params) (ss : List Sensitivity) where
   whole = ap (outer same_name (across_currencies p)) (parts_at (volatility_currencies ss))
 
 -- ---- parts without sensitivities
+
+value-none : {A : Type 0} (corr : Weighted A → Weighted A → ℤ) → bucket_value corr one [] ≡ no_value
+value-none corr = ap with_root (root_square (pos 0))
+  where
+    with_root : ℤ → BucketMargin
+    with_root k = record { q = pos 0; k = k; s = clamp (pos 0) k; sum = pos 0; gross = pos 0; cr = record { 0 = one } }
 
 pub credit_kept : (c : CreditParams) (class : CreditClass) (ss : List Sensitivity) (test : Bucket → Bool) → ((b : Bucket) → test b ≡ false → select (as_credit_volatility class b) ss ≡ []) → margin_over (listed_credit c) c.gamma (filter (λ part. test part.at) (credit_vega_parts c class ss)) ≡ credit_vega c class ss
 credit_kept c class ss test empty =

@@ -7,4 +7,7 @@ pub mod CreditValues
 pub mod Runs
 pub mod NamesTogether
 pub mod NameRuns
+pub mod NameGroups
+pub mod NameValues
+pub mod NamesRead
 pub mod Idle

@@ -20,7 +20,7 @@ use Rattle.name_delta.proofs.Thick.{cr_size, cr_low, cr_below, weighted_close, a
 use Rattle.vega_margin.specs.Groups.{CanWeigh}
 use Rattle.vega_margin.specs.Values.{IsSized}
 
-sum_by-shifted : {X : Type 0} (f : X → ℕ) (c d : ℕ) (xs : List X) → sum_by (λ x. f x * c + d) xs ≡ sum_by f xs * c + length xs * d
+pub sum_by-shifted : {X : Type 0} (f : X → ℕ) (c d : ℕ) (xs : List X) → sum_by (λ x. f x * c + d) xs ≡ sum_by f xs * c + length xs * d
 sum_by-shifted f c d [] = omega arith
 sum_by-shifted f c d (x ∷ xs) =
     let whole : sum_by (λ y. f y * c + d) (x ∷ xs) ≡ (f x * c + d) + sum_by (λ y. f y * c + d) xs = sum_by-cons (λ y. f y * c + d) x xs in

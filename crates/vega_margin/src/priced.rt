@@ -126,9 +126,10 @@ fn group_names(
 {
     let mut grouped = Vec::with_capacity(alloc, sums.len())?;
     for place in 0..sums.len() {
+        let risk = vega_risk(hvr, sigma, sums[place].net);
         grouped.push(Grouped {
             group: place,
-            x: vega_risk(hvr, sigma, sums[place].net),
+            x: risk,
             threshold,
         })?;
     }

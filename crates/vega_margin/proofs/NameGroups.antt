@@ -1,0 +1,101 @@
+-- Names that are groups by themselves: their vega risks, concentration factors and sizes.
+use Rattle.std.proofs.Common.{◌≡◌, ◌^◌, ℕ, zero, suc, ◌+◌, ◌*◌, ◌/◌, ◌<◌, ◌≤◌, List, [], ◌∷◌, ◌++◌, map, length, get_or, true, false, ◌==◌, cond, refl, sym, ap, ◌∙◌, subst, ℤ, pos, negsuc, ◌+ℤ◌, ◌*ℤ◌, ◌≤ℤ◌, unsigned_abs, All, arith, ⊎_elim, mul-le-mul_left, mul-le-mul_right}
+use Rattle.std.specs.Prelude.{sum_by}
+use Rattle.std.specs.List.{filter}
+use Rattle.std.proofs.Math.IntN.{+ℤ_idl}
+use Rattle.std.proofs.Math.Seq.{get_or-append_seam}
+use Rattle.std.proofs.lemmas.Bool.{cases_lt, eq-eqb, ne_eqb}
+use Rattle.std.proofs.lemmas.Int.{ints, unsigned_abs-mul}
+use Rattle.std.proofs.lemmas.Nat.{div-add-mod'}
+use Rattle.std.proofs.lemmas.List.{get_or_append_left, length-append}
+use Rattle.mh_units.specs.Rounding.{away}
+use Rattle.mh_units.proofs.Integers.{unsigned_abs-neg}
+use Rattle.simm_rules.specs.Sums.{total_by}
+use Rattle.simm_params.specs.Ranges.{hvrs, sigmas, IsWithin}
+use Rattle.weighted_bucket.specs.declared.group.Grouped.{Grouped}
+use Rattle.weighted_bucket.specs.Group.{at, group_net}
+use Rattle.vega_margin.specs.Priced.{name_group, AreGrouped}
+use Rattle.vega_margin.specs.Together.{vega_risk}
+
+-- ---- as they are made
+
+pub record Grouping (hvr sigma threshold : ℤ) (nets : List ℤ) (place : ℕ) (grouped : List Grouped) : Type 0 where
+  pub count : length grouped ≡ place
+  pub each : (k : ℕ) → k < place → at grouped k ≡ name_group hvr sigma threshold k (get_or nets k (pos 0))
+
+pub grouping_next : (hvr sigma threshold : ℤ) (nets : List ℤ) (place : ℕ) (grouped more : List Grouped) (g : Grouped) → Grouping hvr sigma threshold nets place grouped → more ≡ grouped ++ g ∷ [] → g ≡ name_group hvr sigma threshold place (get_or nets place (pos 0)) → Grouping hvr sigma threshold nets (place + 1) more
+grouping_next hvr sigma threshold nets place grouped more g so_far grown is = record {
+  count = omega (arith, ap length grown, length-append grouped (g ∷ []), so_far.count);
+  each = λ k h. ap (λ gs. at gs k) grown ∙ ⊎_elim (earlier k) (own k h) (cases_lt k place);
+}
+  where
+    none : Grouped
+    none = record { group = 0; x = pos 0; threshold = pos 0 }
+
+    earlier : (k : ℕ) → k < place → at (grouped ++ g ∷ []) k ≡ name_group hvr sigma threshold k (get_or nets k (pos 0))
+    earlier k h = get_or_append_left grouped (g ∷ []) none k (omega (arith, so_far.count)) ∙ so_far.each k h
+
+    own : (k : ℕ) → k < place + 1 → place ≤ k → at (grouped ++ g ∷ []) k ≡ name_group hvr sigma threshold k (get_or nets k (pos 0))
+    own k h above =
+        let here : k ≡ length grouped = omega (arith, so_far.count) in
+        let there : place ≡ k = omega arith in
+        ap (at (grouped ++ g ∷ [])) here ∙ get_or-append_seam grouped g [] none ∙ is ∙ ap (λ n. name_group hvr sigma threshold n (get_or nets n (pos 0))) there
+
+pub all_grouped : (hvr sigma threshold : ℤ) (nets : List ℤ) (place n : ℕ) (grouped : List Grouped) → Grouping hvr sigma threshold nets place grouped → place ≡ n → n ≡ length nets → AreGrouped hvr sigma threshold nets grouped
+all_grouped hvr sigma threshold nets place n grouped g done all = record {
+  count = omega (arith, g.count, done, all);
+  each = λ k h. g.each k (omega (arith, done, all));
+}
+
+-- ---- each is the one of its group
+
+none_in : (n : ℕ) (gs : List Grouped) → ((j : ℕ) → j < length gs → n < (at gs j).group) → total_by (λ g. g.x) (filter (λ g. g.group == n) gs) ≡ pos 0
+none_in n [] h = refl
+none_in n (g ∷ gs) h =
+    let above : n < g.group = h 0 (omega arith) in
+    ap (λ t. total_by (λ (x : Grouped). x.x) (cond t (g ∷ filter (λ x. x.group == n) gs) (filter (λ x. x.group == n) gs))) (ne_eqb g.group n (λ e. omega arith))
+    ∙ none_in n gs (λ j l. h (suc j) (omega arith))
+
+own_in : (off : ℕ) (gs : List Grouped) → ((j : ℕ) → j < length gs → (at gs j).group ≡ off + j) → (k : ℕ) → k < length gs → total_by (λ g. g.x) (filter (λ g. g.group == off + k) gs) ≡ (at gs k).x
+own_in off [] h k l = absurd (omega arith)
+own_in off (g ∷ gs) h zero l =
+    let first : g.group ≡ off + 0 = h 0 (omega arith) in
+    let rest = filter (λ (x : Grouped). x.group == off + 0) gs in
+    ap (λ t. total_by (λ (x : Grouped). x.x) (cond t (g ∷ rest) rest)) (eq-eqb g.group (off + 0) first)
+    ∙ ap (λ z. g.x +ℤ z) (none_in (off + 0) gs (λ j m. let later : (at gs j).group ≡ off + suc j = h (suc j) (omega arith) in omega arith)) ∙ zero_right g.x
+  where
+    zero_right : (z : ℤ) → z +ℤ pos 0 ≡ z
+    zero_right z = omega (arith, ints)
+own_in off (g ∷ gs) h (suc k) l =
+    let first : g.group ≡ off + 0 = h 0 (omega arith) in
+    let rest = filter (λ (x : Grouped). x.group == off + suc k) gs in
+    let next : off + suc k ≡ suc off + k = omega arith in
+    ap (λ t. total_by (λ (x : Grouped). x.x) (cond t (g ∷ rest) rest)) (ne_eqb g.group (off + suc k) (λ e. omega arith))
+    ∙ ap (λ n. total_by (λ (x : Grouped). x.x) (filter (λ x. x.group == n) gs)) next
+    ∙ own_in (suc off) gs (λ j m. let later : (at gs j).group ≡ off + suc j = h (suc j) (omega arith) in omega arith) k (omega arith)
+
+-- ---- roundings
+
+-- away from zero it is less than one off
+away_size_below : (a : ℤ) (b : ℕ) → 0 < b → unsigned_abs (away a (pos b)) * b < unsigned_abs a + b
+away_size_below (pos zero) b h =
+    let none : unsigned_abs (away (pos 0) (pos b)) * b ≡ 0 / b * b = ap (λ n. n * b) (unsigned_abs-neg (pos (0 / b))) in omega (arith, div-add-mod' 0 b)
+away_size_below (pos (suc m)) b h = omega (arith, ints, div-add-mod' m b)
+away_size_below (negsuc m) b h = omega (arith, ints, div-add-mod' m b)
+
+module _ (hvr sigma : ℤ) (ratio : IsWithin hvrs hvr) (net : ℤ) where
+  product : unsigned_abs (hvr *ℤ sigma *ℤ net) ≡ unsigned_abs hvr * (unsigned_abs net * unsigned_abs sigma)
+  product =
+      let outer : unsigned_abs (hvr *ℤ sigma *ℤ net) ≡ unsigned_abs (hvr *ℤ sigma) * unsigned_abs net = unsigned_abs-mul (hvr *ℤ sigma) net in
+      let inner : unsigned_abs (hvr *ℤ sigma) * unsigned_abs net ≡ (unsigned_abs hvr * unsigned_abs sigma) * unsigned_abs net = ap (λ n. n * unsigned_abs net) (unsigned_abs-mul hvr sigma) in
+      outer ∙ inner ∙ omega arith
+
+  ratio_size : unsigned_abs hvr ≤ 12000
+  ratio_size = omega (arith, ints, ratio.low, ratio.high)
+
+  -- a vega risk is at most 1.2 times the net times its volatility, and less than a cent
+  pub risk_close : unsigned_abs (vega_risk hvr sigma net) * 10 ^ 8 < (unsigned_abs net * unsigned_abs sigma) * 12000 + 10 ^ 8
+  risk_close = omega (arith, away_size_below (hvr *ℤ sigma *ℤ net) (10 ^ 8) (omega arith), product, mul-le-mul_right (unsigned_abs net * unsigned_abs sigma) ratio_size)
+
+  pub risk_small : unsigned_abs net * unsigned_abs sigma ≤ 10 ^ 17 → unsigned_abs (vega_risk hvr sigma net) ≤ 12 * 10 ^ 12
+  risk_small h = omega (arith, risk_close, h)
