@@ -86,7 +86,7 @@ fn sum_names<'a>(alloc: Global, nets: &[NameNet<'a>]) -> Result<Vec<NameNet<'a>>
 // Two nets of one name.
 fn joined<'a>(before: NameNet<'a>, net: NameNet<'a>) -> NameNet<'a>
     requires { unsigned_abs before.net + unsigned_abs net.net ≤ 2 * 10 ^ 20 }
-    ensures { net_view result ≡ plus (net_view before) (net_view net) }
+    ensures { net_view result ≡ plus (net_view before.entry) (net_view net.entry) }
 {
     NameNet {
         name: net.name,
