@@ -1,15 +1,16 @@
 -- Names that are groups by themselves: their vega risks, concentration factors and sizes.
-use Rattle.std.proofs.Common.{◌≡◌, ◌^◌, ℕ, zero, suc, ◌+◌, ◌*◌, ◌/◌, ◌<◌, ◌≤◌, List, [], ◌∷◌, ◌++◌, map, length, get_or, true, false, ◌==◌, cond, refl, sym, ap, ◌∙◌, subst, ℤ, pos, negsuc, ◌+ℤ◌, ◌*ℤ◌, ◌≤ℤ◌, unsigned_abs, All, arith, ⊎_elim, mul-le-mul_left, mul-le-mul_right}
+use Rattle.std.proofs.Common.{◌≡◌, ◌^◌, ℕ, zero, suc, ◌+◌, ◌*◌, ◌/◌, ◌<◌, ◌≤◌, List, [], ◌∷◌, ◌++◌, map, length, get_or, true, false, ◌==◌, cond, refl, sym, ap, ◌∙◌, subst, ℤ, pos, negsuc, ◌+ℤ◌, ◌*ℤ◌, ◌≤ℤ◌, unsigned_abs, FitsSigned, All, arith, ⊎_elim, mul-le-mul_left, mul-le-mul_right}
 use Rattle.std.specs.Prelude.{sum_by}
+use Rattle.std.specs.Int.{w128}
 use Rattle.std.specs.List.{filter}
 use Rattle.std.proofs.Math.IntN.{+ℤ_idl}
 use Rattle.std.proofs.Math.Seq.{get_or-append_seam}
 use Rattle.std.proofs.lemmas.Bool.{cases_lt, eq-eqb, ne_eqb}
-use Rattle.std.proofs.lemmas.Int.{ints, unsigned_abs-mul}
+use Rattle.std.proofs.lemmas.Int.{ints, unsigned_abs-mul, fits_signed_from_abs}
 use Rattle.std.proofs.lemmas.Nat.{div-add-mod'}
 use Rattle.std.proofs.lemmas.List.{get_or_append_left, length-append}
 use Rattle.mh_units.specs.Rounding.{away}
-use Rattle.mh_units.proofs.Integers.{unsigned_abs-neg}
+use Rattle.mh_units.proofs.Integers.{unsigned_abs-neg, product_size}
 use Rattle.simm_rules.specs.Sums.{total_by}
 use Rattle.simm_params.specs.Ranges.{hvrs, sigmas, IsWithin}
 use Rattle.weighted_bucket.specs.declared.group.Grouped.{Grouped}
@@ -56,7 +57,7 @@ none_in n (g ∷ gs) h =
     ap (λ t. total_by (λ (x : Grouped). x.x) (cond t (g ∷ filter (λ x. x.group == n) gs) (filter (λ x. x.group == n) gs))) (ne_eqb g.group n (λ e. omega arith))
     ∙ none_in n gs (λ j l. h (suc j) (omega arith))
 
-own_in : (off : ℕ) (gs : List Grouped) → ((j : ℕ) → j < length gs → (at gs j).group ≡ off + j) → (k : ℕ) → k < length gs → total_by (λ g. g.x) (filter (λ g. g.group == off + k) gs) ≡ (at gs k).x
+pub own_in : (off : ℕ) (gs : List Grouped) → ((j : ℕ) → j < length gs → (at gs j).group ≡ off + j) → (k : ℕ) → k < length gs → total_by (λ g. g.x) (filter (λ g. g.group == off + k) gs) ≡ (at gs k).x
 own_in off [] h k l = absurd (omega arith)
 own_in off (g ∷ gs) h zero l =
     let first : g.group ≡ off + 0 = h 0 (omega arith) in
@@ -99,3 +100,19 @@ module _ (hvr sigma : ℤ) (ratio : IsWithin hvrs hvr) (net : ℤ) where
 
   pub risk_small : unsigned_abs net * unsigned_abs sigma ≤ 10 ^ 17 → unsigned_abs (vega_risk hvr sigma net) ≤ 12 * 10 ^ 12
   risk_small h = omega (arith, risk_close, h)
+
+-- ---- they fit 128 bits
+
+pub pair_fits : (hvr sigma : ℤ) → IsWithin hvrs hvr → IsWithin sigmas sigma → FitsSigned w128 (hvr *ℤ sigma)
+pair_fits hvr sigma ratio volatility = fits_signed_from_abs w128 (hvr *ℤ sigma) (omega (arith, product_size hvr sigma 12000 (10 ^ 7) (size_from_low hvr 12000 ratio.low ratio.high) (size_from_low sigma (10 ^ 7) volatility.low volatility.high)))
+  where
+    size_from_low : (z : ℤ) (n : ℕ) → pos 0 ≤ℤ z → z ≤ℤ pos n → unsigned_abs z ≤ n
+    size_from_low z n low high = omega (arith, ints)
+
+pub risk_fits : (hvr sigma net : ℤ) → IsWithin hvrs hvr → IsWithin sigmas sigma → unsigned_abs net ≤ 2 * 10 ^ 20 → FitsSigned w128 (hvr *ℤ sigma *ℤ net)
+risk_fits hvr sigma net ratio volatility h =
+    fits_signed_from_abs w128 (hvr *ℤ sigma *ℤ net)
+    (omega (arith, product_size (hvr *ℤ sigma) net (12000 * 10 ^ 7) (2 * 10 ^ 20) (product_size hvr sigma 12000 (10 ^ 7) (size_from_low hvr 12000 ratio.low ratio.high) (size_from_low sigma (10 ^ 7) volatility.low volatility.high)) h))
+  where
+    size_from_low : (z : ℤ) (n : ℕ) → pos 0 ≤ℤ z → z ≤ℤ pos n → unsigned_abs z ≤ n
+    size_from_low z n low high = omega (arith, ints)

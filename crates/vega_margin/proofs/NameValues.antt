@@ -134,8 +134,8 @@ module _ (hvr sigma threshold : ℤ) (ratio : IsWithin hvrs hvr) (low : pos 0 �
     abbrev name_no : ℕ → List ℕ
     name_no k = get_or names k []
 
-    group_is : (k : ℕ) → k < length names → at grouped k ≡ name_group hvr sigma threshold k (net (name_no k))
-    group_is k h =
+    named_is : (k : ℕ) → k < length names → at grouped k ≡ name_group hvr sigma threshold k (net (name_no k))
+    named_is k h =
         groups.each k (omega (arith, groups.count, count)) ∙ ap (name_group hvr sigma threshold k) (get_or-map (λ name. (name_total amounts name).amount) names k [] (pos 0) h)
 
     risk_is : (k : ℕ) → k < length names → get_or risks k none ≡ risk_of (name_no k)
@@ -145,16 +145,16 @@ module _ (hvr sigma threshold : ℤ) (ratio : IsWithin hvrs hvr) (low : pos 0 �
     inside k h = omega (arith, count)
 
     numbered : (j : ℕ) → j < length grouped → (at grouped j).group ≡ 0 + j
-    numbered j h = ap (λ (g : Grouped). g.group) (group_is j (inside j h))
+    numbered j h = let start : j ≡ 0 + j = omega arith in ap (λ (g : Grouped). g.group) (named_is j (inside j h)) ∙ start
 
     x_is : (k : ℕ) → k < length names → (at grouped k).x ≡ (risk_of (name_no k)).amount
-    x_is k h = ap (λ (g : Grouped). g.x) (group_is k h)
+    x_is k h = ap (λ (g : Grouped). g.x) (named_is k h)
 
     group_net_is : (k : ℕ) → k < length grouped → group_net grouped (at grouped k).group ≡ (at grouped k).x
     group_net_is k h = ap (λ n. group_net grouped n) (numbered k h) ∙ own_in 0 grouped numbered k h
 
     threshold_is : (k : ℕ) → k < length names → (at grouped k).threshold ≡ threshold
-    threshold_is k h = ap (λ (g : Grouped). g.threshold) (group_is k h)
+    threshold_is k h = ap (λ (g : Grouped). g.threshold) (named_is k h)
 
     x_small : (k : ℕ) → k < length names → unsigned_abs (at grouped k).x ≤ 120000 * unsigned_abs threshold
     x_small k h =

@@ -140,27 +140,27 @@ module _ {A : Type 0} (cmp : A → A → Ordering) (order : IsTotalOrder cmp) (s
       let b = begins a xs h in
       ap (put_in cmp before.of) b.are ∙ ap (λ o. placed o before.of b.head b.rest (put_in cmp before.of b.rest)) (sym (equal_right before.of a.of b.head b.tied) ∙ e) ∙ ap (λ ks. before.of ∷ ks) (sym b.are)
 
+  rests : (before : Amount A) (xs : List (Amount A)) (ks : List A) → AllByRecursion (λ k. cmp before.of k ≡ Less) ks → AllByRecursion (λ k. sum_to xs k ≡ sum_to (before ∷ xs) k) ks
+  rests before xs ks l = each_weaker (λ k. cmp before.of k ≡ Less) (λ k. sum_to xs k ≡ sum_to (before ∷ xs) k) (λ k its. later_run before xs k its) ks l
+
   runs_from : (before : Amount A) (xs : List (Amount A)) → Ascends (before ∷ xs) → summed_from same before xs ≡ map (sum_to (before ∷ xs)) (kinds (before ∷ xs))
   runs_from before [] h = ap (λ z. z ∷ []) (sym (first_run before [] tt))
-  runs_from before (a ∷ xs) h = ⊎_elim less tied h.0.0
+  runs_from before (a ∷ xs) h = ⊎_elim (λ e. less e (runs_from a xs h.1)) (λ e. tied e (runs_from (plus before a) xs h.1)) h.0.0
     where
-      less : cmp before.of a.of ≡ Less → summed_from same before (a ∷ xs) ≡ map (sum_to (before ∷ a ∷ xs)) (kinds (before ∷ a ∷ xs))
-      less e =
+      less : cmp before.of a.of ≡ Less → summed_from same a xs ≡ map (sum_to (a ∷ xs)) (kinds (a ∷ xs)) → summed_from same before (a ∷ xs) ≡ map (sum_to (before ∷ a ∷ xs)) (kinds (before ∷ a ∷ xs))
+      less e later =
           let all : AllByRecursion (λ b. cmp before.of b.of ≡ Less) (a ∷ xs) = (e, each_weaker (λ (b : Amount A). NotAfter a.of b.of) (λ b. cmp before.of b.of ≡ Less) (λ b its. less_all before.of a.of b.of e its) xs h.1.0) in
           ap (λ t. cond t (summed_from same (plus before a) xs) (before ∷ summed_from same a xs)) (earlier_other before.of a.of e)
-          ∙ ap (λ ys. before ∷ ys) (runs_from a xs h.1
+          ∙ ap (λ ys. before ∷ ys) (later
           ∙ maps_each (sum_to (a ∷ xs)) (sum_to (before ∷ a ∷ xs)) (kinds (a ∷ xs))
-          (rests (kinds (a ∷ xs)) (kinds_each (λ k. cmp before.of k ≡ Less) (a ∷ xs) all)))
+          (rests before (a ∷ xs) (kinds (a ∷ xs)) (kinds_each (λ k. cmp before.of k ≡ Less) (a ∷ xs) all)))
           ∙ ap (λ y. y ∷ map (sum_to (before ∷ a ∷ xs)) (kinds (a ∷ xs))) (sym (first_run before (a ∷ xs) all))
           ∙ sym (ap (map (sum_to (before ∷ a ∷ xs))) (kinds_less before a xs e h.1.0))
-        where
-          rests : (ks : List A) → AllByRecursion (λ k. cmp before.of k ≡ Less) ks → AllByRecursion (λ k. sum_to (a ∷ xs) k ≡ sum_to (before ∷ a ∷ xs) k) ks
-          rests ks l = each_weaker (λ k. cmp before.of k ≡ Less) (λ k. sum_to (a ∷ xs) k ≡ sum_to (before ∷ a ∷ xs) k) (λ k its. later_run before (a ∷ xs) k its) ks l
 
-      tied : cmp before.of a.of ≡ Equal → summed_from same before (a ∷ xs) ≡ map (sum_to (before ∷ a ∷ xs)) (kinds (before ∷ a ∷ xs))
-      tied e =
+      tied : cmp before.of a.of ≡ Equal → summed_from same (plus before a) xs ≡ map (sum_to (plus before a ∷ xs)) (kinds (plus before a ∷ xs)) → summed_from same before (a ∷ xs) ≡ map (sum_to (before ∷ a ∷ xs)) (kinds (before ∷ a ∷ xs))
+      tied e later =
           ap (λ t. cond t (summed_from same (plus before a) xs) (before ∷ summed_from same a xs)) (tests before.of a.of ∙ ap is_eq e)
-          ∙ runs_from (plus before a) xs h.1
+          ∙ later
           ∙ maps_each (sum_to (plus before a ∷ xs)) (sum_to (before ∷ a ∷ xs)) (kinds (a ∷ xs)) (always (λ k. sum_to (plus before a ∷ xs) k ≡ sum_to (before ∷ a ∷ xs) k) (λ k. sym (sums_same before a xs e k)) (kinds (a ∷ xs)))
           ∙ sym (ap (map (sum_to (before ∷ a ∷ xs))) (kinds_tied before a xs e h.1.0))
 

@@ -66,9 +66,12 @@ nets_view nets = map net_view nets
 
 -- ---- each name is a group by itself
 
+abbrev pub single_group : ℕ → ℤ → ℤ → Grouped
+single_group place x threshold = record { group = place; x = x; threshold = threshold }
+
 -- the vega risk of a name, in the group of its number
 abbrev pub name_group : ℤ → ℤ → ℤ → ℕ → ℤ → Grouped
-name_group hvr sigma threshold place net = record { group = place; x = vega_risk hvr sigma net; threshold = threshold }
+name_group hvr sigma threshold place net = single_group place (vega_risk hvr sigma net) threshold
 
 pub record AreGrouped (hvr sigma threshold : ℤ) (nets : List ℤ) (grouped : List Grouped) : Type 0 where
   pub count : length grouped ≡ length nets

@@ -7,7 +7,7 @@ ghost use Rattle.simm_params.specs.ListedBuckets.{priced_bucket_of, priced_bucke
 ghost use Rattle.simm_params.specs.Ranges.{hvrs, sigmas, IsWithin};
 ghost use Rattle.simm_params.specs.Weighed.{IsWeighedPriced};
 ghost use Rattle.factor_book.specs.Factors.{IsBook};
-ghost use Rattle.vega_margin.specs.Priced.{name_volatilities, names_place, AreGrouped, IsPricedInRange};
+ghost use Rattle.vega_margin.specs.Priced.{name_volatilities, names_place, single_group, AreGrouped, IsPricedInRange};
 ghost use Rattle.vega_margin.specs.Together.{vega_risk};
 ghost use Rattle.vega_margin.specs.Values.{IsSized};
 
@@ -127,13 +127,20 @@ fn group_names(
     let mut grouped = Vec::with_capacity(alloc, sums.len())?;
     for place in 0..sums.len() {
         let risk = vega_risk(hvr, sigma, sums[place].net);
-        grouped.push(Grouped {
-            group: place,
-            x: risk,
-            threshold,
-        })?;
+        grouped.push(single_group(place, risk, threshold))?;
     }
     Ok(grouped)
+}
+
+// A name's group.
+fn single_group(place: usize, risk: i128, threshold: i64) -> Grouped
+    ensures { result ≡ single_group place risk threshold }
+{
+    Grouped {
+        group: place,
+        x: risk,
+        threshold,
+    }
 }
 
 // The historical volatility ratio times the volatility times the net change for one unit of volatility, away from zero to the cent.
