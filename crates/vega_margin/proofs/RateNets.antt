@@ -132,7 +132,6 @@ module _ (currency : List ℕ) where
   stands : (product : ProductClass) (k : FactorKey) (x : RateVolatility) → own (risk k.factor) ≡ Some x → stands_at (currency_place currency product) k ≡ same_product k.product product
   stands product k x e = ap (λ f. stands_at (currency_place currency product) (key_with k.product f)) (own_is k.factor x e) ∙ stands_own product k.product x
 
-
   elsewhere : (product c : ProductClass) (f : Factor) → own (risk f) ≡ None → stands_at (currency_place currency product) (key_with c f) ≡ false
   elsewhere product c (factor.IrCurve n t s) h = and_side (same_product c product) (same_bucket_id (id.Currency n) (id.Currency currency))
   elsewhere product c (factor.Inflation n) h = and_side (same_product c product) (same_bucket_id (id.Currency n) (id.Currency currency))

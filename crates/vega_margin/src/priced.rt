@@ -82,7 +82,13 @@ fn names_value<L: Ledger>(
 {
     let terms = bucket.terms;
     let sums = name_sums(alloc, factors, &place_of(at))?;
-    let grouped = group_names(alloc, hvr, bucket.sigma, terms.thresholds.vega, sums.as_slice())?;
+    let grouped = group_names(
+        alloc,
+        hvr,
+        bucket.sigma,
+        terms.thresholds.vega,
+        sums.as_slice(),
+    )?;
     let weighed = weigh_groups(alloc, terms.vrw, grouped.as_slice())?;
     let rho = EvenRho {
         count: weighed.len(),

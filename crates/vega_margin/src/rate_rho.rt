@@ -41,8 +41,8 @@ fn correlation(params: &Params, a: Volatility, b: Volatility) -> Corr6
 {
     in_millionths(match (a, b) {
         (Volatility::Rates { tenor: t }, Volatility::Rates { tenor: u })
-        | (Volatility::Inflation { tenor: t }, Volatility::Inflation { tenor: u }) => params
-            .tenor_rho(t, u),
+        | (Volatility::Inflation { tenor: t }, Volatility::Inflation { tenor: u }) =>
+            params.tenor_rho(t, u),
         (Volatility::Rates { .. }, Volatility::Inflation { .. })
         | (Volatility::Inflation { .. }, Volatility::Rates { .. }) => params.inflation_rho(),
     })

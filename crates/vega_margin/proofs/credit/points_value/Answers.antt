@@ -23,7 +23,6 @@ use Rattle.vega_margin.proofs.Sizes.{factors_from_one, factors_below, factors_in
 use Rattle.vega_margin.proofs.VolatilePoints.{points_ascend, points_grouped}
 use Rattle.vega_margin.proofs.credit.points_value.Goals as goal
 
-
 pub weigh_groups-requires-clause-groups : goal.weigh_groups-requires-clause-groups
 weigh_groups-requires-clause-groups g c =
     let threshold = c.args.bucket.now.terms.thresholds.vega in
