@@ -15,5 +15,6 @@ mod Ranged
 mod Weighed
 mod Found
 mod WeighedRates
+mod WeighedPairs
 mod WeighedBuckets
 pub mod ClassLists

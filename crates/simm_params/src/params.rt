@@ -1,4 +1,5 @@
 mod credit;
+mod pairs;
 mod priced;
 mod rates;
 mod rows;
