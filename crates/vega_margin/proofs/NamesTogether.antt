@@ -1,12 +1,9 @@
 -- Volatilities of names that have a price: where they stand, and in which order.
-use Rattle.std.proofs.Common.{◌≡◌, ℕ, List, [], ◌∷◌, map, Bool, true, false, Some, None, refl, sym, ap, ◌∙◌, subst, ℤ, ◌⊎◌, inl, inr}
+use Rattle.std.proofs.Common.{◌≡◌, ℕ, List, [], ◌∷◌, map, Bool, true, false, Some, None, refl, sym, ap, ◌∙◌}
 use Rattle.std.specs.declared.cmp.Ordering.{Ordering}
-use Rattle.std.specs.declared.cmp.Ordering.TheVariants.{Less, Equal, Greater}
+use Rattle.std.specs.declared.cmp.Ordering.TheVariants.{Less, Equal}
 use Rattle.std.specs.Ordering.{nat_cmp, ordering_then, then_cmp, on}
-use Rattle.std.specs.List.{filter, AllByRecursion}
-use Rattle.std.specs.List.Sorted.{IsStrictlySortedBy}
 use Rattle.std.proofs.lemmas.Cmp.{nat_list_cmp_total}
-use Rattle.std.proofs.lemmas.Simd.{map-map}
 use Rattle.simm_kinds.specs.declared.kinds.ProductClass.{ProductClass}
 use Rattle.simm_kinds.specs.declared.kinds.BucketId.TheVariants as id
 use Rattle.simm_kinds.specs.declared.bucket.Bucket.{Bucket}
@@ -16,20 +13,18 @@ use Rattle.simm_kinds.specs.declared.factor.Factor.TheVariants as factor
 use Rattle.simm_kinds.specs.declared.key.FactorKey.{FactorKey}
 use Rattle.simm_kinds.specs.Factors.{bucket_id_of}
 use Rattle.simm_kinds.specs.Order.{same_product, key_cmp, name_cmp, same_name, tenor_place, bucket_numbers, same_bucket, same_bucket_id}
-use Rattle.simm_rules.specs.Sums.{total_by, different}
+use Rattle.simm_rules.specs.Sums.{total_by}
 use Rattle.simm_rules.specs.Risks.{risk, PricedClass, Equities, Commodities, Amount}
 use Rattle.simm_rules.specs.Priced.{NameVolatility, as_price_volatility, names_of, tenors_of}
 use Rattle.factor_book.specs.declared.place.Place.{Place}
 use Rattle.factor_book.specs.declared.holding.Holding.{Holding}
 use Rattle.factor_book.specs.Factors.{IsBook}
 use Rattle.factor_book.specs.Places.{stands_at}
-use Rattle.factor_book.proofs.Sums.{total_by-map}
 use Rattle.name_delta.proofs.Keys.{then_Equal, and_last, and_other, and_side, and_bucket, key_with, by_factor, bucket_ids, tied_buckets, chosen, not_chosen}
-use Rattle.name_delta.proofs.Lists.{each_weaker, each_map, each_unmap, map-filter}
 use Rattle.name_delta.proofs.Selected.{issuers_place, select_ascends}
 use Rattle.vega_margin.specs.Priced.{names_place, name_volatilities, as_name, name_nets_at, name_sums_at}
 use Rattle.vega_margin.specs.Together.{summed}
-use Rattle.vega_margin.proofs.Runs.{NotAfter, Ascends, sum_to, kinds, runs_are}
+use Rattle.vega_margin.proofs.OverTenors.{totals_are}
 
 -- ---- which factors they are
 
@@ -175,45 +170,12 @@ less Commodities at product k l x y p q e d h =
     let j = is_commodity at l.factor y d in
     sym (by_factor product k l (factor.CommodityVol x.name i.of x.tenor) (factor.CommodityVol y.name j.of y.tenor) p q i.is j.is ∙ by_number x y i.of j.of at i.inside j.inside) ∙ h
 
--- a volatility that comes before another is of no later name
-name_first : (x y : NameVolatility) → volatility_cmp x y ≡ Less → (name_cmp x.name y.name ≡ Less) ⊎ (name_cmp x.name y.name ≡ Equal)
-name_first x y h = by (name_cmp x.name y.name) refl h
-  where
-    by : (o : Ordering) → name_cmp x.name y.name ≡ o → ordering_then (name_cmp x.name y.name) (nat_cmp (tenor_place x.tenor) (tenor_place y.tenor)) ≡ Less → (name_cmp x.name y.name ≡ Less) ⊎ (name_cmp x.name y.name ≡ Equal)
-    by Less e g = inl e
-    by Equal e g = inr e
-    by Greater e g = absurd (cc)
-
-ascend : (amounts : List (Amount NameVolatility)) → IsStrictlySortedBy volatility_cmp (map (λ a. a.of) amounts) → Ascends name_cmp nat_list_cmp_total same_name (λ x y. refl) (map by_name amounts)
-unfolding IsStrictlySortedBy
-ascend [] s = tt
-ascend (a ∷ amounts) s = (
-  each_map (λ (b : Amount (List ℕ)). NotAfter name_cmp nat_list_cmp_total same_name (λ x y. refl) (a.of).name b.of) by_name amounts
-      (each_weaker (λ (b : Amount NameVolatility). volatility_cmp a.of b.of ≡ Less) (λ b. NotAfter name_cmp nat_list_cmp_total same_name (λ x y. refl) (a.of).name (b.of).name) (λ b its. name_first a.of b.of its) amounts
-      (each_unmap (λ y. volatility_cmp a.of y ≡ Less) (λ (b : Amount NameVolatility). b.of) amounts s.0)),
-  ascend amounts s.1,
-)
-
--- ---- the sums of the names
-
-total_of : (amounts : List (Amount NameVolatility)) (name : List ℕ) → total_by (λ a. a.amount) (filter (λ a. same_name a.of name) (map by_name amounts)) ≡ total_by (λ a. a.amount) (tenors_of amounts name)
-total_of amounts name =
-    ap (total_by (λ (a : Amount (List ℕ)). a.amount)) (sym (map-filter by_name (λ (a : Amount (List ℕ)). same_name a.of name) amounts))
-    ∙ total_by-map (λ (a : Amount (List ℕ)). a.amount) by_name (filter (λ (a : Amount NameVolatility). same_name (a.of).name name) amounts)
-    ∙ sym (total_by-map (λ a. a.amount) (λ (a : Amount NameVolatility). record { of = (a.of).tenor; amount = a.amount }) (filter (λ (a : Amount NameVolatility). same_name (a.of).name name) amounts))
-
 -- the net of a name over its tenors
 abbrev pub name_total : List (Amount NameVolatility) → List ℕ → Amount (List ℕ)
 name_total amounts name = record { of = name; amount = total_by (λ a. a.amount) (tenors_of amounts name) }
 
-maps_agree : {X Y : Type 0} (f g : X → Y) → ((x : X) → f x ≡ g x) → (xs : List X) → map f xs ≡ map g xs
-maps_agree f g h [] = refl
-maps_agree f g h (x ∷ xs) = ap (λ y. y ∷ map f xs) (h x) ∙ ap (λ ys. g x ∷ ys) (maps_agree f g h xs)
-
 pub sums_are : (class : PricedClass) (at : Bucket) (product : ProductClass) (fs : List (FactorKey × Holding)) → IsBook fs → name_sums_at (names_place class at product) fs ≡ map (name_total (name_volatilities class at product fs)) (names_of (name_volatilities class at product fs))
 sums_are class at product fs book =
-    let amounts = name_volatilities class at product fs in
     ap (summed same_name) (nets_are class at product fs)
-    ∙ runs_are name_cmp nat_list_cmp_total same_name (λ x y. refl) (map by_name amounts) (ascend amounts (select_ascends (as_price_volatility class at) volatility_cmp product (less class at product) fs book))
-    ∙ ap (λ ks. map (sum_to name_cmp nat_list_cmp_total same_name (λ x y. refl) (map by_name amounts)) (different name_cmp ks)) (map-map (λ (a : Amount (List ℕ)). a.of) by_name amounts)
-    ∙ maps_agree (sum_to name_cmp nat_list_cmp_total same_name (λ x y. refl) (map by_name amounts)) (name_total amounts) (λ name. ap (λ z. record { of = name; amount = z }) (total_of amounts name)) (names_of amounts)
+    ∙ totals_are name_cmp nat_list_cmp_total same_name (λ x y. refl) (λ x. x.name) (λ x. x.tenor) (name_volatilities class at product fs)
+    (select_ascends (as_price_volatility class at) volatility_cmp product (less class at product) fs book)

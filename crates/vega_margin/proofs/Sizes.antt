@@ -29,7 +29,7 @@ sum_by-shifted f c d (x ∷ xs) =
     omega (arith, sum_by-shifted f c d xs)
 
 -- a weighted value is at most 2 times 347 times the vega risk, and a cent
-close_one : (vrw x c : ℤ) → unsigned_abs vrw ≤ 20000 → unsigned_abs c ≤ 346999999 → (w : ℕ) → w * 10 ^ 10 ≤ unsigned_abs x * unsigned_abs vrw * 346999999 + 10 ^ 10 → w * 10 ^ 10 ≤ unsigned_abs x * 6939999980000 + 10 ^ 10
+pub close_one : (vrw x c : ℤ) → unsigned_abs vrw ≤ 20000 → unsigned_abs c ≤ 346999999 → (w : ℕ) → w * 10 ^ 10 ≤ unsigned_abs x * unsigned_abs vrw * 346999999 + 10 ^ 10 → w * 10 ^ 10 ≤ unsigned_abs x * 6939999980000 + 10 ^ 10
 close_one vrw x c h g w close = omega (arith, close, mul-le-mul_left (unsigned_abs x) h)
 
 module _ (vrw : ℤ) (range : IsWithin vega_weights vrw) (grouped : List Grouped) (can : CanWeigh grouped) where

@@ -1,16 +1,24 @@
 -- The vega margin of a class over the values of its buckets: across buckets it is joined as that of delta is.
 -- (ISDA SIMM methodology, vega margin: aggregation across buckets.)
-use Rattle.std.specs.Prelude.{ℕ, List, map, Option, Some, ℤ}
+use Rattle.std.specs.Prelude.{ℕ, ◌^◌, ◌≤◌, List, map, length, Option, Some, ℤ, pos, ◌≤ℤ◌}
 use Rattle.simm_kinds.specs.declared.kinds.RiskClass.{RiskClass}
 use Rattle.simm_kinds.specs.declared.kinds.RiskClass.TheVariants as class
 use Rattle.simm_kinds.specs.declared.kinds.BucketId.{BucketId}
 use Rattle.simm_kinds.specs.declared.kinds.BucketId.TheVariants as id
+use Rattle.simm_kinds.specs.declared.key.FactorKey.{FactorKey}
 use Rattle.simm_rules.specs.declared.values.BucketMargin.{BucketMargin}
 use Rattle.simm_rules.specs.Params.{Params}
 use Rattle.simm_rules.specs.Net.{Sensitivity}
-use Rattle.simm_rules.specs.Rates.{volatilities_in, volatility_currencies, currency_vega_value}
+use Rattle.simm_rules.specs.Risks.{select}
+use Rattle.simm_rules.specs.Gross.{size_by}
+use Rattle.simm_rules.specs.Rates.{as_rate_volatility, volatilities_in, volatility_currencies, currency_vega_value}
+use Rattle.factor_book.specs.declared.at.ClassAt.{ClassAt}
+use Rattle.factor_book.specs.declared.holding.Holding.{Holding}
+use Rattle.factor_book.specs.declared.place.BookSide.TheVariants as side
+use Rattle.factor_book.specs.Places.{buckets_on}
 use Rattle.ir_delta.specs.Parts.{AreParts as AreRateParts, margin_over as rate_margin_over}
 use Rattle.name_delta.specs.Combine.{combined_by_class, AreParts as AreNamedParts}
+use Rattle.vega_margin.specs.Values.{alone}
 
 abbrev pub vega_over : Params → RiskClass → List (BucketId × BucketMargin) → Option ℤ
 vega_over p class.IR parts = Some (rate_margin_over p parts)
@@ -32,3 +40,13 @@ AreParts p class.FX parts = AreNamedParts p class.FX parts
 -- the buckets of the currencies of a product class that have a volatility
 abbrev pub currency_buckets : Params → List Sensitivity → List (BucketId × BucketMargin)
 currency_buckets p ss = map (λ currency. (id.Currency currency, currency_vega_value p currency (volatilities_in currency ss))) (volatility_currencies ss)
+
+-- the volatilities of a product class of a book in range: how many there are in all and in each currency, and their size
+pub record IsRateClass (ss : List Sensitivity) : Type 0 where
+  pub few : length (select as_rate_volatility ss) ≤ 20000
+  pub few_each : (currency : List ℕ) → length (volatilities_in currency ss) ≤ 2000
+  pub small : size_by alone (select as_rate_volatility ss) ≤ℤ pos (10 ^ 17)
+
+-- the buckets of a class in a product class that have a volatility among the factors of a book, in order
+abbrev pub volatility_buckets : ClassAt → List (FactorKey × Holding) → List BucketId
+volatility_buckets at factors = buckets_on (record { product = at.product; class = at.class; side = side.Volatility }) factors

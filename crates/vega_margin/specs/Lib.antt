@@ -4,5 +4,6 @@ pub mod Rates
 pub mod Credit
 pub mod Together
 pub mod Priced
+pub mod Pairs
 pub mod Vega
 pub mod Combine

@@ -1,6 +1,6 @@
 -- The volatilities of the names of a bucket of equity or of commodities among the factors of a book: a name's tenors stand together.
 -- (ISDA SIMM methodology, equity and commodity risk: vega.)
-use Rattle.std.specs.Prelude.{ℕ, ◌≡◌, ◌*◌, ◌^◌, ◌<◌, ◌≤◌, sum_by, unsigned_abs, List, map, length, slice_index_or, Option, Some, None, ℤ, pos}
+use Rattle.std.specs.Prelude.{ℕ, ◌*◌, ◌^◌, ◌≤◌, sum_by, unsigned_abs, List, map, Option, Some, None}
 use Rattle.simm_kinds.specs.declared.kinds.ProductClass.{ProductClass}
 use Rattle.simm_kinds.specs.declared.bucket.Bucket.{Bucket}
 use Rattle.simm_kinds.specs.declared.key.FactorKey.{FactorKey}
@@ -16,10 +16,8 @@ use Rattle.factor_book.specs.Factors.{net_of}
 use Rattle.factor_book.specs.Places.{factors_at}
 use Rattle.name_delta.specs.Names.{priced_risk_class}
 use Rattle.name_delta.specs.Values.{nets_in, IsInRange}
-use Rattle.weighted_bucket.specs.declared.group.Grouped.{Grouped}
-use Rattle.weighted_bucket.specs.Group.{at}
 use Rattle.vega_margin.specs.declared.names.NameNet.{NameNet}
-use Rattle.vega_margin.specs.Together.{summed, vega_risk}
+use Rattle.vega_margin.specs.Together.{summed}
 
 -- where they stand
 abbrev pub names_place : PricedClass → Bucket → ProductClass → Place
@@ -63,16 +61,3 @@ net_view n = record { of = n.name.now; amount = n.net }
 
 abbrev pub nets_view : List NameNet → List (Amount (List ℕ))
 nets_view nets = map net_view nets
-
--- ---- each name is a group by itself
-
-abbrev pub single_group : ℕ → ℤ → ℤ → Grouped
-single_group place x threshold = record { group = place; x = x; threshold = threshold }
-
--- the vega risk of a name, in the group of its number
-abbrev pub name_group : ℤ → ℤ → ℤ → ℕ → ℤ → Grouped
-name_group hvr sigma threshold place net = single_group place (vega_risk hvr sigma net) threshold
-
-pub record AreGrouped (hvr sigma threshold : ℤ) (nets : List ℤ) (grouped : List Grouped) : Type 0 where
-  pub count : length grouped ≡ length nets
-  pub each : (k : ℕ) → k < length nets → at grouped k ≡ name_group hvr sigma threshold k (slice_index_or nets k (pos 0))

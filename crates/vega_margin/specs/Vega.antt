@@ -14,6 +14,7 @@ use Rattle.simm_rules.specs.Risks.{CreditClass, Qualifying, Non_qualifying, Pric
 use Rattle.simm_rules.specs.Rates.{currency_vega_value}
 use Rattle.simm_rules.specs.Credit.{credit_params, credit_vega_value}
 use Rattle.simm_rules.specs.Priced.{names_of, priced_params, price_vega_value}
+use Rattle.simm_rules.specs.ForeignExchange.{pairs_of, fx_sigma, fx_vega_value}
 use Rattle.factor_book.specs.declared.at.BucketAt.{BucketAt}
 use Rattle.factor_book.specs.declared.holding.Holding.{Holding}
 use Rattle.simm_params.specs.ListedBuckets.{credit_bucket_of, priced_bucket_of}
@@ -21,6 +22,7 @@ use Rattle.name_delta.specs.Ids.{listed_id}
 use Rattle.name_delta.specs.Values.{IsInRange}
 use Rattle.vega_margin.specs.Credit.{points_of}
 use Rattle.vega_margin.specs.Priced.{name_volatilities, IsPricedInRange}
+use Rattle.vega_margin.specs.Pairs.{pair_volatilities, ArePairsInRange}
 use Rattle.vega_margin.specs.Rates.{volatilities_of}
 use Rattle.vega_margin.specs.Values.{alone, IsSized}
 
@@ -42,13 +44,19 @@ priced_vega_at p class None product factors = None
 priced_vega_at p class (Some at) product factors =
     option_map (λ b. price_vega_value (priced_params p class).hvr b (name_volatilities class at product factors)) (priced_bucket_of (priced_params p class).buckets at)
 
+abbrev pub fx_vega_at : Params → BucketId → ProductClass → List (FactorKey × Holding) → Option BucketMargin
+fx_vega_at p (id.Number n) product factors = None
+fx_vega_at p id.Residual product factors = None
+fx_vega_at p (id.Currency currency) product factors = None
+fx_vega_at p id.Single product factors = Some (fx_vega_value p (pair_volatilities product factors))
+
 abbrev pub vega_by_class : Params → RiskClass → BucketId → ProductClass → List (FactorKey × Holding) → Option BucketMargin
 vega_by_class p class.IR b product factors = rate_vega_at p b product factors
 vega_by_class p class.CreditQ b product factors = credit_vega_at p Qualifying (listed_id b) product factors
 vega_by_class p class.CreditNonQ b product factors = credit_vega_at p Non_qualifying (listed_id b) product factors
 vega_by_class p class.Equity b product factors = priced_vega_at p Equities (listed_id b) product factors
 vega_by_class p class.Commodity b product factors = priced_vega_at p Commodities (listed_id b) product factors
-vega_by_class p class.FX b product factors = None
+vega_by_class p class.FX b product factors = fx_vega_at p b product factors
 
 abbrev pub vega_value : Params → BucketAt → List (FactorKey × Holding) → Option BucketMargin
 vega_value p at factors = vega_by_class p at.class at.bucket at.product factors
@@ -71,13 +79,19 @@ IsPricedReady p class None product factors = ⊥
 IsPricedReady p class (Some at) product factors =
     IsSomeAnd (priced_bucket_of (priced_params p class).buckets at) (λ b. IsPricedInRange b (name_volatilities class at product factors))
 
+abbrev pub IsFxReady : Params → BucketId → ProductClass → List (FactorKey × Holding) → Type 0
+IsFxReady p (id.Number n) product factors = ⊥
+IsFxReady p id.Residual product factors = ⊥
+IsFxReady p (id.Currency currency) product factors = ⊥
+IsFxReady p id.Single product factors = ArePairsInRange p (pair_volatilities product factors)
+
 abbrev pub IsReadyByClass : Params → RiskClass → BucketId → ProductClass → List (FactorKey × Holding) → Type 0
 IsReadyByClass p class.IR b product factors = IsRateReady b product factors
 IsReadyByClass p class.CreditQ b product factors = IsCreditReady p Qualifying (listed_id b) product factors
 IsReadyByClass p class.CreditNonQ b product factors = IsCreditReady p Non_qualifying (listed_id b) product factors
 IsReadyByClass p class.Equity b product factors = IsPricedReady p Equities (listed_id b) product factors
 IsReadyByClass p class.Commodity b product factors = IsPricedReady p Commodities (listed_id b) product factors
-IsReadyByClass p class.FX b product factors = ⊥
+IsReadyByClass p class.FX b product factors = IsFxReady p b product factors
 
 abbrev pub IsReady : Params → BucketAt → List (FactorKey × Holding) → Type 0
 IsReady p at factors = IsReadyByClass p at.class at.bucket at.product factors
@@ -99,13 +113,19 @@ IsPricedSized p class None product factors value = ⊥
 IsPricedSized p class (Some at) product factors value =
     IsSomeAnd (priced_bucket_of (priced_params p class).buckets at) (λ b. IsSized (λ _. b.sigma) (name_volatilities class at product factors) value)
 
+abbrev pub IsFxSized : Params → BucketId → ProductClass → List (FactorKey × Holding) → BucketMargin → Type 0
+IsFxSized p (id.Number n) product factors value = ⊥
+IsFxSized p id.Residual product factors value = ⊥
+IsFxSized p (id.Currency currency) product factors value = ⊥
+IsFxSized p id.Single product factors value = IsSized (λ v. fx_sigma p v.pair) (pair_volatilities product factors) value
+
 abbrev pub IsSizedByClass : Params → RiskClass → BucketId → ProductClass → List (FactorKey × Holding) → BucketMargin → Type 0
 IsSizedByClass p class.IR b product factors value = IsRateSized b product factors value
 IsSizedByClass p class.CreditQ b product factors value = IsCreditSized Qualifying (listed_id b) product factors value
 IsSizedByClass p class.CreditNonQ b product factors value = IsCreditSized Non_qualifying (listed_id b) product factors value
 IsSizedByClass p class.Equity b product factors value = IsPricedSized p Equities (listed_id b) product factors value
 IsSizedByClass p class.Commodity b product factors value = IsPricedSized p Commodities (listed_id b) product factors value
-IsSizedByClass p class.FX b product factors value = ⊥
+IsSizedByClass p class.FX b product factors value = IsFxSized p b product factors value
 
 abbrev pub IsVegaSized : Params → BucketAt → List (FactorKey × Holding) → BucketMargin → Type 0
 IsVegaSized p at factors value = IsSizedByClass p at.class at.bucket at.product factors value
@@ -126,13 +146,19 @@ abbrev pub name_count : PricedClass → Option Bucket → ProductClass → List 
 name_count class None product factors = 0
 name_count class (Some at) product factors = length (names_of (name_volatilities class at product factors))
 
+abbrev pub pair_count : BucketId → ProductClass → List (FactorKey × Holding) → ℕ
+pair_count (id.Number n) product factors = 0
+pair_count id.Residual product factors = 0
+pair_count (id.Currency currency) product factors = 0
+pair_count id.Single product factors = length (pairs_of (pair_volatilities product factors))
+
 abbrev pub count_by_class : RiskClass → BucketId → ProductClass → List (FactorKey × Holding) → ℕ
 count_by_class class.IR b product factors = rate_count b product factors
 count_by_class class.CreditQ b product factors = point_count Qualifying (listed_id b) product factors
 count_by_class class.CreditNonQ b product factors = point_count Non_qualifying (listed_id b) product factors
 count_by_class class.Equity b product factors = name_count Equities (listed_id b) product factors
 count_by_class class.Commodity b product factors = name_count Commodities (listed_id b) product factors
-count_by_class class.FX b product factors = 0
+count_by_class class.FX b product factors = pair_count b product factors
 
 abbrev pub factor_count : BucketAt → List (FactorKey × Holding) → ℕ
 factor_count at factors = count_by_class at.class at.bucket at.product factors

@@ -1,22 +1,29 @@
 //! What the margins of classes depend on.
-ghost use Rattle.std.specs.Prelude.{◌≡◌, Bool, ℕ, false, List, [], ℤ, pos, ◌≤ℤ◌};
-ghost use Rattle.std.specs.List.{filter};
+ghost use Rattle.std.specs.Prelude.{◌≡◌, ◌*◌, ◌^◌, ◌≤◌, Bool, ℕ, true, false, List, [], map, length, sum_by, unsigned_abs, ℤ, pos, ◌≤ℤ◌};
+ghost use Rattle.std.specs.List.{filter, list_all};
 ghost use Rattle.simm_kinds.specs.declared.bucket.Bucket.{Bucket as AnyBucket};
+ghost use Rattle.simm_kinds.specs.declared.kinds.BucketId.TheVariants as id;
 ghost use Rattle.simm_kinds.specs.declared.kinds.ProductClass.{ProductClass as AnyProduct};
+ghost use Rattle.simm_kinds.specs.declared.kinds.RiskClass.TheVariants as class;
+ghost use Rattle.simm_kinds.specs.declared.key.FactorKey.{FactorKey};
 ghost use Rattle.simm_kinds.specs.declared.row.CrifRow.{CrifRow as Row};
+ghost use Rattle.simm_kinds.specs.Batch.{is_in_range};
 ghost use Rattle.simm_rules.specs.Params.{CreditParams, PricedParams, Params as ParamsValue};
 ghost use Rattle.simm_rules.specs.Net.{Sensitivity, sensitivities, in_product};
 ghost use Rattle.simm_rules.specs.Risks.{CreditClass, PricedClass, select};
 ghost use Rattle.simm_rules.specs.Gross.{size_by};
 ghost use Rattle.simm_rules.specs.Across.{margin_over};
-ghost use Rattle.simm_rules.specs.Rates.{as_rate_volatility, rate_vega};
+ghost use Rattle.simm_rules.specs.Rates.{as_rate_volatility, volatilities_in, volatility_currencies, rate_vega};
 ghost use Rattle.simm_rules.specs.Credit.{as_credit_volatility, listed_credit, credit_vega_parts, credit_vega};
-ghost use Rattle.simm_rules.specs.ForeignExchange.{as_pair_volatility, fx_vega};
+ghost use Rattle.simm_rules.specs.ForeignExchange.{as_pair_volatility, fx_sigma, fx_vega};
 ghost use Rattle.simm_rules.specs.Priced.{as_price_volatility, listed_priced, price_vega_parts, price_vega};
+ghost use Rattle.factor_book.specs.declared.holding.Holding.{Holding};
 ghost use Rattle.factor_book.specs.Factors.{factors_of};
-ghost use Rattle.ir_delta.specs.Parts.{margin_over as over_currencies};
-ghost use Rattle.vega_margin.specs.Combine.{currency_buckets};
+ghost use Rattle.ir_delta.specs.Parts.{AreParts, margin_over as over_currencies};
+ghost use Rattle.name_delta.specs.Values.{nets_in, IsInRange};
+ghost use Rattle.vega_margin.specs.Combine.{currency_buckets, volatility_buckets, IsRateClass};
 ghost use Rattle.vega_margin.specs.Credit.{points_of};
+ghost use Rattle.vega_margin.specs.Pairs.{pair_volatilities};
 ghost use Rattle.vega_margin.specs.Priced.{name_volatilities};
 ghost use Rattle.vega_margin.specs.Rates.{volatilities_of};
 ghost use Rattle.vega_margin.specs.Values.{alone};
@@ -24,10 +31,23 @@ ghost use Rattle.vega_margin.specs.Values.{alone};
 use factor_book::factors_are_netted;
 use simm_params::Params;
 
-/// The margin over the buckets of the currencies that have a volatility is the rule's vega margin of interest rates. It does
+/// The margin over the buckets of the currencies that have a volatility is the rule's vega margin of interest rates. Where the
+/// volatilities of a product class are in range, so are those of each currency, and the buckets' margins can be joined. It does
 /// nothing.
 pub fn currencies_make_vega(params: &Params)
-    ensures { (ss : List Sensitivity) → over_currencies params.now (currency_buckets params.now ss) ≡ rate_vega params.now ss }
+    ensures whole { (ss : List Sensitivity) → over_currencies params.now (currency_buckets params.now ss) ≡ rate_vega params.now ss }
+    ensures each { (ss : List Sensitivity) → IsRateClass ss → (currency : List ℕ) → IsInRange alone (volatilities_in currency ss) }
+    ensures parts { (ss : List Sensitivity) → IsRateClass ss → AreParts (currency_buckets params.now ss) }
+{
+    params.facts();
+    params.rate_facts();
+}
+
+/// The buckets in which a product class has a volatility of rates or inflation are those of its currencies that have one, in
+/// order. It does nothing.
+pub fn volatilities_stand_by_currency()
+    ensures { (product : AnyProduct) (factors : List (FactorKey × Holding))
+        → volatility_buckets (record { product = product; class = class.IR }) factors ≡ map id.Currency (volatility_currencies (nets_in product factors)) }
 {}
 
 /// A bucket without sensitivities adds nothing to the vega margin of its class: the margin over some of the listed buckets,
@@ -43,15 +63,31 @@ pub fn empty_buckets_add_nothing()
     ensures pairs { (p : ParamsValue) (ss : List Sensitivity) → select as_pair_volatility ss ≡ [] → fx_vega p ss ≡ pos 0 }
 {}
 
-/// Netting makes no weighted size greater: what the volatilities of a book come to, weighted, in a bucket is at most what the
-/// rows' sensitivities come to, which is what the range of a book bounds. It does nothing.
-pub fn nets_are_no_larger()
+/// Netting makes no weighted size greater: what the volatilities of a book come to, weighted, in a bucket or in foreign exchange
+/// is at most what the rows' sensitivities come to, which is what the range of a book bounds. It does nothing.
+pub fn nets_are_no_larger(params: &Params)
+    ensures rates { (held : List Row) (product : AnyProduct)
+        → size_by alone (select as_rate_volatility (nets_in product (factors_of held))) ≤ℤ size_by alone (select as_rate_volatility (in_product product (sensitivities held))) }
     ensures volatilities { (held : List Row) (product : AnyProduct) (currency : List ℕ)
         → size_by alone (volatilities_of currency product (factors_of held)) ≤ℤ size_by alone (select as_rate_volatility (in_product product (sensitivities held))) }
     ensures points { (held : List Row) (product : AnyProduct) (class : CreditClass) (at : AnyBucket)
         → size_by alone (points_of class at product (factors_of held)) ≤ℤ size_by alone (select (as_credit_volatility class at) (in_product product (sensitivities held))) }
     ensures names { (held : List Row) (product : AnyProduct) (class : PricedClass) (at : AnyBucket) (sigma : ℤ) → pos 0 ≤ℤ sigma
         → size_by (λ _. sigma) (name_volatilities class at product (factors_of held)) ≤ℤ size_by (λ _. sigma) (select (as_price_volatility class at) (in_product product (sensitivities held))) }
+    ensures pairs { (held : List Row) (product : AnyProduct)
+        → size_by (λ v. fx_sigma params.now v.pair) (pair_volatilities product (factors_of held)) ≤ℤ size_by (λ v. fx_sigma params.now v.pair) (select as_pair_volatility (in_product product (sensitivities held))) }
+{
+    params.facts();
+    factors_are_netted();
+}
+
+/// The net changes for one unit of volatility of 200,000 rows, whose amounts are those that a batch can have, come to no more than
+/// that many amounts. It does nothing.
+pub fn changes_are_bounded()
+    ensures names { (held : List Row) (product : AnyProduct) (class : PricedClass) (at : AnyBucket) → list_all is_in_range held ≡ true → length held ≤ 200000
+        → sum_by (λ a. unsigned_abs a.amount) (name_volatilities class at product (factors_of held)) ≤ 2 * 10 ^ 20 }
+    ensures pairs { (held : List Row) (product : AnyProduct) → list_all is_in_range held ≡ true → length held ≤ 200000
+        → sum_by (λ a. unsigned_abs a.amount) (pair_volatilities product (factors_of held)) ≤ 2 * 10 ^ 20 }
 {
     factors_are_netted();
 }

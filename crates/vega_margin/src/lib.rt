@@ -5,15 +5,21 @@
 
 mod across;
 mod credit;
+mod fx;
 mod laws;
 mod names;
+mod pairs;
 mod priced;
 mod rate_rho;
 mod rates;
+mod singles;
 mod vega;
 mod volatility;
 mod weighing;
 
 pub use across::combine;
-pub use laws::{currencies_make_vega, empty_buckets_add_nothing, nets_are_no_larger};
+pub use laws::{
+    changes_are_bounded, currencies_make_vega, empty_buckets_add_nothing, nets_are_no_larger,
+    volatilities_stand_by_currency,
+};
 pub use vega::bucket;

@@ -1,20 +1,21 @@
 //! Equity and commodities: the names of a bucket, whose volatilities of all tenors are one factor, and each a concentration group by
 //! itself.
-ghost use Rattle.std.specs.Prelude.{◌≡◌, ◌+◌, ◌*◌, ◌^◌, ◌≤◌, Some, IfOk, IsSomeAnd, All, length, map, option_map, unsigned_abs};
+ghost use Rattle.std.specs.Prelude.{◌≡◌, ◌+◌, ◌*◌, ◌^◌, ◌≤◌, Some, IfOk, IsSomeAnd, All, length, option_map, unsigned_abs};
 ghost use Rattle.simm_rules.specs.Priced.{names_of, priced_params, price_vega_value};
 ghost use Rattle.simm_params.specs.ClassKinds.{priced_class};
 ghost use Rattle.simm_params.specs.ListedBuckets.{priced_bucket_of, priced_bucket_view};
 ghost use Rattle.simm_params.specs.Ranges.{hvrs, sigmas, IsWithin};
 ghost use Rattle.simm_params.specs.Weighed.{IsWeighedPriced};
 ghost use Rattle.factor_book.specs.Factors.{IsBook};
-ghost use Rattle.vega_margin.specs.Priced.{name_volatilities, names_place, single_group, AreGrouped, IsPricedInRange};
-ghost use Rattle.vega_margin.specs.Together.{vega_risk};
+ghost use Rattle.vega_margin.specs.Priced.{name_volatilities, names_place, nets_view, IsPricedInRange};
+ghost use Rattle.vega_margin.specs.Together.{AreGrouped};
 ghost use Rattle.vega_margin.specs.Values.{IsSized};
 
 use crate::names::{NameNet, name_sums};
+use crate::singles::{single_group, vega_risk};
 use crate::weighing::weigh_groups;
 use factor_book::{BookSide, Factors, Place};
-use mh_units::{Corr6, Rate4, div_away};
+use mh_units::{Corr6, Rate4};
 use name_delta::{EvenRho, bucket_id, in_millionths};
 use pair_sum::Steps;
 use simm_kinds::{Bucket, ProductClass, RiskClass};
@@ -128,7 +129,7 @@ fn group_names(
     requires hvr { IsWithin hvrs hvr.0 }
     requires sigma { IsWithin sigmas sigma.0 }
     requires small { All (λ n. unsigned_abs n.net ≤ 2 * 10 ^ 20) sums.now }
-    ensures { IfOk result (λ grouped. AreGrouped hvr.0 sigma.0 threshold (map (λ n. n.net) sums.now) grouped.items) }
+    ensures { IfOk result (λ grouped. AreGrouped hvr.0 (λ _. sigma.0) (λ _. threshold) (nets_view sums.now) grouped.items) }
 {
     let mut grouped = Vec::with_capacity(alloc, sums.len())?;
     for place in 0..sums.len() {
@@ -136,26 +137,4 @@ fn group_names(
         grouped.push(single_group(place, risk, threshold))?;
     }
     Ok(grouped)
-}
-
-// A name's group.
-fn single_group(place: usize, risk: i128, threshold: i64) -> Grouped
-    ensures { result ≡ single_group place risk threshold }
-{
-    Grouped {
-        group: place,
-        x: risk,
-        threshold,
-    }
-}
-
-// The historical volatility ratio times the volatility times the net change for one unit of volatility, away from zero to the cent.
-fn vega_risk(hvr: Rate4, sigma: Rate4, net: i128) -> i128
-    requires hvr { IsWithin hvrs hvr.0 }
-    requires sigma { IsWithin sigmas sigma.0 }
-    requires small { unsigned_abs net ≤ 2 * 10 ^ 20 }
-    ensures { result ≡ vega_risk hvr.0 sigma.0 net }
-{
-    let product = i128::from(hvr.0) * i128::from(sigma.0) * net;
-    div_away(product, 100_000_000)
 }

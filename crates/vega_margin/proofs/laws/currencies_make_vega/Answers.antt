@@ -1,5 +1,10 @@
 use Rattle.vega_margin.proofs.Idle.{whole}
+use Rattle.vega_margin.proofs.RateClass.{each_range, are_parts}
 use Rattle.vega_margin.proofs.laws.currencies_make_vega.Goals as goal
 
 pub returns : goal.returns
-returns c = whole c.args.params.now
+returns c = record {
+  whole = whole c.args.params.now;
+  each = λ ss its. each_range c.args.params.now c.facts.ensures.params c.rate_facts.ensures.weighed ss its;
+  parts = λ ss its. are_parts c.args.params.now c.facts.ensures.params c.rate_facts.ensures.weighed ss its;
+}

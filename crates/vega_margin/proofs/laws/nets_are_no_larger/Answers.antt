@@ -8,12 +8,14 @@ use Rattle.simm_rules.specs.Risks.{CreditPoint, Amount, select}
 use Rattle.simm_rules.specs.Gross.{size_by}
 use Rattle.simm_rules.specs.Rates.{VolatilityIn, as_rate_volatility}
 use Rattle.simm_rules.specs.Credit.{as_credit_volatility}
+use Rattle.simm_rules.specs.ForeignExchange.{PairVolatility, as_pair_volatility, fx_sigma}
 use Rattle.simm_rules.specs.Priced.{NameVolatility, as_price_volatility}
 use Rattle.factor_book.specs.Factors.{factors_of}
 use Rattle.name_delta.specs.Values.{nets_in}
 use Rattle.name_delta.proofs.Shrinking.{SizesAreNetted, nets_shrink, filter_shrinks}
 use Rattle.vega_margin.specs.Rates.{volatilities_of}
 use Rattle.vega_margin.specs.Values.{alone}
+use Rattle.vega_margin.proofs.Categories.{sigma_low}
 use Rattle.vega_margin.proofs.laws.nets_are_no_larger.Goals as goal
 
 -- 1 is not negative
@@ -27,7 +29,10 @@ of_currency rows sizes product currency =
 
 pub returns : goal.returns
 returns c = record {
+  rates = λ held product. nets_shrink as_rate_volatility alone low held (c.factors_are_netted.ensures.sizes held) product;
   volatilities = λ held product currency. of_currency held (c.factors_are_netted.ensures.sizes held) product currency;
   points = λ held product class at. nets_shrink (as_credit_volatility class at) (λ (x : CreditPoint). alone x) low held (c.factors_are_netted.ensures.sizes held) product;
   names = λ held product class at sigma least. nets_shrink (as_price_volatility class at) (λ (x : NameVolatility). sigma) (λ x. least) held (c.factors_are_netted.ensures.sizes held) product;
+  pairs = λ held product.
+      nets_shrink as_pair_volatility (λ (v : PairVolatility). fx_sigma c.args.params.now v.pair) (λ v. sigma_low c.args.params.now c.facts.ensures.params v.pair) held (c.factors_are_netted.ensures.sizes held) product;
 }

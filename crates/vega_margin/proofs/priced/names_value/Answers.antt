@@ -1,19 +1,16 @@
 use Rattle.std.proofs.Common.{◌≡◌, ◌∙◌, ◌+◌, ◌*◌, ◌≤◌, ℕ, List, map, length, refl, ap, sym, subst, pos, ◌<ℤ◌, ◌≤ℤ◌, FitsSigned, rules, arith}
 use Rattle.std.specs.Int.{w64}
 use Rattle.std.proofs.lemmas.Int.{ints}
-use Rattle.std.proofs.lemmas.List.{length-map}
 use Rattle.mh_units.proofs.Integers.{same64}
-use Rattle.simm_rules.specs.Risks.{Amount}
 use Rattle.simm_rules.specs.Concentration.{one}
-use Rattle.simm_rules.specs.Priced.{NameVolatility, names_of, weighted_name}
+use Rattle.simm_rules.specs.Priced.{NameVolatility, names_of}
 use Rattle.simm_params.specs.ClassKinds.{priced_class}
 use Rattle.simm_params.specs.ListedBuckets.{priced_bucket_view}
 use Rattle.name_delta.specs.Points.{weighed_in}
-use Rattle.name_delta.specs.Values.{weighed_as}
 use Rattle.name_delta.proofs.Sizes.{size_all}
 use Rattle.vega_margin.specs.Priced.{name_volatilities}
 use Rattle.vega_margin.proofs.NamesRead.{nets_small, sums_small, groups_read}
-use Rattle.vega_margin.proofs.NameValues.{risk_of, all_is, names_risks, names_counted, names_can_weigh, names_made, names_value}
+use Rattle.vega_margin.proofs.NameValues.{all_is, names_risks, names_counted, names_can_weigh, names_weighed, names_value}
 use Rattle.vega_margin.proofs.Sizes.{factors_from_one, factors_below, factors_in_range, factors_sized}
 use Rattle.vega_margin.proofs.priced.names_value.Goals as goal
 
@@ -103,7 +100,7 @@ returns-clause-value g c =
     let can = names_can_weigh hvr sigma threshold c.requires.hvr low c.requires.weighed.terms.vega amounts c.requires.in_range.weighed c.as_slice-2.result.now groups in
     let made : c.as_slice-3.result.now ≡ map (weighed_in vrw c.as_slice-2.result.now) c.as_slice-2.result.now = c.as_slice-3.ensures.value ∙ c.in_ok-weighed.ensures in
     c.bucket_margin.ensures.value
-    ∙ names_value hvr sigma threshold c.requires.hvr low c.requires.weighed.terms.vega amounts c.requires.in_range.weighed c.as_slice-2.result.now groups vrw (priced_bucket_view c.args.bucket.now) c.in_millionths.result.0 c.as_slice-3.result.now refl refl refl c.in_millionths.ensures.value made
+    ∙ names_value hvr sigma threshold c.requires.hvr low c.requires.weighed.terms.vega amounts c.requires.in_range.weighed c.as_slice-2.result.now groups vrw c.as_slice-3.result.now made (priced_bucket_view c.args.bucket.now) c.in_millionths.result.0 refl refl refl c.in_millionths.ensures.value
 
 pub returns-clause-sizes : goal.returns-clause-sizes
 returns-clause-sizes g c =
@@ -140,6 +137,5 @@ returns-clause-steps g c =
     let low = c.requires.weighed.sigma.low in
     let can = names_can_weigh hvr sigma threshold c.requires.hvr low c.requires.weighed.terms.vega amounts c.requires.in_range.weighed c.as_slice-2.result.now groups in
     let made : c.as_slice-3.result.now ≡ map (weighed_in vrw c.as_slice-2.result.now) c.as_slice-2.result.now = c.as_slice-3.ensures.value ∙ c.in_ok-weighed.ensures in
-    let all = names_made hvr sigma threshold c.requires.hvr low c.requires.weighed.terms.vega amounts c.requires.in_range.weighed c.as_slice-2.result.now groups vrw c.as_slice-3.result.now made in
-    let count : length c.as_slice-3.result.now ≡ length (names_of amounts) = ap length all ∙ length-map (map (risk_of hvr sigma threshold c.requires.hvr low c.requires.weighed.terms.vega amounts c.requires.in_range.weighed) (names_of amounts)) (λ a. weighed_as (weighted_name vrw threshold a.of a.amount)) ∙ length-map (names_of amounts) (risk_of hvr sigma threshold c.requires.hvr low c.requires.weighed.terms.vega amounts c.requires.in_range.weighed) in
+    let count : length c.as_slice-3.result.now ≡ length (names_of amounts) = names_weighed hvr sigma threshold c.requires.hvr low c.requires.weighed.terms.vega amounts c.requires.in_range.weighed c.as_slice-2.result.now groups vrw c.as_slice-3.result.now made in
     subst (λ n. c.bucket_margin.new.steps ≤ c.args.steps.now + n * n) count c.bucket_margin.ensures.at_most

@@ -1,4 +1,4 @@
--- Names that are groups by themselves: their vega risks, concentration factors and sizes.
+-- Things that are groups by themselves: their vega risks, concentration factors and sizes.
 use Rattle.std.proofs.Common.{◌≡◌, ◌^◌, ℕ, zero, suc, ◌+◌, ◌*◌, ◌/◌, ◌<◌, ◌≤◌, List, [], ◌∷◌, ◌++◌, map, length, get_or, true, false, ◌==◌, cond, refl, sym, ap, ◌∙◌, subst, ℤ, pos, negsuc, ◌+ℤ◌, ◌*ℤ◌, ◌≤ℤ◌, unsigned_abs, FitsSigned, All, arith, ⊎_elim, mul-le-mul_left, mul-le-mul_right}
 use Rattle.std.specs.Prelude.{sum_by}
 use Rattle.std.specs.Int.{w128}
@@ -8,45 +8,47 @@ use Rattle.std.proofs.Math.Seq.{get_or-append_seam}
 use Rattle.std.proofs.lemmas.Bool.{cases_lt, eq-eqb, ne_eqb}
 use Rattle.std.proofs.lemmas.Int.{ints, unsigned_abs-mul, fits_signed_from_abs}
 use Rattle.std.proofs.lemmas.Nat.{div-add-mod'}
-use Rattle.std.proofs.lemmas.List.{get_or_append_left, length-append}
+use Rattle.std.proofs.lemmas.List.{get_or_append_left, get_or_default, length-append}
 use Rattle.mh_units.specs.Rounding.{away}
 use Rattle.mh_units.proofs.Integers.{unsigned_abs-neg, product_size}
 use Rattle.simm_rules.specs.Sums.{total_by}
 use Rattle.simm_params.specs.Ranges.{hvrs, sigmas, IsWithin}
 use Rattle.weighted_bucket.specs.declared.group.Grouped.{Grouped}
 use Rattle.weighted_bucket.specs.Group.{at, group_net}
-use Rattle.vega_margin.specs.Priced.{name_group, AreGrouped}
-use Rattle.vega_margin.specs.Together.{vega_risk}
+use Rattle.simm_rules.specs.Risks.{Amount}
+use Rattle.vega_margin.specs.Together.{vega_risk, own_group, AreGrouped}
 
 -- ---- as they are made
 
-pub record Grouping (hvr sigma threshold : ℤ) (nets : List ℤ) (place : ℕ) (grouped : List Grouped) : Type 0 where
-  pub count : length grouped ≡ place
-  pub each : (k : ℕ) → k < place → at grouped k ≡ name_group hvr sigma threshold k (get_or nets k (pos 0))
+module _ {A : Type 0} (hvr : ℤ) (sigma threshold : A → ℤ) (sums : List (Amount A)) where
+  pub record Grouping (place : ℕ) (grouped : List Grouped) : Type 0 where
+    pub count : length grouped ≡ place
+    pub each : (k : ℕ) (none : Amount A) → k < place → at grouped k ≡ own_group hvr sigma threshold k (get_or sums k none)
 
-pub grouping_next : (hvr sigma threshold : ℤ) (nets : List ℤ) (place : ℕ) (grouped more : List Grouped) (g : Grouped) → Grouping hvr sigma threshold nets place grouped → more ≡ grouped ++ g ∷ [] → g ≡ name_group hvr sigma threshold place (get_or nets place (pos 0)) → Grouping hvr sigma threshold nets (place + 1) more
-grouping_next hvr sigma threshold nets place grouped more g so_far grown is = record {
-  count = omega (arith, ap length grown, length-append grouped (g ∷ []), so_far.count);
-  each = λ k h. ap (λ gs. at gs k) grown ∙ ⊎_elim (earlier k) (own k h) (cases_lt k place);
-}
-  where
-    none : Grouped
-    none = record { group = 0; x = pos 0; threshold = pos 0 }
+  pub grouping_next : (place : ℕ) (grouped more : List Grouped) (g : Grouped) (sum : Amount A) → Grouping place grouped → place < length sums → more ≡ grouped ++ g ∷ [] → sum ≡ get_or sums place sum → g ≡ own_group hvr sigma threshold place sum → Grouping (place + 1) more
+  grouping_next place grouped more g sum so_far inside grown there is = record {
+    count = omega (arith, ap length grown, length-append grouped (g ∷ []), so_far.count);
+    each = λ k none h. ap (λ gs. at gs k) grown ∙ ⊎_elim (earlier k none) (own k none h) (cases_lt k place);
+  }
+    where
+      no_group : Grouped
+      no_group = record { group = 0; x = pos 0; threshold = pos 0 }
 
-    earlier : (k : ℕ) → k < place → at (grouped ++ g ∷ []) k ≡ name_group hvr sigma threshold k (get_or nets k (pos 0))
-    earlier k h = get_or_append_left grouped (g ∷ []) none k (omega (arith, so_far.count)) ∙ so_far.each k h
+      earlier : (k : ℕ) (none : Amount A) → k < place → at (grouped ++ g ∷ []) k ≡ own_group hvr sigma threshold k (get_or sums k none)
+      earlier k none h = get_or_append_left grouped (g ∷ []) no_group k (omega (arith, so_far.count)) ∙ so_far.each k none h
 
-    own : (k : ℕ) → k < place + 1 → place ≤ k → at (grouped ++ g ∷ []) k ≡ name_group hvr sigma threshold k (get_or nets k (pos 0))
-    own k h above =
-        let here : k ≡ length grouped = omega (arith, so_far.count) in
-        let there : place ≡ k = omega arith in
-        ap (at (grouped ++ g ∷ [])) here ∙ get_or-append_seam grouped g [] none ∙ is ∙ ap (λ n. name_group hvr sigma threshold n (get_or nets n (pos 0))) there
+      own : (k : ℕ) (none : Amount A) → k < place + 1 → place ≤ k → at (grouped ++ g ∷ []) k ≡ own_group hvr sigma threshold k (get_or sums k none)
+      own k none h above =
+          let here : k ≡ length grouped = omega (arith, so_far.count) in
+          let itself : place ≡ k = omega arith in
+          ap (at (grouped ++ g ∷ [])) here ∙ get_or-append_seam grouped g [] no_group ∙ is ∙ ap (own_group hvr sigma threshold place) (there ∙ get_or_default sums place sum none inside)
+          ∙ ap (λ n. own_group hvr sigma threshold n (get_or sums n none)) itself
 
-pub all_grouped : (hvr sigma threshold : ℤ) (nets : List ℤ) (place n : ℕ) (grouped : List Grouped) → Grouping hvr sigma threshold nets place grouped → place ≡ n → n ≡ length nets → AreGrouped hvr sigma threshold nets grouped
-all_grouped hvr sigma threshold nets place n grouped g done all = record {
-  count = omega (arith, g.count, done, all);
-  each = λ k h. g.each k (omega (arith, done, all));
-}
+  pub all_grouped : (place n : ℕ) (grouped : List Grouped) → Grouping place grouped → place ≡ n → n ≡ length sums → AreGrouped hvr sigma threshold sums grouped
+  all_grouped place n grouped g done all = record {
+    count = omega (arith, g.count, done, all);
+    each = λ k none h. g.each k none (omega (arith, done, all));
+  }
 
 -- ---- each is the one of its group
 

@@ -2,8 +2,8 @@ use Rattle.std.proofs.Common.{◌≡◌, ◌∙◌, ap, sym, subst, pos, ◌^◌
 use Rattle.std.specs.Int.{w128, w64, cast_signed, cast_unsigned}
 use Rattle.mh_units.specs.Rounding.{away}
 use Rattle.mh_units.proofs.Integers.{same128, same64}
-use Rattle.vega_margin.proofs.NameGroups.{pair_fits, risk_fits}
-use Rattle.vega_margin.proofs.priced.vega_risk.Goals as goal
+use Rattle.vega_margin.proofs.OwnGroups.{pair_fits, risk_fits}
+use Rattle.vega_margin.proofs.singles.vega_risk.Goals as goal
 
 pub overflow_mul-product-2 : goal.overflow_mul-product-2
 overflow_mul-product-2 c =

@@ -1,0 +1,54 @@
+-- The nets of the rows of a book are together no greater than so many amounts that a batch can have.
+use Rattle.std.proofs.Common.{◌≡◌, ◌^◌, ℕ, ◌+◌, ◌*◌, ◌≤◌, List, [], ◌∷◌, length, Option, Some, None, true, sym, ap, subst, refl, ℤ, pos, ◌≤ℤ◌, unsigned_abs, arith, mul-le-mul_right}
+use Rattle.std.specs.Prelude.{sum_by}
+use Rattle.std.specs.List.{filter, list_all}
+use Rattle.std.proofs.lemmas.Int.{ints}
+use Rattle.std.proofs.lemmas.List.Sums.{sum_by-cons, length-filter, count_by-le-length}
+use Rattle.simm_kinds.specs.declared.kinds.ProductClass.{ProductClass}
+use Rattle.simm_kinds.specs.declared.row.CrifRow.{CrifRow}
+use Rattle.simm_kinds.specs.Batch.{is_in_range}
+use Rattle.simm_kinds.specs.Order.{same_product}
+use Rattle.simm_rules.specs.Net.{Sensitivity, sensitivities, in_product}
+use Rattle.simm_rules.specs.Risks.{Risk, risk, Amount, select}
+use Rattle.simm_rules.specs.Gross.{size_by}
+use Rattle.factor_book.specs.Factors.{factors_of}
+use Rattle.factor_book.specs.Filing.{AreSmall}
+use Rattle.factor_book.specs.Holdings.{IsSmall}
+use Rattle.factor_book.proofs.Rows.{small_rows, length-sensitivities}
+use Rattle.name_delta.specs.Values.{nets_in}
+use Rattle.name_delta.proofs.Lists.{each_kept}
+use Rattle.name_delta.proofs.Selected.{select_none, select_some}
+use Rattle.name_delta.proofs.Shrinking.{SizesAreNetted, nets_shrink}
+use Rattle.name_delta.proofs.Sizes.{sum_by-scaled, size_is}
+
+module _ {A : Type 0} (sort : Risk → Option A) where
+  abbrev size : Amount A → ℕ
+  size a = unsigned_abs a.amount
+
+  select_small : (ss : List Sensitivity) → AreSmall ss → sum_by (λ a. unsigned_abs a.amount) (select sort ss) ≤ length ss * 10 ^ 15
+  select_small [] h = omega arith
+  select_small (s ∷ ss) h = by (sort (risk s.key.factor)) refl (select_small ss h.1)
+    where
+      by : (o : Option A) → sort (risk s.key.factor) ≡ o → sum_by size (select sort ss) ≤ length ss * 10 ^ 15 → sum_by size (select sort (s ∷ ss)) ≤ length (s ∷ ss) * 10 ^ 15
+      by None e i = omega (arith, i, ap (sum_by size) (select_none sort s ss e))
+      by (Some x) e i = omega (arith, i, h.0, ap (sum_by size) (select_some sort s ss x e), sum_by-cons size (record { of = x; amount = s.amount }) (select sort ss))
+
+  alone : (amounts : List (Amount A)) → size_by (λ x. pos 1) amounts ≡ pos (sum_by size amounts * 1)
+  alone amounts = subst (λ n. size_by (λ x. pos 1) amounts ≡ pos n) (sum_by-scaled size 1 amounts) (size_is (λ (x : A). pos 1) (λ x. omega (arith, ints)) amounts)
+
+  -- so those of 200,000 rows
+  pub nets_bounded : (held : List CrifRow) → SizesAreNetted held → (product : ProductClass) → list_all is_in_range held ≡ true → length held ≤ 200000 → sum_by (λ a. unsigned_abs a.amount) (select sort (nets_in product (factors_of held))) ≤ 2 * 10 ^ 20
+  nets_bounded held sizes product small few =
+      let ss = sensitivities held in
+      let own = in_product product ss in
+      let rows : AreSmall own = each_kept (λ s. IsSmall s.amount) (λ s. same_product s.key.product product) ss (small_rows held small) in
+      let fewer : length own ≤ 200000 = omega (arith, length-filter (λ (s : Sensitivity). same_product s.key.product product) ss, count_by-le-length (λ (s : Sensitivity). same_product s.key.product product) ss, length-sensitivities held, few) in
+      omega (
+        arith,
+        ints,
+        nets_shrink sort (λ (x : A). pos 1) (λ x. omega (arith, ints)) held sizes product,
+        alone (select sort (nets_in product (factors_of held))),
+        alone (select sort own),
+        select_small own rows,
+        mul-le-mul_right (10 ^ 15) fewer,
+      )
