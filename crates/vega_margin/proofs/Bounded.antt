@@ -1,7 +1,7 @@
 -- The nets of the rows of a book are together no greater than so many amounts that a batch can have.
-use Rattle.std.proofs.Common.{◌≡◌, ◌^◌, ℕ, ◌+◌, ◌*◌, ◌≤◌, List, [], ◌∷◌, length, Option, Some, None, true, sym, ap, subst, refl, ℤ, pos, ◌≤ℤ◌, unsigned_abs, arith, mul-le-mul_right}
+use Rattle.std.proofs.Common.{◌≡◌, ◌^◌, ℕ, ◌*◌, ◌≤◌, List, [], ◌∷◌, length, Option, Some, None, true, ap, subst, refl, pos, unsigned_abs, arith, mul-le-mul_right}
 use Rattle.std.specs.Prelude.{sum_by}
-use Rattle.std.specs.List.{filter, list_all}
+use Rattle.std.specs.List.{list_all}
 use Rattle.std.proofs.lemmas.Int.{ints}
 use Rattle.std.proofs.lemmas.List.Sums.{sum_by-cons, length-filter, count_by-le-length}
 use Rattle.simm_kinds.specs.declared.kinds.ProductClass.{ProductClass}

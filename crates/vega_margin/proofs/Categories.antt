@@ -1,5 +1,5 @@
 -- What the categories of a pair's currencies say of its volatilities.
-use Rattle.std.proofs.Common.{◌≡◌, ℕ, Bool, true, false, cond, ◌&&◌, ◌||◌, if◌then◌else◌, List, ℤ, pos, ◌≤ℤ◌, refl, ap, ◌∙◌}
+use Rattle.std.proofs.Common.{◌≡◌, ℕ, Bool, true, false, ◌&&◌, ◌||◌, if◌then◌else◌, List, pos, ◌≤ℤ◌, refl, ap, ◌∙◌}
 use Rattle.simm_kinds.specs.Pair.{Pair}
 use Rattle.simm_rules.specs.Params.{Params}
 use Rattle.simm_rules.specs.Lookups.{is_listed}

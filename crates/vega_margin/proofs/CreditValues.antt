@@ -1,5 +1,5 @@
 -- The vega value of a bucket of credit, by the groups of its issuers.
-use Rattle.std.proofs.Common.{◌≡◌, ◌≢◌, ◌^◌, ℕ, ◌+◌, ◌*◌, ◌<◌, ◌≤◌, List, [], map, length, get_or, Bool, true, false, ◌==◌, if◌then◌else◌, refl, sym, ap, ◌∙◌, subst, ℤ, pos, ◌≤ℤ◌, unsigned_abs, arith}
+use Rattle.std.proofs.Common.{◌≡◌, ◌≢◌, ◌^◌, ℕ, ◌+◌, ◌*◌, ◌<◌, ◌≤◌, List, [], map, length, get_or, Bool, true, false, if◌then◌else◌, refl, sym, ap, ◌∙◌, ℤ, pos, unsigned_abs, arith}
 use Rattle.std.specs.Prelude.{sum_by}
 use Rattle.std.specs.List.Sorted.{IsStrictlySortedBy}
 use Rattle.std.proofs.lemmas.Int.{ints}

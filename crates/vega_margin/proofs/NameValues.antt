@@ -1,5 +1,5 @@
 -- The vega value of a bucket of names.
-use Rattle.std.proofs.Common.{◌≡◌, ◌^◌, ℕ, ◌+◌, ◌*◌, ◌≤◌, List, [], map, length, refl, sym, ap, ◌∙◌, ℤ, pos, ◌≤ℤ◌, unsigned_abs}
+use Rattle.std.proofs.Common.{◌≡◌, ◌^◌, ◌+◌, ◌*◌, ◌≤◌, List, [], map, length, refl, sym, ap, ◌∙◌, ℤ, pos, ◌≤ℤ◌, unsigned_abs}
 use Rattle.std.specs.Prelude.{sum_by}
 use Rattle.std.proofs.lemmas.Cmp.{nat_list_cmp_total}
 use Rattle.std.proofs.lemmas.Map.Lookups.{exact_bytes}
@@ -12,7 +12,7 @@ use Rattle.simm_rules.specs.Concentration.{one}
 use Rattle.simm_rules.specs.Bucket.{concentrated}
 use Rattle.simm_rules.specs.Bucket.{bucket_value as value_of_factors}
 use Rattle.simm_rules.specs.Gross.{size_by}
-use Rattle.simm_rules.specs.Priced.{NameVolatility, names_of, tenors_of, price_vega_risk, name_rho, weighted_name, price_vega_value}
+use Rattle.simm_rules.specs.Priced.{NameVolatility, names_of, tenors_of, price_vega_risk, weighted_name, price_vega_value}
 use Rattle.simm_params.specs.Facts.{IsWeighed}
 use Rattle.simm_params.specs.Ranges.{hvrs, IsWithin}
 use Rattle.weighted_bucket.specs.declared.group.Grouped.{Grouped}

@@ -1,9 +1,7 @@
 -- Things that are groups by themselves: their vega risks, concentration factors and sizes.
-use Rattle.std.proofs.Common.{◌≡◌, ◌^◌, ℕ, zero, suc, ◌+◌, ◌*◌, ◌/◌, ◌<◌, ◌≤◌, List, [], ◌∷◌, ◌++◌, map, length, get_or, true, false, ◌==◌, cond, refl, sym, ap, ◌∙◌, subst, ℤ, pos, negsuc, ◌+ℤ◌, ◌*ℤ◌, ◌≤ℤ◌, unsigned_abs, FitsSigned, All, arith, ⊎_elim, mul-le-mul_left, mul-le-mul_right}
-use Rattle.std.specs.Prelude.{sum_by}
+use Rattle.std.proofs.Common.{◌≡◌, ◌^◌, ℕ, zero, suc, ◌+◌, ◌*◌, ◌/◌, ◌<◌, ◌≤◌, List, [], ◌∷◌, ◌++◌, length, get_or, ◌==◌, cond, refl, ap, ◌∙◌, ℤ, pos, negsuc, ◌+ℤ◌, ◌*ℤ◌, ◌≤ℤ◌, unsigned_abs, FitsSigned, arith, ⊎_elim, mul-le-mul_right}
 use Rattle.std.specs.Int.{w128}
 use Rattle.std.specs.List.{filter}
-use Rattle.std.proofs.Math.IntN.{+ℤ_idl}
 use Rattle.std.proofs.Math.Seq.{get_or-append_seam}
 use Rattle.std.proofs.lemmas.Bool.{cases_lt, eq-eqb, ne_eqb}
 use Rattle.std.proofs.lemmas.Int.{ints, unsigned_abs-mul, fits_signed_from_abs}
@@ -14,7 +12,7 @@ use Rattle.mh_units.proofs.Integers.{unsigned_abs-neg, product_size}
 use Rattle.simm_rules.specs.Sums.{total_by}
 use Rattle.simm_params.specs.Ranges.{hvrs, sigmas, IsWithin}
 use Rattle.weighted_bucket.specs.declared.group.Grouped.{Grouped}
-use Rattle.weighted_bucket.specs.Group.{at, group_net}
+use Rattle.weighted_bucket.specs.Group.{at}
 use Rattle.simm_rules.specs.Risks.{Amount}
 use Rattle.vega_margin.specs.Together.{vega_risk, own_group, AreGrouped}
 

@@ -1,11 +1,11 @@
 -- The vega value of a bucket of things with volatilities, each a group by itself.
-use Rattle.std.proofs.Common.{◌≡◌, ◌≢◌, ◌^◌, ℕ, ◌+◌, ◌*◌, ◌<◌, ◌≤◌, List, [], ◌∷◌, map, length, get_or, Bool, true, refl, sym, ap, ◌∙◌, subst, ℤ, pos, ◌≤ℤ◌, unsigned_abs, All, arith, le_refl, mul-le-mul_right}
+use Rattle.std.proofs.Common.{◌≡◌, ◌^◌, ℕ, ◌+◌, ◌*◌, ◌<◌, ◌≤◌, List, map, length, get_or, Bool, true, refl, sym, ap, ◌∙◌, subst, ℤ, pos, ◌≤ℤ◌, unsigned_abs, arith, le_refl, mul-le-mul_right}
 use Rattle.std.specs.Prelude.{sum_by}
 use Rattle.std.specs.declared.cmp.Ordering.{Ordering}
 use Rattle.std.specs.Ordering.{is_eq}
 use Rattle.std.specs.Cmp.{IsTotalOrder}
-use Rattle.std.specs.List.{filter, AllByRecursion}
-use Rattle.std.specs.List.Sorted.{IsStrictlySortedBy, IsNonDecreasingBy}
+use Rattle.std.specs.List.{filter}
+use Rattle.std.specs.List.Sorted.{IsStrictlySortedBy}
 use Rattle.std.proofs.lemmas.Int.{ints}
 use Rattle.std.proofs.lemmas.List.{get_or-map, length-map}
 use Rattle.std.proofs.lemmas.List.Sorted.{IsNonDecreasingBy-from_default}
@@ -38,7 +38,7 @@ use Rattle.name_delta.proofs.Weighings.{weighed_with}
 use Rattle.vega_margin.specs.Groups.{CanWeigh}
 use Rattle.vega_margin.specs.Together.{vega_risk, own_group, AreGrouped}
 use Rattle.vega_margin.proofs.OwnGroups.{own_in, risk_close, risk_small}
-use Rattle.vega_margin.proofs.OverTenors.{keys, tenors, total, own, over_keys}
+use Rattle.vega_margin.proofs.OverTenors.{keys, tenors, total, over_keys}
 use Rattle.vega_margin.proofs.Sizes.{sum_by-shifted}
 
 abbrev no_group : Grouped

@@ -1,5 +1,5 @@
 -- The vega value of the pairs of a product class.
-use Rattle.std.proofs.Common.{◌≡◌, ◌^◌, ℕ, ◌+◌, ◌*◌, ◌≤◌, List, [], map, length, refl, sym, ap, ◌∙◌, ℤ, pos, ◌≤ℤ◌, unsigned_abs}
+use Rattle.std.proofs.Common.{◌≡◌, ◌^◌, ◌+◌, ◌*◌, ◌≤◌, List, map, length, refl, ap, ◌∙◌, ℤ, pos, unsigned_abs}
 use Rattle.std.specs.Prelude.{sum_by}
 use Rattle.simm_kinds.specs.Pair.{Pair}
 use Rattle.simm_kinds.specs.Order.{pair_cmp, same_pair}

@@ -1,5 +1,5 @@
 -- Volatilities of pairs of currencies: where they stand, and in which order.
-use Rattle.std.proofs.Common.{◌≡◌, ℕ, List, [], ◌∷◌, map, false, true, ◌&&◌, Some, None, refl, sym, ap, ◌∙◌}
+use Rattle.std.proofs.Common.{◌≡◌, List, [], ◌∷◌, map, false, true, ◌&&◌, Some, None, refl, sym, ap, ◌∙◌}
 use Rattle.std.specs.declared.cmp.Ordering.{Ordering}
 use Rattle.std.specs.declared.cmp.Ordering.TheVariants.{Less, Equal, Greater}
 use Rattle.std.specs.Ordering.{nat_cmp, ordering_then, is_eq, then_cmp, on}
@@ -19,7 +19,6 @@ use Rattle.simm_kinds.specs.Order.{same_product, key_cmp, name_cmp, pair_cmp, sa
 use Rattle.simm_rules.specs.Sums.{total_by}
 use Rattle.simm_rules.specs.Risks.{risk, Amount}
 use Rattle.simm_rules.specs.ForeignExchange.{PairVolatility, as_pair_volatility, pairs_of, pair_tenors}
-use Rattle.factor_book.specs.declared.place.Place.{Place}
 use Rattle.factor_book.specs.declared.holding.Holding.{Holding}
 use Rattle.factor_book.specs.Factors.{IsBook}
 use Rattle.factor_book.specs.Places.{stands_at}

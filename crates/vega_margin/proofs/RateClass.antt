@@ -1,7 +1,6 @@
 -- The volatilities of a product class in range: those of each currency are, and so are the parts that the class's margin is over.
-use Rattle.std.proofs.Common.{◌≡◌, ◌^◌, ℕ, ◌+◌, ◌*◌, ◌<◌, ◌≤◌, List, map, length, Bool, true, false, if◌then◌else◌, refl, sym, ap, ◌∙◌, subst, ℤ, pos, ◌≤ℤ◌, ◌<ℤ◌, unsigned_abs, arith, mul-le-mul_left, mul-le-mul_right}
+use Rattle.std.proofs.Common.{◌≡◌, ◌^◌, ℕ, ◌+◌, ◌*◌, ◌<◌, ◌≤◌, List, map, length, Bool, true, false, if◌then◌else◌, refl, sym, ap, ◌∙◌, subst, ℤ, pos, ◌≤ℤ◌, ◌<ℤ◌, unsigned_abs, arith, mul-le-mul_right}
 use Rattle.std.specs.Prelude.{sum_by}
-use Rattle.std.specs.List.{filter, AllByRecursion}
 use Rattle.std.specs.List.Sorted.{IsStrictlySortedBy}
 use Rattle.std.proofs.lemmas.Cmp.{nat_list_cmp_total}
 use Rattle.std.proofs.lemmas.Int.{ints}
@@ -20,7 +19,7 @@ use Rattle.simm_rules.specs.Concentration.{one}
 use Rattle.simm_rules.specs.Bucket.{Weighted, weighted_value, plain, root_of, pair_sum, weighted_sum}
 use Rattle.simm_rules.specs.Gross.{size_by}
 use Rattle.simm_rules.specs.Rates.{VolatilityIn, as_rate_volatility, same_rate_volatility, rate_volatility_rho, rate_thresholds, volatilities_in, volatility_currencies, rate_volatility_cr, weighted_rate_volatility, tenor_of, currency_vega_value}
-use Rattle.simm_params.specs.Facts.{IsParams, IsWeighed}
+use Rattle.simm_params.specs.Facts.{IsParams}
 use Rattle.simm_params.specs.Weighed.{AreRatesWeighed}
 use Rattle.factor_book.proofs.Sorting.{different_ascends}
 use Rattle.ir_delta.specs.Parts.{IsCurrency, AreParts}
@@ -29,7 +28,7 @@ use Rattle.ir_delta.proofs.Lists.{all_map, map_ascends}
 use Rattle.ir_delta.proofs.Sums.{sum_by-agrees, sum_by-ones, sum_by-shifted}
 use Rattle.name_delta.specs.Values.{IsInRange, IsSmall}
 use Rattle.name_delta.proofs.Lists.{each_always}
-use Rattle.name_delta.proofs.Sizes.{sum_by-map, sum_by-below, sum_by-scaled, sum_by-filter, total_size, size_all, size_is}
+use Rattle.name_delta.proofs.Sizes.{sum_by-map, sum_by-below, sum_by-scaled, sum_by-filter, total_size, size_is}
 use Rattle.name_delta.proofs.Thick.{net_thick, cr_size, cr_low, cr_below, weighted_close}
 use Rattle.vega_margin.specs.Combine.{IsRateClass, currency_buckets}
 use Rattle.vega_margin.specs.Values.{alone}

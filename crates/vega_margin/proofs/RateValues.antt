@@ -1,8 +1,8 @@
 -- The value of a currency's bucket: by the places of its volatilities it is the rule's.
-use Rattle.std.proofs.Common.{◌≡◌, ◌≢◌, ◌^◌, ℕ, ◌+◌, ◌*◌, ◌<◌, ◌≤◌, List, [], ◌∷◌, map, length, get_or, refl, sym, ap, ◌∙◌, subst, ℤ, pos, ◌+ℤ◌, ◌≤ℤ◌, ◌<ℤ◌, ◌==◌, unsigned_abs, All, arith, mul-le-mul_right}
+use Rattle.std.proofs.Common.{◌≡◌, ◌≢◌, ◌^◌, ℕ, ◌+◌, ◌*◌, ◌<◌, ◌≤◌, List, [], ◌∷◌, map, length, get_or, refl, sym, ap, ◌∙◌, subst, ℤ, pos, ◌+ℤ◌, ◌==◌, unsigned_abs, arith, mul-le-mul_right}
 use Rattle.std.specs.Prelude.{sum_by}
-use Rattle.std.specs.List.{filter, AllByRecursion}
-use Rattle.std.specs.List.Sorted.{IsStrictlySortedBy, IsNonDecreasingBy}
+use Rattle.std.specs.List.{filter}
+use Rattle.std.specs.List.Sorted.{IsStrictlySortedBy}
 use Rattle.std.proofs.lemmas.Int.{ints}
 use Rattle.std.proofs.lemmas.List.{get_or-map, length-map}
 use Rattle.std.proofs.lemmas.List.Elements.{All-from_recursion}
@@ -13,18 +13,18 @@ use Rattle.simm_rules.specs.declared.values.BucketMargin.{BucketMargin}
 use Rattle.simm_rules.specs.Params.{Params}
 use Rattle.simm_rules.specs.Sums.{total_by}
 use Rattle.simm_rules.specs.Risks.{RateVolatility, Of_rates, Amount}
-use Rattle.simm_rules.specs.Concentration.{one, cr}
+use Rattle.simm_rules.specs.Concentration.{cr}
 use Rattle.simm_rules.specs.Bucket.{Weighted, weighted_value, plain}
 use Rattle.simm_rules.specs.Bucket.{bucket_value as value_of_factors}
 use Rattle.simm_rules.specs.Gross.{size_by}
-use Rattle.simm_rules.specs.Rates.{VolatilityIn, same_rate_volatility, rate_volatility_rho, rate_thresholds, rate_volatility_cr, weighted_rate_volatility, currency_vega_value}
+use Rattle.simm_rules.specs.Rates.{VolatilityIn, same_rate_volatility, rate_volatility_rho, rate_thresholds, rate_volatility_cr, currency_vega_value}
 use Rattle.simm_params.specs.Facts.{IsWeighed}
 use Rattle.factor_book.proofs.Sums.{total_by-map}
 use Rattle.weighted_bucket.specs.declared.group.Grouped.{Grouped}
 use Rattle.weighted_bucket.specs.declared.scaling.Scaling.TheVariants as scaling
 use Rattle.weighted_bucket.specs.declared.weighed.Weighed.{Weighed}
 use Rattle.weighted_bucket.specs.Bucket.{bucket_value}
-use Rattle.weighted_bucket.specs.Group.{at, group_net, group_factor, CanConcentrate}
+use Rattle.weighted_bucket.specs.Group.{at, group_net, CanConcentrate}
 use Rattle.name_delta.specs.Points.{weighed_in}
 use Rattle.name_delta.specs.Values.{IsInRange, IsSmall, weighed_as}
 use Rattle.name_delta.proofs.Lists.{each_always, each_map}

@@ -1,5 +1,5 @@
 -- What is read of a place where volatilities of things stand by tenor.
-use Rattle.std.proofs.Common.{◌≡◌, ◌^◌, ◌*◌, ◌≤◌, List, map, Bool, sym, ap, ◌∙◌, subst, ℤ, unsigned_abs, All, arith}
+use Rattle.std.proofs.Common.{◌≡◌, ◌^◌, ◌*◌, ◌≤◌, List, map, Bool, sym, subst, ℤ, unsigned_abs, All, arith}
 use Rattle.std.specs.Prelude.{sum_by}
 use Rattle.std.specs.declared.cmp.Ordering.{Ordering}
 use Rattle.std.specs.Ordering.{is_eq}

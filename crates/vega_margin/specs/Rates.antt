@@ -7,7 +7,7 @@ use Rattle.simm_kinds.specs.declared.kinds.BucketId.TheVariants as id
 use Rattle.simm_kinds.specs.declared.kinds.Tenor.TheVariants as tenor
 use Rattle.simm_kinds.specs.declared.key.FactorKey.{FactorKey}
 use Rattle.simm_rules.specs.Params.{Params}
-use Rattle.simm_rules.specs.Risks.{Risk, risk, RateVolatility, Of_rates, Of_inflation, Amount, select}
+use Rattle.simm_rules.specs.Risks.{Risk, RateVolatility, Of_rates, Of_inflation, Amount, select}
 use Rattle.simm_rules.specs.Concentration.{cr}
 use Rattle.simm_rules.specs.Rates.{VolatilityIn, as_rate_volatility, rate_volatility_rho, volatilities_in}
 use Rattle.factor_book.specs.declared.place.Place.{Place}

@@ -1,6 +1,6 @@
 -- What is known of a bucket's value.
 -- (ISDA SIMM methodology, vega margin.)
-use Rattle.std.specs.Prelude.{ℕ, ◌*◌, ◌^◌, ◌≤◌, List, length, ℤ, pos, ◌+ℤ◌, ◌*ℤ◌, ◌≤ℤ◌, ◌<ℤ◌, unsigned_abs}
+use Rattle.std.specs.Prelude.{◌*◌, ◌^◌, ◌≤◌, List, length, ℤ, pos, ◌+ℤ◌, ◌*ℤ◌, ◌≤ℤ◌, ◌<ℤ◌, unsigned_abs}
 use Rattle.simm_rules.specs.declared.values.BucketMargin.{BucketMargin}
 use Rattle.simm_rules.specs.Risks.{Amount}
 use Rattle.simm_rules.specs.Concentration.{one}

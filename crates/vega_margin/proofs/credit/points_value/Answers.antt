@@ -1,22 +1,17 @@
-use Rattle.std.proofs.Common.{◌≡◌, ◌∙◌, ◌+◌, ◌*◌, ◌≤◌, List, map, length, refl, ap, sym, subst, pos, ◌<ℤ◌, ◌≤ℤ◌, FitsSigned, rules, arith}
+use Rattle.std.proofs.Common.{◌≡◌, ◌∙◌, ◌+◌, ◌*◌, ◌≤◌, length, refl, ap, sym, subst, pos, ◌<ℤ◌, ◌≤ℤ◌, FitsSigned, rules, arith}
 use Rattle.std.specs.Int.{w64}
 use Rattle.std.proofs.lemmas.Int.{ints}
 use Rattle.std.proofs.lemmas.List.{length-map}
 use Rattle.mh_units.proofs.Integers.{same64}
-use Rattle.simm_rules.specs.Risks.{CreditPoint, Amount}
 use Rattle.simm_rules.specs.Concentration.{one}
 use Rattle.simm_params.specs.ClassKinds.{credit_class}
 use Rattle.simm_params.specs.ListedBuckets.{credit_bucket_view}
-use Rattle.weighted_bucket.specs.declared.group.Grouped.{Grouped}
 use Rattle.weighted_bucket.specs.declared.scaling.Scaling.TheVariants as scaling
-use Rattle.weighted_bucket.specs.declared.weighed.Weighed.{Weighed}
 use Rattle.weighted_bucket.specs.Bucket.{bucket_value}
-use Rattle.name_delta.specs.Points.{AreGrouped, weighed_in, issuer_rho}
-use Rattle.name_delta.proofs.CreditPoints.{issuer_amount}
+use Rattle.name_delta.specs.Points.{issuer_rho}
 use Rattle.name_delta.proofs.Numbers.{issuer_rho-symmetric, issuer_rho-small}
 use Rattle.name_delta.proofs.Sizes.{size_all}
 use Rattle.vega_margin.specs.Credit.{points_of}
-use Rattle.vega_margin.specs.Groups.{CanWeigh}
 use Rattle.vega_margin.specs.Values.{alone}
 use Rattle.vega_margin.proofs.CreditValues.{all_is, points_risks, points_counted, points_can_weigh, points_made, points_value}
 use Rattle.vega_margin.proofs.Sizes.{factors_from_one, factors_below, factors_in_range, factors_sized}

@@ -1,4 +1,4 @@
-use Rattle.std.proofs.Common.{ℕ, List, ℤ, pos, ◌≤ℤ◌, arith}
+use Rattle.std.proofs.Common.{ℕ, List, pos, ◌≤ℤ◌, arith}
 use Rattle.std.proofs.lemmas.Int.{ints}
 use Rattle.simm_kinds.specs.declared.kinds.ProductClass.{ProductClass}
 use Rattle.simm_kinds.specs.declared.row.CrifRow.{CrifRow}

@@ -1,4 +1,4 @@
-use Rattle.std.proofs.Common.{◌≡◌, ◌∙◌, ◌+◌, ◌++◌, [], ◌∷◌, List, get_or, sym, ap, subst, rules}
+use Rattle.std.proofs.Common.{◌≡◌, ◌∙◌, ◌+◌, get_or, sym, subst, rules}
 use Rattle.simm_kinds.specs.Order.{same_pair}
 use Rattle.vega_margin.specs.Pairs.{net_view}
 use Rattle.vega_margin.proofs.PairsTogether.{pair_tests}

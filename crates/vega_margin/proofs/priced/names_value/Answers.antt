@@ -1,4 +1,4 @@
-use Rattle.std.proofs.Common.{◌≡◌, ◌∙◌, ◌+◌, ◌*◌, ◌≤◌, ℕ, List, map, length, refl, ap, sym, subst, pos, ◌<ℤ◌, ◌≤ℤ◌, FitsSigned, rules, arith}
+use Rattle.std.proofs.Common.{◌≡◌, ◌∙◌, ◌+◌, ◌*◌, ◌≤◌, map, length, refl, ap, sym, subst, pos, ◌<ℤ◌, ◌≤ℤ◌, FitsSigned, rules, arith}
 use Rattle.std.specs.Int.{w64}
 use Rattle.std.proofs.lemmas.Int.{ints}
 use Rattle.mh_units.proofs.Integers.{same64}

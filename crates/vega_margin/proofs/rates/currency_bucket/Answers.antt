@@ -1,7 +1,6 @@
 use Rattle.std.proofs.Common.{◌≡◌, ◌∙◌, ◌+◌, ◌*◌, ◌^◌, ◌≤◌, List, map, length, ap, sym, subst, pos, ◌<ℤ◌, ◌≤ℤ◌, unsigned_abs, ℤ, FitsSigned, rules, arith}
 use Rattle.std.specs.Prelude.{sum_by}
 use Rattle.std.specs.Int.{w64, cast_signed, cast_unsigned}
-use Rattle.std.proofs.lemmas.Int.{ints}
 use Rattle.std.proofs.lemmas.List.{length-map}
 use Rattle.mh_units.proofs.Integers.{same64}
 use Rattle.simm_rules.specs.Params.{Thresholds}
@@ -9,13 +8,12 @@ use Rattle.simm_rules.specs.Risks.{RateVolatility, Amount}
 use Rattle.simm_rules.specs.Concentration.{one, cr}
 use Rattle.weighted_bucket.specs.declared.group.Grouped.{Grouped}
 use Rattle.weighted_bucket.specs.declared.scaling.Scaling.TheVariants as scaling
-use Rattle.weighted_bucket.specs.declared.weighed.Weighed.{Weighed}
 use Rattle.weighted_bucket.specs.Bucket.{bucket_value}
 use Rattle.name_delta.specs.Points.{weighed_in}
 use Rattle.name_delta.specs.Values.{weighed_as}
 use Rattle.name_delta.proofs.Sizes.{size_all}
 use Rattle.name_delta.proofs.Thick.{cr_low, cr_below, cr_size}
-use Rattle.vega_margin.specs.Rates.{volatilities_of, currency_place, rule_volatility, volatility_nets_at, in_one_group, shared_cr, rho_at}
+use Rattle.vega_margin.specs.Rates.{volatilities_of, rule_volatility, in_one_group, shared_cr, rho_at}
 use Rattle.vega_margin.specs.Groups.{CanWeigh}
 use Rattle.vega_margin.specs.Values.{alone}
 use Rattle.vega_margin.proofs.RateNets.{alone_of, nets_are, nets_ascend}

@@ -1,9 +1,9 @@
-use Rattle.std.proofs.Common.{◌≡◌, ◌∙◌, ◌++◌, [], ◌∷◌, map, Some, ℤ, refl, ap, sym, FitsSigned, rules}
+use Rattle.std.proofs.Common.{◌∙◌, [], ◌∷◌, map, ℤ, refl, ap, sym, FitsSigned, rules}
 use Rattle.std.specs.Int.{w64, w128, cast_signed, cast_unsigned}
 use Rattle.std.proofs.lemmas.List.{map-append}
 use Rattle.mh_units.proofs.Integers.{same128}
 use Rattle.simm_kinds.specs.declared.key.FactorKey.{FactorKey}
-use Rattle.simm_rules.specs.Risks.{risk, RateVolatility, Amount}
+use Rattle.simm_rules.specs.Risks.{RateVolatility, Amount}
 use Rattle.factor_book.specs.declared.holding.Holding.{Holding}
 use Rattle.name_delta.proofs.Weighings.{picking_next}
 use Rattle.vega_margin.specs.Rates.{as_volatility, rule_volatility, one_group, in_one_group}

@@ -1,4 +1,4 @@
-use Rattle.std.proofs.Common.{◌≡◌, ◌∙◌, ap, sym, subst, pos, ◌^◌, ◌*ℤ◌, ℤ, FitsSigned, rules}
+use Rattle.std.proofs.Common.{◌≡◌, ◌∙◌, ap, sym, subst, pos, ◌^◌, ◌*ℤ◌, FitsSigned, rules}
 use Rattle.std.specs.Int.{w128, w64, cast_signed, cast_unsigned}
 use Rattle.mh_units.specs.Rounding.{away}
 use Rattle.mh_units.proofs.Integers.{same128, same64}
