@@ -1,0 +1,188 @@
+-- What the range of a book says of the volatilities of its classes.
+use Rattle.std.proofs.Common.{◌≡◌, ◌^◌, ℕ, ◌*◌, ◌≤◌, List, [], ◌∷◌, map, length, true, ap, ℤ, pos, ◌≤ℤ◌, unsigned_abs, arith}
+use Rattle.std.specs.Prelude.{sum_by}
+use Rattle.std.specs.List.{list_all, AllByRecursion}
+use Rattle.std.proofs.lemmas.Int.{ints}
+use Rattle.std.proofs.lemmas.List.{length-map}
+use Rattle.std.proofs.lemmas.List.Elements.{recursion_from_All}
+use Rattle.simm_kinds.specs.declared.kinds.ProductClass.{ProductClass}
+use Rattle.simm_kinds.specs.declared.kinds.RiskClass.TheVariants as class
+use Rattle.simm_kinds.specs.declared.bucket.Bucket.{Bucket}
+use Rattle.simm_kinds.specs.declared.key.FactorKey.{FactorKey}
+use Rattle.simm_kinds.specs.declared.row.CrifRow.{CrifRow}
+use Rattle.simm_kinds.specs.Batch.{is_in_range}
+use Rattle.simm_kinds.specs.Order.{same_product}
+use Rattle.simm_rules.specs.Params.{Params, CreditBucket, PricedBucket}
+use Rattle.simm_rules.specs.Sums.{total_by}
+use Rattle.simm_rules.specs.Net.{Sensitivity, sensitivities, in_product}
+use Rattle.simm_rules.specs.Risks.{CreditClass, Qualifying, Non_qualifying, PricedClass, Equities, Commodities, select}
+use Rattle.simm_rules.specs.Credit.{as_credit_volatility, credit_params}
+use Rattle.simm_rules.specs.ForeignExchange.{PairVolatility, as_pair_volatility, fx_sigma}
+use Rattle.simm_rules.specs.Gross.{size_by, credit_volatility_size, price_volatility_size}
+use Rattle.simm_rules.specs.Priced.{NameVolatility, as_price_volatility, priced_params}
+use Rattle.simm_rules.specs.Rates.{VolatilityIn, as_rate_volatility, volatilities_in}
+use Rattle.simm_params.specs.ClassRanges.{IsPricedBucket}
+use Rattle.simm_params.specs.Facts.{IsParams, IsCreditParams, IsPricedParams}
+use Rattle.factor_book.specs.declared.holding.Holding.{Holding}
+use Rattle.factor_book.specs.Factors.{factors_of, net_of}
+use Rattle.factor_book.specs.Places.{factors_at}
+use Rattle.book_range.specs.Bounded.{IsBounded}
+use Rattle.name_delta.specs.Points.{as_issuer}
+use Rattle.name_delta.specs.Values.{nets_in}
+use Rattle.name_delta.proofs.CreditPoints.{issuer_amount}
+use Rattle.name_delta.proofs.Lists.{each_always, each_weaker}
+use Rattle.name_delta.proofs.Shrinking.{SizesAreNetted, nets_shrink}
+use Rattle.class_delta.proofs.Bounds.{HasClass}
+use Rattle.class_delta.proofs.Lists.{filter-length, select-length}
+use Rattle.vega_margin.specs.Combine.{IsRateClass}
+use Rattle.vega_margin.specs.Credit.{points_place, points_of}
+use Rattle.vega_margin.specs.Pairs.{pairs_place, pair_volatilities, as_pair, ArePairsInRange}
+use Rattle.vega_margin.specs.Priced.{names_place, name_volatilities, as_name}
+use Rattle.vega_margin.specs.Rates.{currency_place, as_volatility}
+use Rattle.vega_margin.specs.Values.{alone}
+use Rattle.vega_margin.proofs.Bounded.{nets_bounded}
+use Rattle.vega_margin.proofs.Categories.{sigma_low}
+use Rattle.vega_margin.proofs.NamesTogether.{by_name}
+use Rattle.vega_margin.proofs.NamesTogether.{nets_are as name_nets_are}
+use Rattle.vega_margin.proofs.PairsTogether.{by_pair}
+use Rattle.vega_margin.proofs.PairsTogether.{nets_are as pair_nets_are}
+use Rattle.vega_margin.proofs.RateNets.{alone_of}
+use Rattle.vega_margin.proofs.RateNets.{nets_are as rate_nets_are}
+use Rattle.vega_margin.proofs.VolatilePoints.{points_nets}
+
+one_low : {A : Type 0} (x : A) → pos 0 ≤ℤ alone x
+one_low x = omega (arith, ints)
+
+module _ (p : Params) (facts : IsParams p) (held : List CrifRow) (bounded : IsBounded p held) (amounts : list_all is_in_range held ≡ true) (product : ProductClass) (sizes : SizesAreNetted held) where
+  abbrev fs : List (FactorKey × Holding)
+  fs = factors_of held
+
+  abbrev ss : List Sensitivity
+  ss = in_product product (sensitivities held)
+
+  -- ---- interest rates
+
+  rates_few : (currency : List ℕ) → length (volatilities_in currency (nets_in product fs)) ≤ 2000
+  rates_few currency =
+      let place = currency_place currency product in
+      omega (
+        arith,
+        ap length (rate_nets_are currency product fs),
+        length-map (volatilities_in currency (nets_in product fs)) alone_of,
+        select-length as_volatility (map net_of (factors_at place fs)),
+        length-map (factors_at place fs) net_of,
+        bounded.each place,
+      )
+
+  pub rates_range : IsRateClass (nets_in product fs)
+  rates_range = record {
+    few = omega (arith, select-length as_rate_volatility (nets_in product fs), filter-length (λ (s : Sensitivity). same_product s.key.product product) (map net_of fs), length-map fs net_of, bounded.keys);
+    few_each = rates_few;
+    small = omega (arith, ints, nets_shrink as_rate_volatility (λ (x : VolatilityIn). alone x) one_low held sizes product, bounded.vega product class.IR);
+  }
+
+  -- ---- foreign exchange
+
+  pairs_few : length (pair_volatilities product fs) ≤ 2000
+  pairs_few =
+      let place = pairs_place product in
+      omega (
+        arith,
+        ap length (pair_nets_are product fs),
+        length-map (pair_volatilities product fs) by_pair,
+        select-length as_pair (map net_of (factors_at place fs)),
+        length-map (factors_at place fs) net_of,
+        bounded.each place,
+      )
+
+  pub pairs_range : ArePairsInRange p (pair_volatilities product fs)
+  pairs_range = record {
+    weighed = record {
+      few = pairs_few;
+      small = omega (arith, ints, nets_shrink as_pair_volatility (λ (v : PairVolatility). fx_sigma p v.pair) (λ v. sigma_low p facts v.pair) held sizes product, bounded.vega product class.FX);
+    };
+    sizes = nets_bounded as_pair_volatility held sizes product amounts bounded.rows;
+  }
+
+  -- ---- the classes of which the file lists buckets
+
+  module _ {X : Type 0} (f g : X → ℤ) where
+    totals_le : (xs : List X) → AllByRecursion (λ x. f x ≤ℤ g x) xs → total_by f xs ≤ℤ total_by g xs
+    totals_le [] h = omega (arith, ints)
+    totals_le (x ∷ xs) h = omega (arith, ints, h.0, totals_le xs h.1)
+
+  credit_of : (class : CreditClass) → IsCreditParams (credit_params p class)
+  credit_of Qualifying = facts.credit_q
+  credit_of Non_qualifying = facts.credit_nq
+
+  priced_of : (class : PricedClass) → IsPricedParams (priced_params p class)
+  priced_of Equities = facts.equity
+  priced_of Commodities = facts.commodity
+
+  priced_low : (class : PricedClass) → AllByRecursion (λ b. pos 0 ≤ℤ b.sigma) (priced_params p class).buckets
+  priced_low class =
+      each_weaker IsPricedBucket (λ b. pos 0 ≤ℤ b.sigma) (λ b its. its.sigma.low) (priced_params p class).buckets
+      (recursion_from_All IsPricedBucket (priced_params p class).buckets (priced_of class).ranged.buckets)
+
+  credit_small : (class : CreditClass) → credit_volatility_size p class ss ≤ℤ pos (10 ^ 17)
+  credit_small Qualifying = bounded.vega product class.CreditQ
+  credit_small Non_qualifying = bounded.vega product class.CreditNonQ
+
+  priced_small : (class : PricedClass) → price_volatility_size p class ss ≤ℤ pos (10 ^ 17)
+  priced_small Equities = bounded.vega product class.Equity
+  priced_small Commodities = bounded.vega product class.Commodity
+
+  points_few : (class : CreditClass) (b : Bucket) → length (points_of class b product fs) ≤ 2000
+  points_few class b =
+      let place = points_place class b product in
+      omega (
+        arith,
+        ap length (points_nets class b product fs),
+        length-map (points_of class b product fs) issuer_amount,
+        select-length as_issuer (map net_of (factors_at place fs)),
+        length-map (factors_at place fs) net_of,
+        bounded.each place,
+      )
+
+  names_few : (class : PricedClass) (b : Bucket) → length (name_volatilities class b product fs) ≤ 2000
+  names_few class b =
+      let place = names_place class b product in
+      omega (
+        arith,
+        ap length (name_nets_are class b product fs),
+        length-map (name_volatilities class b product fs) by_name,
+        select-length as_name (map net_of (factors_at place fs)),
+        length-map (factors_at place fs) net_of,
+        bounded.each place,
+      )
+
+  pub names_sizes : (class : PricedClass) (b : Bucket) → sum_by (λ a. unsigned_abs a.amount) (name_volatilities class b product (factors_of held)) ≤ 2 * 10 ^ 20
+  names_sizes class b = nets_bounded (as_price_volatility class b) held sizes product amounts bounded.rows
+
+  pub credit_class : (class : CreditClass) → HasClass (λ b. (b.terms).id) (λ b. pos 10000) (λ b. points_of class b product fs) (credit_params p class).buckets
+  credit_class class =
+      let net : CreditBucket → ℤ = λ b. size_by (λ point. pos 10000) (points_of class (b.terms).id product fs) in
+      let gross : CreditBucket → ℤ = λ b. size_by (λ point. pos 10000) (select (as_credit_volatility class (b.terms).id) ss) in
+      let each : AllByRecursion (λ b. net b ≤ℤ gross b) (credit_params p class).buckets =
+      each_always (λ (b : CreditBucket). net b ≤ℤ gross b) (λ b. nets_shrink (as_credit_volatility class (b.terms).id) (λ point. pos 10000) one_low held sizes product) (credit_params p class).buckets in
+      record {
+        in_order = (credit_of class).ranged.in_order;
+        few = (credit_of class).ranged.few;
+        few_each = points_few class;
+        low = each_always (λ (b : CreditBucket). pos 0 ≤ℤ pos 10000) (λ b. omega (arith, ints)) (credit_params p class).buckets;
+        total = omega (arith, ints, totals_le net gross (credit_params p class).buckets each, credit_small class);
+      }
+
+  pub priced_class : (class : PricedClass) → HasClass (λ b. (b.terms).id) (λ b. b.sigma) (λ b. name_volatilities class b product fs) (priced_params p class).buckets
+  priced_class class =
+      let net : PricedBucket → ℤ = λ b. size_by (λ name. b.sigma) (name_volatilities class (b.terms).id product fs) in
+      let gross : PricedBucket → ℤ = λ b. size_by (λ name. b.sigma) (select (as_price_volatility class (b.terms).id) ss) in
+      let each : AllByRecursion (λ b. net b ≤ℤ gross b) (priced_params p class).buckets =
+      each_weaker (λ (b : PricedBucket). pos 0 ≤ℤ b.sigma) (λ b. net b ≤ℤ gross b) (λ b low. nets_shrink (as_price_volatility class (b.terms).id) (λ name. b.sigma) (λ name. low) held sizes product) (priced_params p class).buckets (priced_low class) in
+      record {
+        in_order = (priced_of class).ranged.in_order;
+        few = (priced_of class).ranged.few;
+        few_each = names_few class;
+        low = priced_low class;
+        total = omega (arith, ints, totals_le net gross (priced_params p class).buckets each, priced_small class);
+      }

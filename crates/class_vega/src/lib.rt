@@ -1,0 +1,9 @@
+//! The vega margin of a risk class in a product class: over all buckets that have a volatility in a book.
+//! (ISDA SIMM methodology, vega margin.)
+#![tactic(auto)]
+
+mod buckets;
+mod class;
+mod pairs;
+
+pub use class::class_vega;
