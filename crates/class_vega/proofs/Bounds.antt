@@ -19,7 +19,7 @@ use Rattle.simm_rules.specs.Risks.{CreditClass, Qualifying, Non_qualifying, Pric
 use Rattle.simm_rules.specs.Credit.{as_credit_volatility, credit_params}
 use Rattle.simm_rules.specs.ForeignExchange.{PairVolatility, as_pair_volatility, fx_sigma}
 use Rattle.simm_rules.specs.Gross.{size_by, credit_volatility_size, price_volatility_size}
-use Rattle.simm_rules.specs.Priced.{NameVolatility, as_price_volatility, priced_params}
+use Rattle.simm_rules.specs.Priced.{as_price_volatility, priced_params}
 use Rattle.simm_rules.specs.Rates.{VolatilityIn, as_rate_volatility, volatilities_in}
 use Rattle.simm_params.specs.ClassRanges.{IsPricedBucket}
 use Rattle.simm_params.specs.Facts.{IsParams, IsCreditParams, IsPricedParams}

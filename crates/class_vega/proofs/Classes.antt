@@ -1,5 +1,5 @@
 -- The parts of each class: in range, and their margin the rule's.
-use Rattle.std.proofs.Common.{◌≡◌, ◌^◌, ℕ, ◌*◌, ◌<◌, ◌≤◌, List, [], ◌∷◌, map, true, false, Option, Some, None, refl, sym, ap, ◌∙◌, subst, ℤ, pos, unsigned_abs}
+use Rattle.std.proofs.Common.{◌≡◌, ◌^◌, ℕ, ◌*◌, ◌<◌, List, [], ◌∷◌, map, true, false, Option, Some, None, refl, sym, ap, ◌∙◌, subst, ℤ, pos, unsigned_abs}
 use Rattle.std.specs.Prelude.{sum_by, IsSomeAnd}
 use Rattle.std.specs.List.{list_any, list_all, AllByRecursion}
 use Rattle.std.specs.List.Sorted.{IsStrictlySortedBy}
@@ -14,7 +14,7 @@ use Rattle.simm_kinds.specs.declared.key.FactorKey.{FactorKey}
 use Rattle.simm_kinds.specs.declared.row.CrifRow.{CrifRow}
 use Rattle.simm_kinds.specs.Batch.{is_in_range}
 use Rattle.simm_kinds.specs.Factors.{bucket_id_of}
-use Rattle.simm_kinds.specs.Order.{same_bucket, bucket_id_cmp, same_bucket_id}
+use Rattle.simm_kinds.specs.Order.{bucket_id_cmp, same_bucket_id}
 use Rattle.simm_rules.specs.declared.values.BucketMargin.{BucketMargin}
 use Rattle.simm_rules.specs.Params.{Params, CreditBucket, PricedBucket}
 use Rattle.simm_rules.specs.Net.{Sensitivity}
