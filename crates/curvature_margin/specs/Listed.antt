@@ -1,0 +1,24 @@
+-- What the file says of a class that has buckets, and the correlations of these for curvature.
+-- (ISDA SIMM methodology, curvature margin: squared correlations across buckets.)
+use Rattle.std.specs.Prelude.{ℕ, List, ℤ}
+use Rattle.simm_kinds.specs.declared.bucket.Bucket.{Bucket}
+use Rattle.simm_rules.specs.Params.{Params}
+use Rattle.simm_rules.specs.Bucket.{combined}
+use Rattle.simm_rules.specs.Credit.{credit_params, listed_credit}
+use Rattle.simm_rules.specs.Priced.{priced_params, listed_priced}
+use Rattle.simm_params.specs.ClassKinds.{credit_class, priced_class}
+use Rattle.name_delta.specs.Combine.{gamma_at}
+use Rattle.curvature_margin.specs.declared.listed.ListedClass.{ListedClass}
+use Rattle.curvature_margin.specs.declared.listed.ListedClass.TheVariants as listed
+
+abbrev pub listed_in : Params → ListedClass → List Bucket
+listed_in p (listed.Credit kind) = listed_credit (credit_params p (credit_class kind))
+listed_in p (listed.Priced kind) = listed_priced (priced_params p (priced_class kind))
+
+abbrev pub gamma_in : Params → ListedClass → List (List ℤ)
+gamma_in p (listed.Credit kind) = (credit_params p (credit_class kind)).gamma
+gamma_in p (listed.Priced kind) = (priced_params p (priced_class kind)).gamma
+
+-- the correlation of the buckets at two places of a list, each by its place among those that the file lists, squared
+abbrev pub squared_at : List (List ℤ) → List ℕ → ℕ → ℕ → ℤ
+squared_at gamma places i j = combined (gamma_at gamma places i j) (gamma_at gamma places i j)

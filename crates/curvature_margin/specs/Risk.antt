@@ -1,0 +1,29 @@
+-- The curvature risk of a factor by the sum of its nets, and what is known of a bucket of such risks.
+-- (ISDA SIMM methodology, curvature margin: the curvature risk exposure.)
+use Rattle.std.specs.Prelude.{ℕ, ◌≡◌, ◌+◌, ◌*◌, ◌^◌, ◌≤◌, ℤ, pos, ◌*ℤ◌, ◌≤ℤ◌, ◌<ℤ◌, unsigned_abs, if◌then◌else◌}
+use Rattle.mh_units.specs.Rounding.{away}
+use Rattle.simm_rules.specs.declared.values.BucketMargin.{BucketMargin}
+use Rattle.simm_rules.specs.Params.{BucketTerms}
+use Rattle.simm_rules.specs.Concentration.{one}
+use Rattle.weighted_bucket.specs.declared.weighed.Weighed.{Weighed}
+
+-- the volatility at which a bucket's factors count: none where the bucket has no curvature
+abbrev pub volatility_in : BucketTerms → ℤ → ℤ
+volatility_in terms sigma = if terms.curvature then sigma else pos 0
+
+-- of a sum of nets, each times what its tenor counts, in 21,900ths
+abbrev pub risk_of : ℤ → ℤ → ℤ
+risk_of sigma sum = away (sigma *ℤ sum) (pos (21900 * 10 ^ 4))
+
+abbrev pub curved_by : ℤ → ℤ → Weighed
+curved_by sigma sum = record { w = risk_of sigma sum; cr = record { 0 = one } }
+
+-- the sizes of a bucket's value, beside those of its sums times the volatility and how many there are
+pub record IsCurved (sizes count : ℕ) (value : BucketMargin) : Type 0 where
+  pub not_negative : pos 0 ≤ℤ value.k
+  pub held : unsigned_abs value.s ≤ unsigned_abs value.k
+  pub margin : value.k ≤ℤ value.gross
+  pub sum : unsigned_abs value.sum ≤ unsigned_abs value.gross
+  pub gross : (value.gross *ℤ pos 219000000) ≤ℤ pos (sizes + count * 219000000)
+  pub below : value.gross <ℤ pos (84 * 10 ^ 14)
+  pub unconcentrated : value.cr.0 ≡ one

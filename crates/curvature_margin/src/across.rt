@@ -1,0 +1,57 @@
+ghost use Rattle.std.specs.Prelude.{◌≡◌, ◌+◌, ◌*◌, IfOk, pos, ◌≤ℤ◌};
+ghost use Rattle.curvature_margin.specs.Combine.{curvature_by_class, margins_size, gross_size, AreParts};
+
+use crate::whole_parts::{currencies, single};
+use crate::listed::ListedClass;
+use crate::numbered_parts::numbered;
+use factor_book::ClassAt;
+use mh_units::Cents;
+use simm_kinds::{BucketId, RiskClass};
+use simm_params::{CreditKind, Params, PricedKind};
+use simm_rules::BucketMargin;
+use std::alloc::{AllocError, Global};
+
+/// The curvature margin of a risk class in a product class, over the values of its buckets, in cents: that of all buckets but the
+/// residual one, and beside it that of the residual one; in interest rates divided by the square of the historical volatility
+/// ratio. The parts are of different buckets that the class has, in order; a bucket without sensitivities may be left out. Want of
+/// memory is the only error.
+pub fn combine(
+    alloc: Global,
+    params: &Params,
+    at: ClassAt,
+    parts: &[(BucketId, BucketMargin)],
+) -> Result<Cents, AllocError>
+    requires { AreParts params.now at.class parts.now }
+    ensures value { IfOk result (λ m. m.0 ≡ curvature_by_class params.now at.class parts.now) }
+    ensures low { IfOk result (λ m. pos 0 ≤ℤ m.0) }
+    ensures size { IfOk result (λ m. m.0 ≤ℤ pos (25 * (gross_size parts.now + 10 * margins_size parts.now))) }
+{
+    match at.class {
+        RiskClass::IR => currencies(alloc, params, parts),
+        RiskClass::CreditQ => numbered(
+            alloc,
+            params,
+            ListedClass::Credit(CreditKind::Qualifying),
+            parts,
+        ),
+        RiskClass::CreditNonQ => numbered(
+            alloc,
+            params,
+            ListedClass::Credit(CreditKind::NonQualifying),
+            parts,
+        ),
+        RiskClass::Equity => numbered(
+            alloc,
+            params,
+            ListedClass::Priced(PricedKind::Equities),
+            parts,
+        ),
+        RiskClass::Commodity => numbered(
+            alloc,
+            params,
+            ListedClass::Priced(PricedKind::Commodities),
+            parts,
+        ),
+        RiskClass::FX => single(alloc, params, parts),
+    }
+}

@@ -1,0 +1,76 @@
+//! Credit that qualifies and that does not: the volatilities of the points of a bucket.
+ghost use Rattle.std.specs.Prelude.{◌≡◌, ◌+◌, ◌*◌, ◌≤◌, Some, IfOk, IsSomeAnd, length, option_map};
+ghost use Rattle.simm_rules.specs.Credit.{credit_params, credit_curvature_value};
+ghost use Rattle.simm_params.specs.ClassKinds.{credit_class};
+ghost use Rattle.simm_params.specs.ListedBuckets.{credit_bucket_of, credit_bucket_view};
+ghost use Rattle.simm_params.specs.Weighed.{IsWeighedCredit};
+ghost use Rattle.factor_book.specs.Factors.{IsBook};
+ghost use Rattle.name_delta.specs.Values.{IsInRange};
+ghost use Rattle.vol_factors.specs.Places.{points_of};
+ghost use Rattle.vol_factors.specs.Ranges.{alone};
+ghost use Rattle.curvature_margin.specs.Values.{IsSized};
+
+use crate::risk::{UNIT, curved_bucket, volatility_in};
+use factor_book::Factors;
+use name_delta::{IssuerRho, group_points, in_millionths};
+use pair_sum::Steps;
+use simm_params::{CreditBucket, Params};
+use simm_rules::BucketMargin;
+use std::alloc::{AllocError, Global};
+use std::sync::ledger::Ledger;
+use vol_factors::{CreditAt, TenorScale, point_sums};
+
+/// The curvature value of a bucket that the file lists, whose factors are those of a book in range. Its `n` volatilities take at
+/// most `n * n` steps. Want of memory is the only error.
+pub fn credit_bucket<L: Ledger>(
+    alloc: Global,
+    params: &Params,
+    factors: &Factors,
+    at: CreditAt,
+    steps: &mut Steps<L>,
+) -> Result<BucketMargin, AllocError>
+    requires { let class = credit_class at.kind in IsSomeAnd (credit_bucket_of (credit_params params.now class).buckets at.bucket)
+        (λ _. IsInRange alone (points_of class at.bucket at.product factors.now)) }
+    ensures value { let class = credit_class at.kind in IfOk result (λ m. Some m
+        ≡ option_map (λ b. credit_curvature_value b (points_of class at.bucket at.product factors.now)) (credit_bucket_of (credit_params params.now class).buckets at.bucket)) }
+    ensures sizes { IfOk result (IsSized alone (points_of (credit_class at.kind) at.bucket at.product factors.now)) }
+    ensures steps { let n = length (points_of (credit_class at.kind) at.bucket at.product factors.now) in steps.new ≤ steps.old + n * n }
+{
+    factors.facts();
+    let Some(bucket) = params.credit_bucket(at.kind, at.bucket) else {
+        unreachable!()
+    };
+    points_value(alloc, &bucket, factors, at, steps)
+}
+
+// The value of the volatilities of a bucket with these terms.
+fn points_value<L: Ledger>(
+    alloc: Global,
+    bucket: &CreditBucket,
+    factors: &Factors,
+    at: CreditAt,
+    steps: &mut Steps<L>,
+) -> Result<BucketMargin, AllocError>
+    requires book { IsBook factors.now }
+    requires weighed { IsWeighedCredit (credit_bucket_view bucket.now) }
+    requires in_range { IsInRange alone (points_of (credit_class at.kind) at.bucket at.product factors.now) }
+    ensures value { IfOk result (λ m. m ≡ credit_curvature_value (credit_bucket_view bucket.now) (points_of (credit_class at.kind) at.bucket at.product factors.now)) }
+    ensures sizes { IfOk result (IsSized alone (points_of (credit_class at.kind) at.bucket at.product factors.now)) }
+    ensures steps { let n = length (points_of (credit_class at.kind) at.bucket at.product factors.now) in steps.new ≤ steps.old + n * n }
+{
+    let terms = bucket.terms;
+    let sums = point_sums(alloc, factors, at, TenorScale::Curved)?;
+    let grouped = group_points(alloc, terms.thresholds.vega, factors, &at.place())?;
+    let rho = IssuerRho {
+        grouped: grouped.as_slice(),
+        same: in_millionths(bucket.same),
+        rho: in_millionths(terms.rho),
+    };
+    curved_bucket(
+        alloc,
+        volatility_in(&terms, UNIT),
+        sums.as_slice(),
+        &rho,
+        steps,
+    )
+}

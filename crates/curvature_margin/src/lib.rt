@@ -1,0 +1,19 @@
+//! The curvature margin of a risk class: the value of a bucket, and the margin over its buckets. It has no rows of its own: the
+//! volatilities of vega are its factors, each with what their tenors make of its nets.
+//! (ISDA SIMM methodology, curvature margin.)
+#![tactic(auto)]
+
+mod across;
+mod credit;
+mod curvature;
+mod gamma;
+mod listed;
+mod numbered_parts;
+mod part;
+mod priced;
+mod rates;
+mod risk;
+mod whole_parts;
+
+pub use across::combine;
+pub use curvature::bucket;

@@ -1,0 +1,82 @@
+//! Equity and commodities: the names of a bucket, whose volatilities of all tenors are one factor.
+ghost use Rattle.std.specs.Prelude.{◌≡◌, ◌+◌, ◌*◌, ◌≤◌, Some, IfOk, IsSomeAnd, length, map, option_map};
+ghost use Rattle.simm_rules.specs.Priced.{names_of, priced_params, price_curvature_value};
+ghost use Rattle.simm_params.specs.ClassKinds.{priced_class};
+ghost use Rattle.simm_params.specs.ListedBuckets.{priced_bucket_of, priced_bucket_view};
+ghost use Rattle.simm_params.specs.Weighed.{IsWeighedPriced};
+ghost use Rattle.factor_book.specs.Factors.{IsBook};
+ghost use Rattle.vol_factors.specs.Places.{name_volatilities};
+ghost use Rattle.vol_factors.specs.Ranges.{IsPricedInRange};
+ghost use Rattle.curvature_margin.specs.Values.{IsSized};
+
+use crate::risk::{curved_bucket, volatility_in};
+use factor_book::Factors;
+use name_delta::{EvenRho, in_millionths};
+use pair_sum::Steps;
+use simm_params::{Params, PricedBucket};
+use simm_rules::BucketMargin;
+use std::alloc::{AllocError, Global};
+use std::sync::ledger::Ledger;
+use vol_factors::{NameSum, PricedAt, TenorScale, name_sums};
+
+/// The curvature value of a bucket that the file lists, whose factors are those of a book in range. Its `n` names take at most
+/// `n * n` steps. Want of memory is the only error.
+pub fn priced_bucket<L: Ledger>(
+    alloc: Global,
+    params: &Params,
+    factors: &Factors,
+    at: PricedAt,
+    steps: &mut Steps<L>,
+) -> Result<BucketMargin, AllocError>
+    requires { let class = priced_class at.kind in IsSomeAnd (priced_bucket_of (priced_params params.now class).buckets at.bucket)
+        (λ b. IsPricedInRange b (name_volatilities class at.bucket at.product factors.now)) }
+    ensures value { let class = priced_class at.kind in IfOk result (λ m. Some m
+        ≡ option_map (λ b. price_curvature_value b (name_volatilities class at.bucket at.product factors.now)) (priced_bucket_of (priced_params params.now class).buckets at.bucket)) }
+    ensures sizes { let class = priced_class at.kind in IfOk result (λ m. IsSomeAnd (priced_bucket_of (priced_params params.now class).buckets at.bucket)
+        (λ b. IsSized (λ _. b.sigma) (name_volatilities class at.bucket at.product factors.now) m)) }
+    ensures steps { let n = length (names_of (name_volatilities (priced_class at.kind) at.bucket at.product factors.now)) in steps.new ≤ steps.old + n * n }
+{
+    factors.facts();
+    let Some(bucket) = params.priced_bucket(at.kind, at.bucket) else {
+        unreachable!()
+    };
+    names_value(alloc, &bucket, factors, at, steps)
+}
+
+// The value of the names of a bucket with these terms.
+fn names_value<L: Ledger>(
+    alloc: Global,
+    bucket: &PricedBucket,
+    factors: &Factors,
+    at: PricedAt,
+    steps: &mut Steps<L>,
+) -> Result<BucketMargin, AllocError>
+    requires book { IsBook factors.now }
+    requires weighed { IsWeighedPriced (priced_bucket_view bucket.now) }
+    requires in_range { IsPricedInRange (priced_bucket_view bucket.now) (name_volatilities (priced_class at.kind) at.bucket at.product factors.now) }
+    ensures value { IfOk result (λ m. m ≡ price_curvature_value (priced_bucket_view bucket.now) (name_volatilities (priced_class at.kind) at.bucket at.product factors.now)) }
+    ensures sizes { IfOk result (IsSized (λ _. (priced_bucket_view bucket.now).sigma) (name_volatilities (priced_class at.kind) at.bucket at.product factors.now)) }
+    ensures steps { let n = length (names_of (name_volatilities (priced_class at.kind) at.bucket at.product factors.now)) in steps.new ≤ steps.old + n * n }
+{
+    let terms = bucket.terms;
+    let names = name_sums(alloc, factors, at, TenorScale::Curved)?;
+    let sums = sums_of(alloc, names.as_slice())?;
+    let rho = EvenRho {
+        count: sums.len(),
+        rho: in_millionths(terms.rho),
+    };
+    curved_bucket(
+        alloc,
+        volatility_in(&terms, bucket.sigma),
+        sums.as_slice(),
+        &rho,
+        steps,
+    )
+}
+
+// The sums, side by side.
+fn sums_of(alloc: Global, names: &[NameSum]) -> Result<Vec<i128>, AllocError>
+    ensures { IfOk result (λ sums. sums.items ≡ map (λ name. name.sum) names.now) }
+{
+    names.iter().map(|name| name.sum).collect(alloc)
+}

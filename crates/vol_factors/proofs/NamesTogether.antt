@@ -1,0 +1,224 @@
+-- Volatilities of names that have a price: where they stand, and in which order.
+use Rattle.std.proofs.Common.{◌≡◌, ℕ, List, [], ◌∷◌, map, Bool, true, false, Some, None, refl, sym, ap, ◌∙◌, subst, ℤ, ◌*ℤ◌, ◌⊎◌, inl, inr}
+use Rattle.std.specs.declared.cmp.Ordering.{Ordering}
+use Rattle.std.specs.declared.cmp.Ordering.TheVariants.{Less, Equal, Greater}
+use Rattle.std.specs.Ordering.{nat_cmp, ordering_then, then_cmp, on}
+use Rattle.std.specs.List.{filter, AllByRecursion}
+use Rattle.std.specs.List.Sorted.{IsStrictlySortedBy}
+use Rattle.std.proofs.lemmas.Cmp.{nat_list_cmp_total}
+use Rattle.std.proofs.lemmas.Simd.{map-map}
+use Rattle.simm_kinds.specs.declared.kinds.ProductClass.{ProductClass}
+use Rattle.simm_kinds.specs.declared.kinds.Tenor.{Tenor}
+use Rattle.simm_kinds.specs.declared.kinds.BucketId.TheVariants as id
+use Rattle.simm_kinds.specs.declared.bucket.Bucket.{Bucket}
+use Rattle.simm_kinds.specs.declared.bucket.Bucket.TheVariants as bucket
+use Rattle.simm_kinds.specs.declared.factor.Factor.{Factor}
+use Rattle.simm_kinds.specs.declared.factor.Factor.TheVariants as factor
+use Rattle.simm_kinds.specs.declared.key.FactorKey.{FactorKey}
+use Rattle.simm_kinds.specs.Factors.{bucket_id_of}
+use Rattle.simm_kinds.specs.Order.{same_product, key_cmp, name_cmp, same_name, tenor_place, bucket_numbers, same_bucket, same_bucket_id}
+use Rattle.simm_rules.specs.Sums.{total_by, different}
+use Rattle.simm_rules.specs.Risks.{risk, PricedClass, Equities, Commodities, Amount}
+use Rattle.simm_rules.specs.Priced.{NameVolatility, as_price_volatility, names_of, tenors_of}
+use Rattle.factor_book.specs.declared.place.Place.{Place}
+use Rattle.factor_book.specs.declared.holding.Holding.{Holding}
+use Rattle.factor_book.specs.Factors.{IsBook}
+use Rattle.factor_book.specs.Places.{stands_at}
+use Rattle.factor_book.proofs.Sums.{total_by-map}
+use Rattle.name_delta.proofs.Keys.{then_Equal, and_last, and_other, and_side, and_bucket, key_with, by_factor, bucket_ids, tied_buckets, chosen, not_chosen}
+use Rattle.name_delta.proofs.Lists.{each_weaker, each_map, each_unmap, map-filter, map-itself}
+use Rattle.name_delta.proofs.Selected.{issuers_place, select_ascends}
+use Rattle.vol_factors.specs.declared.tenor_scale.TenorScale.{TenorScale}
+use Rattle.vol_factors.specs.Scale.{scale_by}
+use Rattle.vol_factors.specs.Places.{names_place, name_volatilities}
+use Rattle.vol_factors.specs.Names.{as_name_volatility, nets_at, scaled_net, scaled_nets, name_total, name_totals, name_sums_at}
+use Rattle.vol_factors.specs.Together.{summed}
+use Rattle.vol_factors.proofs.Runs.{NotAfter, Ascends, sum_to, kinds, runs_are}
+
+-- ---- which factors they are
+
+record IsEquity (at : Bucket) (f : Factor) (x : NameVolatility) : Type 0 where
+  of : Bucket
+  is : f ≡ factor.EquityVol x.name of x.tenor
+  inside : same_bucket of at ≡ true
+
+record IsCommodity (at : Bucket) (f : Factor) (x : NameVolatility) : Type 0 where
+  of : ℕ
+  is : f ≡ factor.CommodityVol x.name of x.tenor
+  inside : same_bucket (bucket.Number of) at ≡ true
+
+is_equity : (at : Bucket) (f : Factor) (x : NameVolatility) → as_price_volatility Equities at (risk f) ≡ Some x → IsEquity at f x
+is_equity at (factor.IrCurve n t s) x h = absurd (cc)
+is_equity at (factor.Inflation n) x h = absurd (cc)
+is_equity at (factor.XccyBasis n) x h = absurd (cc)
+is_equity at (factor.IrVol n t) x h = absurd (cc)
+is_equity at (factor.InflationVol n t) x h = absurd (cc)
+is_equity at (factor.CreditQ i b t l) x h = absurd (cc)
+is_equity at (factor.CreditVol i b t l) x h = absurd (cc)
+is_equity at (factor.CreditNonQ i b t l) x h = absurd (cc)
+is_equity at (factor.CreditVolNonQ i b t l) x h = absurd (cc)
+is_equity at (factor.BaseCorr i) x h = absurd (cc)
+is_equity at (factor.Equity i b) x h = absurd (cc)
+is_equity at (factor.EquityVol i b t) x h =
+    let both = chosen (same_bucket b at) (record { name = i; tenor = t }) x h in
+    record { of = b; is = ap (λ (z : NameVolatility). factor.EquityVol z.name b z.tenor) both.1; inside = both.0 }
+is_equity at (factor.Commodity n b) x h = absurd (cc)
+is_equity at (factor.CommodityVol n b t) x h = absurd (cc)
+is_equity at (factor.Fx n) x h = absurd (cc)
+is_equity at (factor.FxVol p t) x h = absurd (cc)
+
+is_commodity : (at : Bucket) (f : Factor) (x : NameVolatility) → as_price_volatility Commodities at (risk f) ≡ Some x → IsCommodity at f x
+is_commodity at (factor.IrCurve n t s) x h = absurd (cc)
+is_commodity at (factor.Inflation n) x h = absurd (cc)
+is_commodity at (factor.XccyBasis n) x h = absurd (cc)
+is_commodity at (factor.IrVol n t) x h = absurd (cc)
+is_commodity at (factor.InflationVol n t) x h = absurd (cc)
+is_commodity at (factor.CreditQ i b t l) x h = absurd (cc)
+is_commodity at (factor.CreditVol i b t l) x h = absurd (cc)
+is_commodity at (factor.CreditNonQ i b t l) x h = absurd (cc)
+is_commodity at (factor.CreditVolNonQ i b t l) x h = absurd (cc)
+is_commodity at (factor.BaseCorr i) x h = absurd (cc)
+is_commodity at (factor.Equity i b) x h = absurd (cc)
+is_commodity at (factor.EquityVol i b t) x h = absurd (cc)
+is_commodity at (factor.Commodity n b) x h = absurd (cc)
+is_commodity at (factor.CommodityVol n b t) x h =
+    let both = chosen (same_bucket (bucket.Number b) at) (record { name = n; tenor = t }) x h in
+    record { of = b; is = ap (λ (z : NameVolatility). factor.CommodityVol z.name b z.tenor) both.1; inside = both.0 }
+is_commodity at (factor.Fx n) x h = absurd (cc)
+is_commodity at (factor.FxVol p t) x h = absurd (cc)
+
+-- ---- where they stand
+
+stands : (class : PricedClass) (at : Bucket) (product : ProductClass) (k : FactorKey) (x : NameVolatility) → as_price_volatility class at (risk k.factor) ≡ Some x → stands_at (names_place class at product) k ≡ same_product k.product product
+stands Equities at product k x e =
+    let i = is_equity at k.factor x e in
+    ap (λ f. stands_at (names_place Equities at product) (key_with k.product f)) i.is
+    ∙ and_last (same_product k.product product) (same_bucket_id (bucket_id_of i.of) (bucket_id_of at)) (bucket_ids i.of at ∙ i.inside)
+stands Commodities at product k x e =
+    let i = is_commodity at k.factor x e in
+    ap (λ f. stands_at (names_place Commodities at product) (key_with k.product f)) i.is
+    ∙ and_last (same_product k.product product) (same_bucket_id (bucket_id_of (bucket.Number i.of)) (bucket_id_of at)) (bucket_ids (bucket.Number i.of) at ∙ i.inside)
+
+says : (class : PricedClass) (at : Bucket) (f : Factor) (x : NameVolatility) → as_price_volatility class at (risk f) ≡ Some x → as_name_volatility (risk f) ≡ Some x
+says Equities at f x e = ap (λ g. as_name_volatility (risk g)) (is_equity at f x e).is
+says Commodities at f x e = ap (λ g. as_name_volatility (risk g)) (is_commodity at f x e).is
+
+elsewhere : (class : PricedClass) (at : Bucket) (product c : ProductClass) (f : Factor) → as_price_volatility class at (risk f) ≡ None → stands_at (names_place class at product) (key_with c f) ≡ false
+elsewhere Equities at product c (factor.IrCurve n t s) h = and_other (same_product c product) false (same_bucket_id (id.Currency n) (bucket_id_of at))
+elsewhere Equities at product c (factor.Inflation n) h = and_other (same_product c product) false (same_bucket_id (id.Currency n) (bucket_id_of at))
+elsewhere Equities at product c (factor.XccyBasis n) h = and_other (same_product c product) false (same_bucket_id (id.Currency n) (bucket_id_of at))
+elsewhere Equities at product c (factor.IrVol n t) h = and_other (same_product c product) true (same_bucket_id (id.Currency n) (bucket_id_of at))
+elsewhere Equities at product c (factor.InflationVol n t) h = and_other (same_product c product) true (same_bucket_id (id.Currency n) (bucket_id_of at))
+elsewhere Equities at product c (factor.CreditQ i b t l) h = and_other (same_product c product) false (same_bucket_id (bucket_id_of b) (bucket_id_of at))
+elsewhere Equities at product c (factor.CreditVol i b t l) h = and_other (same_product c product) true (same_bucket_id (bucket_id_of b) (bucket_id_of at))
+elsewhere Equities at product c (factor.CreditNonQ i b t l) h = and_other (same_product c product) false (same_bucket_id (bucket_id_of b) (bucket_id_of at))
+elsewhere Equities at product c (factor.CreditVolNonQ i b t l) h = and_other (same_product c product) true (same_bucket_id (bucket_id_of b) (bucket_id_of at))
+elsewhere Equities at product c (factor.BaseCorr i) h = and_other (same_product c product) false (same_bucket_id id.Single (bucket_id_of at))
+elsewhere Equities at product c (factor.Equity i b) h = and_side (same_product c product) (same_bucket_id (bucket_id_of b) (bucket_id_of at))
+elsewhere Equities at product c (factor.EquityVol i b t) h =
+    and_bucket (same_product c product) (same_bucket_id (bucket_id_of b) (bucket_id_of at)) (bucket_ids b at ∙ not_chosen (same_bucket b at) (record { name = i; tenor = t }) h)
+elsewhere Equities at product c (factor.Commodity n b) h = and_other (same_product c product) false (same_bucket_id (id.Number b) (bucket_id_of at))
+elsewhere Equities at product c (factor.CommodityVol n b t) h = and_other (same_product c product) true (same_bucket_id (id.Number b) (bucket_id_of at))
+elsewhere Equities at product c (factor.Fx n) h = and_other (same_product c product) false (same_bucket_id id.Single (bucket_id_of at))
+elsewhere Equities at product c (factor.FxVol p t) h = and_other (same_product c product) true (same_bucket_id id.Single (bucket_id_of at))
+elsewhere Commodities at product c (factor.IrCurve n t s) h = and_other (same_product c product) false (same_bucket_id (id.Currency n) (bucket_id_of at))
+elsewhere Commodities at product c (factor.Inflation n) h = and_other (same_product c product) false (same_bucket_id (id.Currency n) (bucket_id_of at))
+elsewhere Commodities at product c (factor.XccyBasis n) h = and_other (same_product c product) false (same_bucket_id (id.Currency n) (bucket_id_of at))
+elsewhere Commodities at product c (factor.IrVol n t) h = and_other (same_product c product) true (same_bucket_id (id.Currency n) (bucket_id_of at))
+elsewhere Commodities at product c (factor.InflationVol n t) h = and_other (same_product c product) true (same_bucket_id (id.Currency n) (bucket_id_of at))
+elsewhere Commodities at product c (factor.CreditQ i b t l) h = and_other (same_product c product) false (same_bucket_id (bucket_id_of b) (bucket_id_of at))
+elsewhere Commodities at product c (factor.CreditVol i b t l) h = and_other (same_product c product) true (same_bucket_id (bucket_id_of b) (bucket_id_of at))
+elsewhere Commodities at product c (factor.CreditNonQ i b t l) h = and_other (same_product c product) false (same_bucket_id (bucket_id_of b) (bucket_id_of at))
+elsewhere Commodities at product c (factor.CreditVolNonQ i b t l) h = and_other (same_product c product) true (same_bucket_id (bucket_id_of b) (bucket_id_of at))
+elsewhere Commodities at product c (factor.BaseCorr i) h = and_other (same_product c product) false (same_bucket_id id.Single (bucket_id_of at))
+elsewhere Commodities at product c (factor.Equity i b) h = and_other (same_product c product) false (same_bucket_id (bucket_id_of b) (bucket_id_of at))
+elsewhere Commodities at product c (factor.EquityVol i b t) h = and_other (same_product c product) true (same_bucket_id (bucket_id_of b) (bucket_id_of at))
+elsewhere Commodities at product c (factor.Commodity n b) h = and_side (same_product c product) (same_bucket_id (id.Number b) (bucket_id_of at))
+elsewhere Commodities at product c (factor.CommodityVol n b t) h =
+    and_bucket (same_product c product) (same_bucket_id (bucket_id_of (bucket.Number b)) (bucket_id_of at)) (bucket_ids (bucket.Number b) at ∙ not_chosen (same_bucket (bucket.Number b) at) (record { name = n; tenor = t }) h)
+elsewhere Commodities at product c (factor.Fx n) h = and_other (same_product c product) false (same_bucket_id id.Single (bucket_id_of at))
+elsewhere Commodities at product c (factor.FxVol p t) h = and_other (same_product c product) true (same_bucket_id id.Single (bucket_id_of at))
+
+-- the nets of the place are those of the bucket's names
+pub nets_are : (class : PricedClass) (at : Bucket) (product : ProductClass) (fs : List (FactorKey × Holding)) → nets_at (names_place class at product) fs ≡ name_volatilities class at product fs
+nets_are class at product fs =
+    issuers_place (as_price_volatility class at) as_name_volatility (λ x. x) (names_place class at product) (stands class at product) (λ k x e. says class at k.factor x e) (λ k e. elsewhere class at product k.product k.factor e) fs
+    ∙ map-itself (λ (a : Amount NameVolatility). record { of = a.of; amount = a.amount }) (λ a. refl) (name_volatilities class at product fs)
+
+-- ---- in which order
+
+abbrev volatility_cmp : NameVolatility → NameVolatility → Ordering
+volatility_cmp = then_cmp (on (λ x. x.name) name_cmp) (on (λ x. tenor_place x.tenor) nat_cmp)
+
+abbrev parts_then : Ordering → Ordering → Ordering → Ordering
+parts_then a b c = ordering_then a (ordering_then b (ordering_then c Equal))
+
+by_parts : (x y : NameVolatility) (b c at : Bucket) → same_bucket b at ≡ true → same_bucket c at ≡ true
+    → parts_then (name_cmp x.name y.name) (name_cmp (bucket_numbers b) (bucket_numbers c)) (name_cmp (tenor_place x.tenor ∷ []) (tenor_place y.tenor ∷ [])) ≡ volatility_cmp x y
+by_parts x y b c at p q =
+    let name = name_cmp x.name y.name in
+    let tenor = nat_cmp (tenor_place x.tenor) (tenor_place y.tenor) in
+    ap (λ o. parts_then name o (name_cmp (tenor_place x.tenor ∷ []) (tenor_place y.tenor ∷ []))) (tied_buckets b c at p q)
+    ∙ ap (ordering_then name) (then_Equal (name_cmp (tenor_place x.tenor ∷ []) (tenor_place y.tenor ∷ [])) ∙ then_Equal tenor)
+
+-- a commodity's bucket is compared by its number
+by_number : (x y : NameVolatility) (m n : ℕ) (at : Bucket) → same_bucket (bucket.Number m) at ≡ true → same_bucket (bucket.Number n) at ≡ true
+    → parts_then (name_cmp x.name y.name) (name_cmp (m ∷ []) (n ∷ [])) (name_cmp (tenor_place x.tenor ∷ []) (tenor_place y.tenor ∷ [])) ≡ volatility_cmp x y
+by_number x y m n at p q = by_parts x y (bucket.Number m) (bucket.Number n) at p q
+
+less : (class : PricedClass) (at : Bucket) (product : ProductClass) (k l : FactorKey) (x y : NameVolatility) → same_product k.product product ≡ true → same_product l.product product ≡ true → as_price_volatility class at (risk k.factor) ≡ Some x → as_price_volatility class at (risk l.factor) ≡ Some y → key_cmp k l ≡ Less → volatility_cmp x y ≡ Less
+less Equities at product k l x y p q e d h =
+    let i = is_equity at k.factor x e in
+    let j = is_equity at l.factor y d in
+    sym (by_factor product k l (factor.EquityVol x.name i.of x.tenor) (factor.EquityVol y.name j.of y.tenor) p q i.is j.is ∙ by_parts x y i.of j.of at i.inside j.inside) ∙ h
+less Commodities at product k l x y p q e d h =
+    let i = is_commodity at k.factor x e in
+    let j = is_commodity at l.factor y d in
+    sym (by_factor product k l (factor.CommodityVol x.name i.of x.tenor) (factor.CommodityVol y.name j.of y.tenor) p q i.is j.is ∙ by_number x y i.of j.of at i.inside j.inside) ∙ h
+
+-- a volatility that comes before another is of no later name
+name_first : (x y : NameVolatility) → volatility_cmp x y ≡ Less → (name_cmp x.name y.name ≡ Less) ⊎ (name_cmp x.name y.name ≡ Equal)
+name_first x y h = by (name_cmp x.name y.name) refl h
+  where
+    by : (o : Ordering) → name_cmp x.name y.name ≡ o → ordering_then (name_cmp x.name y.name) (nat_cmp (tenor_place x.tenor) (tenor_place y.tenor)) ≡ Less → (name_cmp x.name y.name ≡ Less) ⊎ (name_cmp x.name y.name ≡ Equal)
+    by Less e g = inl e
+    by Equal e g = inr e
+    by Greater e g = absurd (cc)
+
+module _ (scale : TenorScale) where
+  abbrev by_name : Amount NameVolatility → Amount (List ℕ)
+  by_name = scaled_net scale
+
+  ascend : (amounts : List (Amount NameVolatility)) → IsStrictlySortedBy volatility_cmp (map (λ a. a.of) amounts) → Ascends name_cmp nat_list_cmp_total same_name (λ x y. refl) (scaled_nets scale amounts)
+  unfolding IsStrictlySortedBy
+  ascend [] s = tt
+  ascend (a ∷ amounts) s = (
+    each_map (λ (b : Amount (List ℕ)). NotAfter name_cmp nat_list_cmp_total same_name (λ x y. refl) (a.of).name b.of) by_name amounts
+        (each_weaker (λ (b : Amount NameVolatility). volatility_cmp a.of b.of ≡ Less) (λ b. NotAfter name_cmp nat_list_cmp_total same_name (λ x y. refl) (a.of).name (b.of).name) (λ b its. name_first a.of b.of its) amounts
+        (each_unmap (λ y. volatility_cmp a.of y ≡ Less) (λ (b : Amount NameVolatility). b.of) amounts s.0)),
+    ascend amounts s.1,
+  )
+
+  -- ---- the sums of the names
+
+  module _ (amounts : List (Amount NameVolatility)) where
+    abbrev own : List ℕ → List (Amount NameVolatility)
+    own name = filter (λ (a : Amount NameVolatility). same_name (a.of).name name) amounts
+
+    total_of : (name : List ℕ) → total_by (λ a. a.amount) (filter (λ a. same_name a.of name) (scaled_nets scale amounts)) ≡ name_total scale amounts name
+    total_of name =
+        ap (total_by (λ (a : Amount (List ℕ)). a.amount)) (sym (map-filter by_name (λ (a : Amount (List ℕ)). same_name a.of name) amounts))
+        ∙ total_by-map (λ (a : Amount (List ℕ)). a.amount) by_name (own name)
+        ∙ sym (total_by-map (λ (a : Amount Tenor). scale_by scale a.of *ℤ a.amount) (λ (a : Amount NameVolatility). record { of = (a.of).tenor; amount = a.amount }) (own name))
+
+  maps_agree : {X Y : Type 0} (f g : X → Y) → ((x : X) → f x ≡ g x) → (xs : List X) → map f xs ≡ map g xs
+  maps_agree f g h [] = refl
+  maps_agree f g h (x ∷ xs) = ap (λ y. y ∷ map f xs) (h x) ∙ ap (λ ys. g x ∷ ys) (maps_agree f g h xs)
+
+  pub sums_are : (class : PricedClass) (at : Bucket) (product : ProductClass) (fs : List (FactorKey × Holding)) → IsBook fs → name_sums_at scale (names_place class at product) fs ≡ name_totals scale (name_volatilities class at product fs)
+  sums_are class at product fs book =
+      let amounts = name_volatilities class at product fs in
+      ap (λ xs. summed same_name (scaled_nets scale xs)) (nets_are class at product fs)
+      ∙ runs_are name_cmp nat_list_cmp_total same_name (λ x y. refl) (scaled_nets scale amounts) (ascend amounts (select_ascends (as_price_volatility class at) volatility_cmp product (less class at product) fs book))
+      ∙ ap (λ ks. map (sum_to name_cmp nat_list_cmp_total same_name (λ x y. refl) (scaled_nets scale amounts)) (different name_cmp ks)) (map-map (λ (a : Amount (List ℕ)). a.of) by_name amounts)
+      ∙ maps_agree (sum_to name_cmp nat_list_cmp_total same_name (λ x y. refl) (scaled_nets scale amounts)) (λ name. record { of = name; amount = name_total scale amounts name }) (λ name. ap (λ z. record { of = name; amount = z }) (total_of amounts name)) (names_of amounts)

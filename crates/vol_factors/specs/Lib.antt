@@ -1,0 +1,7 @@
+pub mod Scale
+pub mod Places
+pub mod Rates
+pub mod Credit
+pub mod Together
+pub mod Names
+pub mod Ranges

@@ -1,0 +1,20 @@
+//! The volatilities of a bucket of a book, as vega and curvature take them: which there are, in their order, and what the net
+//! sensitivities to each come to. The tenors of a name are one factor, whose nets add up.
+//! (ISDA SIMM methodology, vega and curvature: definition of the sensitivities.)
+#![tactic(auto)]
+
+mod credit;
+mod names;
+mod places;
+mod rate_rho;
+mod rates;
+mod tenor_scale;
+mod volatility;
+
+pub use credit::point_sums;
+pub use names::{NameSum, name_sums};
+pub use places::{CreditAt, CurrencyAt, PricedAt};
+pub use rate_rho::VolatilityRho;
+pub use rates::{VolatilitySum, volatility_sums};
+pub use tenor_scale::TenorScale;
+pub use volatility::Volatility;

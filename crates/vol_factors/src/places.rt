@@ -1,0 +1,80 @@
+//! The buckets whose volatilities are asked for, and where these stand in a book.
+ghost use Rattle.std.specs.Prelude.{◌≡◌};
+ghost use Rattle.simm_params.specs.ClassKinds.{credit_class, priced_class};
+ghost use Rattle.vol_factors.specs.Places.{currency_place, points_place, names_place};
+
+use factor_book::{BookSide, Place};
+use name_delta::bucket_id;
+use simm_kinds::{Bucket, BucketId, Currency, ProductClass, RiskClass};
+use simm_params::{CreditKind, PricedKind};
+
+/// The bucket of a currency in a product class.
+#[derive(Clone, Copy, Debug)]
+pub struct CurrencyAt {
+    pub product: ProductClass,
+    pub currency: Currency,
+}
+
+/// A bucket of a class of credit in a product class.
+#[derive(Clone, Copy, Debug)]
+pub struct CreditAt {
+    pub product: ProductClass,
+    pub kind: CreditKind,
+    pub bucket: Bucket,
+}
+
+/// A bucket of equity or of commodities in a product class.
+#[derive(Clone, Copy, Debug)]
+pub struct PricedAt {
+    pub product: ProductClass,
+    pub kind: PricedKind,
+    pub bucket: Bucket,
+}
+
+impl CurrencyAt {
+    /// Where its volatilities stand.
+    pub fn place(self) -> Place
+        ensures { result ≡ currency_place self.currency self.product }
+    {
+        Place {
+            product: self.product,
+            class: RiskClass::IR,
+            side: BookSide::Volatility,
+            bucket: BucketId::Currency(self.currency),
+        }
+    }
+}
+
+impl CreditAt {
+    /// Where its volatilities stand.
+    pub fn place(self) -> Place
+        ensures { result ≡ points_place (credit_class self.kind) self.bucket self.product }
+    {
+        Place {
+            product: self.product,
+            class: match self.kind {
+                CreditKind::Qualifying => RiskClass::CreditQ,
+                CreditKind::NonQualifying => RiskClass::CreditNonQ,
+            },
+            side: BookSide::Volatility,
+            bucket: bucket_id(&self.bucket),
+        }
+    }
+}
+
+impl PricedAt {
+    /// Where its volatilities stand.
+    pub fn place(self) -> Place
+        ensures { result ≡ names_place (priced_class self.kind) self.bucket self.product }
+    {
+        Place {
+            product: self.product,
+            class: match self.kind {
+                PricedKind::Equities => RiskClass::Equity,
+                PricedKind::Commodities => RiskClass::Commodity,
+            },
+            side: BookSide::Volatility,
+            bucket: bucket_id(&self.bucket),
+        }
+    }
+}

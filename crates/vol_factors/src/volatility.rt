@@ -1,0 +1,37 @@
+ghost use Rattle.std.specs.Prelude.{◌≡◌};
+ghost use Rattle.simm_rules.specs.Risks.{risk};
+ghost use Rattle.simm_rules.specs.Rates.{tenor_of};
+ghost use Rattle.vol_factors.specs.Rates.{as_volatility, rule_volatility, rule_volatilities};
+
+use simm_kinds::{Factor, FactorKey, Tenor};
+
+/// A volatility of a currency, by what its correlations go by.
+#[derive(Clone, Copy, Debug)]
+pub enum Volatility {
+    /// Of its interest rates.
+    Rates { tenor: Tenor },
+    /// Of its inflation.
+    Inflation { tenor: Tenor },
+}
+
+impl Volatility {
+    /// The volatility that a key is a sensitivity to, of whatever currency; `None` where it is to none of a currency.
+    pub fn of(key: &FactorKey) -> Option<Volatility>
+        ensures { rule_volatilities result ≡ as_volatility (risk key.now.factor) }
+    {
+        match &key.factor {
+            Factor::IrVol { tenor, .. } => Some(Volatility::Rates { tenor: *tenor }),
+            Factor::InflationVol { tenor, .. } => Some(Volatility::Inflation { tenor: *tenor }),
+            _ => None,
+        }
+    }
+
+    /// Its tenor.
+    pub fn tenor(self) -> Tenor
+        ensures { result ≡ tenor_of (rule_volatility self) }
+    {
+        match self {
+            Volatility::Rates { tenor } | Volatility::Inflation { tenor } => tenor,
+        }
+    }
+}
