@@ -5,3 +5,5 @@ pub mod Runs
 pub mod NamesTogether
 pub mod NameRuns
 pub mod Readings
+pub mod NameSizes
+pub mod Lent

@@ -1,9 +1,9 @@
 -- Volatilities of names that have a price: where they stand, and in which order.
-use Rattle.std.proofs.Common.{◌≡◌, ℕ, List, [], ◌∷◌, map, Bool, true, false, Some, None, refl, sym, ap, ◌∙◌, subst, ℤ, ◌*ℤ◌, ◌⊎◌, inl, inr}
+use Rattle.std.proofs.Common.{◌≡◌, ℕ, List, [], ◌∷◌, map, true, false, Some, None, refl, sym, ap, ◌∙◌, ◌*ℤ◌, ◌⊎◌, inl, inr}
 use Rattle.std.specs.declared.cmp.Ordering.{Ordering}
 use Rattle.std.specs.declared.cmp.Ordering.TheVariants.{Less, Equal, Greater}
 use Rattle.std.specs.Ordering.{nat_cmp, ordering_then, then_cmp, on}
-use Rattle.std.specs.List.{filter, AllByRecursion}
+use Rattle.std.specs.List.{filter}
 use Rattle.std.specs.List.Sorted.{IsStrictlySortedBy}
 use Rattle.std.proofs.lemmas.Cmp.{nat_list_cmp_total}
 use Rattle.std.proofs.lemmas.Simd.{map-map}
@@ -19,8 +19,7 @@ use Rattle.simm_kinds.specs.Factors.{bucket_id_of}
 use Rattle.simm_kinds.specs.Order.{same_product, key_cmp, name_cmp, same_name, tenor_place, bucket_numbers, same_bucket, same_bucket_id}
 use Rattle.simm_rules.specs.Sums.{total_by, different}
 use Rattle.simm_rules.specs.Risks.{risk, PricedClass, Equities, Commodities, Amount}
-use Rattle.simm_rules.specs.Priced.{NameVolatility, as_price_volatility, names_of, tenors_of}
-use Rattle.factor_book.specs.declared.place.Place.{Place}
+use Rattle.simm_rules.specs.Priced.{NameVolatility, as_price_volatility, names_of}
 use Rattle.factor_book.specs.declared.holding.Holding.{Holding}
 use Rattle.factor_book.specs.Factors.{IsBook}
 use Rattle.factor_book.specs.Places.{stands_at}
@@ -33,7 +32,7 @@ use Rattle.vol_factors.specs.Scale.{scale_by}
 use Rattle.vol_factors.specs.Places.{names_place, name_volatilities}
 use Rattle.vol_factors.specs.Names.{as_name_volatility, nets_at, scaled_net, scaled_nets, name_total, name_totals, name_sums_at}
 use Rattle.vol_factors.specs.Together.{summed}
-use Rattle.vol_factors.proofs.Runs.{NotAfter, Ascends, sum_to, kinds, runs_are}
+use Rattle.vol_factors.proofs.Runs.{NotAfter, Ascends, sum_to, runs_are}
 
 -- ---- which factors they are
 
@@ -185,6 +184,10 @@ name_first x y h = by (name_cmp x.name y.name) refl h
     by Equal e g = inr e
     by Greater e g = absurd (cc)
 
+pub maps_agree : {X Y : Type 0} (f g : X → Y) → ((x : X) → f x ≡ g x) → (xs : List X) → map f xs ≡ map g xs
+maps_agree f g h [] = refl
+maps_agree f g h (x ∷ xs) = ap (λ y. y ∷ map f xs) (h x) ∙ ap (λ ys. g x ∷ ys) (maps_agree f g h xs)
+
 module _ (scale : TenorScale) where
   abbrev by_name : Amount NameVolatility → Amount (List ℕ)
   by_name = scaled_net scale
@@ -210,10 +213,6 @@ module _ (scale : TenorScale) where
         ap (total_by (λ (a : Amount (List ℕ)). a.amount)) (sym (map-filter by_name (λ (a : Amount (List ℕ)). same_name a.of name) amounts))
         ∙ total_by-map (λ (a : Amount (List ℕ)). a.amount) by_name (own name)
         ∙ sym (total_by-map (λ (a : Amount Tenor). scale_by scale a.of *ℤ a.amount) (λ (a : Amount NameVolatility). record { of = (a.of).tenor; amount = a.amount }) (own name))
-
-  maps_agree : {X Y : Type 0} (f g : X → Y) → ((x : X) → f x ≡ g x) → (xs : List X) → map f xs ≡ map g xs
-  maps_agree f g h [] = refl
-  maps_agree f g h (x ∷ xs) = ap (λ y. y ∷ map f xs) (h x) ∙ ap (λ ys. g x ∷ ys) (maps_agree f g h xs)
 
   pub sums_are : (class : PricedClass) (at : Bucket) (product : ProductClass) (fs : List (FactorKey × Holding)) → IsBook fs → name_sums_at scale (names_place class at product) fs ≡ name_totals scale (name_volatilities class at product fs)
   sums_are class at product fs book =

@@ -1,5 +1,5 @@
 -- What a book lends at a currency's place is its volatilities, in order.
-use Rattle.std.proofs.Common.{◌≡◌, ℕ, List, [], ◌∷◌, map, Bool, true, false, cond, if◌then◌else◌, Option, Some, None, refl, sym, ap, ◌∙◌, subst, ℤ}
+use Rattle.std.proofs.Common.{◌≡◌, ℕ, List, [], ◌∷◌, map, Bool, true, false, cond, if◌then◌else◌, Option, Some, None, refl, sym, ap, ◌∙◌, subst}
 use Rattle.std.specs.List.{filter}
 use Rattle.std.specs.List.Sorted.{IsStrictlySortedBy}
 use Rattle.std.specs.declared.cmp.Ordering.{Ordering}
@@ -9,7 +9,6 @@ use Rattle.std.specs.Cmp.{IsTotalOrder}
 use Rattle.std.proofs.lemmas.Cmp.{nat_cmp_total, nat_list_cmp_total, tied_itself, then_total, on_total}
 use Rattle.std.proofs.lemmas.Map.Lookups.{exact_bytes}
 use Rattle.simm_kinds.specs.declared.kinds.ProductClass.{ProductClass}
-use Rattle.simm_kinds.specs.declared.kinds.Tenor.{Tenor}
 use Rattle.simm_kinds.specs.declared.kinds.BucketId.TheVariants as id
 use Rattle.simm_kinds.specs.declared.factor.Factor.{Factor}
 use Rattle.simm_kinds.specs.declared.factor.Factor.TheVariants as factor
@@ -20,16 +19,15 @@ use Rattle.simm_kinds.proofs.Variants.{is_eq-Equal}
 use Rattle.simm_rules.specs.Net.{Sensitivity}
 use Rattle.simm_rules.specs.Risks.{Risk, risk, RateVolatility, Of_rates, Of_inflation, Amount, select}
 use Rattle.simm_rules.specs.Rates.{VolatilityIn, as_rate_volatility, same_rate_volatility}
-use Rattle.factor_book.specs.declared.place.Place.{Place}
 use Rattle.factor_book.specs.declared.holding.Holding.{Holding}
-use Rattle.factor_book.specs.Factors.{net_of, IsBook}
-use Rattle.factor_book.specs.Places.{stands_at, factors_at}
+use Rattle.factor_book.specs.Factors.{IsBook}
+use Rattle.factor_book.specs.Places.{stands_at}
 use Rattle.name_delta.specs.Values.{nets_in}
 use Rattle.name_delta.proofs.Keys.{then_Equal, is_eq-nat, and_last, and_other, and_side, and_bucket, key_with, by_factor, chosen, not_chosen}
 use Rattle.name_delta.proofs.Lists.{map-itself}
 use Rattle.name_delta.proofs.Selected.{select_none, select_some, issuers_place, select_ascends}
 use Rattle.vol_factors.specs.Places.{currency_place, volatilities_of}
-use Rattle.vol_factors.specs.Rates.{as_volatility, alone_of, volatilities_at, without_currency}
+use Rattle.vol_factors.specs.Rates.{as_volatility, alone_of, volatilities_at}
 
 -- ---- the order of volatilities: by kind, then by tenor
 

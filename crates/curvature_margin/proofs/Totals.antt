@@ -1,0 +1,57 @@
+-- Sums over the values of buckets, and a part of the margin by them.
+use Rattle.std.proofs.Common.{◌≡◌, ◌^◌, ℕ, ◌+◌, ◌*◌, ◌<◌, ◌≤◌, List, [], ◌∷◌, map, take, length, get_or, refl, sym, ap, ◌∙◌, subst, ℤ, pos, ◌+ℤ◌, ◌≤ℤ◌, unsigned_abs, FitsSigned, arith}
+use Rattle.std.specs.Prelude.{sum_by}
+use Rattle.std.specs.Int.{w128}
+use Rattle.std.specs.List.{AllByRecursion}
+use Rattle.std.proofs.Math.IntN.{+ℤ_idr}
+use Rattle.std.proofs.lemmas.Int.{ints, fits_signed_from_abs}
+use Rattle.std.proofs.lemmas.List.{take_more}
+use Rattle.std.proofs.lemmas.List.Sums.{sum_by-cons, sum_by-take-le, get_or-le-sum_by}
+use Rattle.simm_rules.specs.declared.values.BucketMargin.{BucketMargin}
+use Rattle.simm_rules.specs.Sums.{total_by}
+use Rattle.simm_rules.specs.Across.{Part}
+use Rattle.simm_rules.specs.Curvature.{curvature_part}
+use Rattle.factor_book.proofs.Sums.{total_by-append, total_by-map}
+use Rattle.name_delta.proofs.Sizes.{total_size}
+use Rattle.curvature_margin.specs.Part.{sum_over, gross_over, part_by, part_over}
+
+-- ---- one value more
+
+module _ (f : BucketMargin → ℤ) where
+  pub record TotalStep (values : List BucketMargin) (n : ℕ) (sum more : ℤ) : Type 0 where
+    pub own : FitsSigned w128 more
+    pub both : FitsSigned w128 (sum +ℤ more)
+    pub value : sum +ℤ more ≡ total_by f (take (n + 1) values)
+
+  first_size : (values : List BucketMargin) (n : ℕ) → unsigned_abs (total_by f (take n values)) ≤ sum_by (λ b. unsigned_abs (f b)) values
+  first_size values n = omega (arith, total_size f (take n values), sum_by-take-le (λ b. unsigned_abs (f b)) values n)
+
+  pub total_step : (values : List BucketMargin) (n : ℕ) (sum : ℤ) (own : BucketMargin) → sum_by (λ b. unsigned_abs (f b)) values < 84 * 10 ^ 14 → n < length values → own ≡ get_or values n own → sum ≡ total_by f (take n values) → TotalStep values n sum (f own)
+  total_step values n sum own range inside at so_far =
+      let value : sum +ℤ f own ≡ total_by f (take (n + 1) values) =
+      ap (λ z. z +ℤ f own) so_far ∙ ap (λ b. total_by f (take n values) +ℤ f b) at ∙ ap (λ z. total_by f (take n values) +ℤ z) (sym (+ℤ_idr (f (get_or values n own))))
+      ∙ sym (total_by-append f (take n values) (get_or values n own ∷ [])) ∙ ap (total_by f) (sym (take_more values n own inside)) in
+      let size : unsigned_abs (sum +ℤ f own) ≤ sum_by (λ b. unsigned_abs (f b)) values = subst (λ z. unsigned_abs z ≤ sum_by (λ b. unsigned_abs (f b)) values) (sym value) (first_size values (n + 1)) in
+      let one : unsigned_abs (f own) ≤ sum_by (λ b. unsigned_abs (f b)) values = subst (λ b. unsigned_abs (f b) ≤ sum_by (λ b. unsigned_abs (f b)) values) (sym at) (get_or-le-sum_by (λ b. unsigned_abs (f b)) values n own inside) in
+      record {
+        own = fits_signed_from_abs w128 (f own) (omega (arith, one, range));
+        both = fits_signed_from_abs w128 (sum +ℤ f own) (omega (arith, size, range));
+        value = value;
+      }
+
+-- ---- a part of the margin
+
+pub part_is : {A : Type 0} (base : ℤ) (parts : List (Part A)) (root : ℤ) → part_over base (map (λ b. b.value) parts) root ≡ curvature_part base parts root
+part_is {A} base parts root =
+    ap (λ z. part_by base z (gross_over (map (λ (b : Part A). b.value) parts)) root) (total_by-map (λ (b : BucketMargin). b.sum) (λ (b : Part A). b.value) parts)
+    ∙ ap (λ z. part_by base (total_by (λ (b : Part A). (b.value).sum) parts) z root) (total_by-map (λ (b : BucketMargin). b.gross) (λ (b : Part A). b.value) parts)
+
+-- each sum is at most its gross size, and so are all together
+pub sums_within : (values : List BucketMargin) → AllByRecursion (λ b. pos (unsigned_abs b.sum) ≤ℤ b.gross) values → pos (unsigned_abs (sum_over values)) ≤ℤ gross_over values
+sums_within [] h = omega (arith, ints)
+sums_within (b ∷ values) h = omega (arith, ints, h.0, sums_within values h.1)
+
+pub sizes_within : (values : List BucketMargin) → AllByRecursion (λ b. pos (unsigned_abs b.sum) ≤ℤ b.gross) values → sum_by (λ b. unsigned_abs b.sum) values ≤ sum_by (λ b. unsigned_abs b.gross) values
+sizes_within [] h = omega arith
+sizes_within (b ∷ values) h =
+    omega (arith, ints, h.0, sizes_within values h.1, sum_by-cons (λ (v : BucketMargin). unsigned_abs v.sum) b values, sum_by-cons (λ (v : BucketMargin). unsigned_abs v.gross) b values)
