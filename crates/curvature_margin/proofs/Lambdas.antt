@@ -1,9 +1,9 @@
 -- Lambda, a part of the margin, and the scale of interest rates: their sizes.
 use Rattle.std.proofs.Common.{◌≡◌, ◌^◌, ℕ, suc, ◌+◌, ◌*◌, ◌<◌, ◌≤◌, refl, sym, ap, ◌∙◌, subst, ℤ, pos, negsuc, neg_ℤ, ◌+ℤ◌, ◌-ℤ◌, ◌*ℤ◌, ◌≤ℤ◌, ◌<ℤ◌, unsigned_abs, FitsSigned, arith, mul-le-mul_left, mul-le-mul_right}
-use Rattle.std.specs.Int.{w128, int_min, int_max}
-use Rattle.std.proofs.lemmas.Int.{ints, fits_signed_from_abs}
+use Rattle.std.specs.Int.{w128, cast_signed, cast_unsigned}
+use Rattle.std.proofs.lemmas.Int.{ints, clamps, fits_signed_from_abs}
 use Rattle.mh_units.specs.Rounding.{up}
-use Rattle.mh_units.proofs.Integers.{mul-le_ℤ, size_from_bounds}
+use Rattle.mh_units.proofs.Integers.{mul-le_ℤ, same128}
 use Rattle.mh_units.proofs.Roundings.{up_is}
 use Rattle.simm_rules.specs.Concentration.{one}
 use Rattle.simm_rules.specs.Curvature.{shortfall, lambda}
@@ -39,8 +39,7 @@ pub record Shortfall (sum gross : ℤ) : Type 0 where
   pub high : shortfall sum ≤ℤ pos 0
 
 shortfall_is : (sum gross : ℤ) → pos 0 <ℤ gross → pos (unsigned_abs sum) ≤ℤ gross → Shortfall sum gross
-shortfall_is (pos n) gross some summed = record { low = omega (arith, ints); high = omega (arith, ints) }
-shortfall_is (negsuc n) gross some summed = record { low = omega (arith, ints); high = omega (arith, ints) }
+shortfall_is sum gross some summed = record { low = omega (arith, ints, clamps); high = omega (arith, ints, clamps) }
 
 pub record Whole (base sum gross : ℤ) : Type 0 where
   pub rest_fits : FitsSigned w128 (gross +ℤ shortfall sum)
@@ -69,6 +68,42 @@ whole_is base sum gross range some below summed =
       high = rounded.least (pos (10 ^ 7)) all_high;
     }
 
+-- ---- as they are computed
+
+abbrev pub passed : ℤ → ℤ
+passed z = cast_signed w128 (cast_unsigned w128 z)
+
+rest_passed : (a b : ℤ) → FitsSigned w128 a → FitsSigned w128 b → FitsSigned w128 (a +ℤ b) → passed (passed a +ℤ passed b) ≡ a +ℤ b
+rest_passed a b h g both = ap (λ z. passed (z +ℤ passed b)) (same128 a h) ∙ ap (λ z. passed (a +ℤ z)) (same128 b g) ∙ same128 (a +ℤ b) both
+
+-- f and s are the base and the shortfall
+module _ (base sum gross f s : ℤ) (its : Whole base sum gross) (is_base : f ≡ base) (is_short : s ≡ shortfall sum) (base_fits : FitsSigned w128 base) (gross_fits : FitsSigned w128 gross) (short_fits : FitsSigned w128 (shortfall sum)) where
+  abbrev rest : ℤ
+  rest = gross +ℤ shortfall sum
+
+  pub first_passed : passed f *ℤ passed (passed gross +ℤ passed s) ≡ base *ℤ (gross +ℤ shortfall sum)
+  first_passed =
+      ap (λ z. passed z *ℤ passed (passed gross +ℤ passed s)) is_base ∙ ap (λ z. z *ℤ passed (passed gross +ℤ passed s)) (same128 base base_fits)
+      ∙ ap (λ z. base *ℤ passed (passed gross +ℤ passed z)) is_short ∙ ap (λ z. base *ℤ z) (rest_passed gross (shortfall sum) gross_fits short_fits its.rest_fits)
+
+  second_passed : pos 1000000 *ℤ passed s ≡ one *ℤ shortfall sum
+  second_passed = ap (λ z. one *ℤ passed z) is_short ∙ ap (λ z. one *ℤ z) (same128 (shortfall sum) short_fits)
+
+  pub whole_passed : passed (passed f *ℤ passed (passed gross +ℤ passed s)) -ℤ passed (pos 1000000 *ℤ passed s) ≡ base *ℤ (gross +ℤ shortfall sum) -ℤ one *ℤ shortfall sum
+  whole_passed =
+      ap (λ z. passed z -ℤ passed (pos 1000000 *ℤ passed s)) first_passed ∙ ap (λ z. z -ℤ passed (pos 1000000 *ℤ passed s)) (same128 (base *ℤ rest) its.first_fits)
+      ∙ ap (λ z. base *ℤ rest -ℤ passed z) second_passed ∙ ap (λ z. base *ℤ rest -ℤ z) (same128 (one *ℤ shortfall sum) its.second_fits)
+
+  pub lambda_passed : up (passed (passed (passed f *ℤ passed (passed gross +ℤ passed s)) -ℤ passed (pos 1000000 *ℤ passed s))) (passed gross) ≡ lambda base sum gross
+  lambda_passed =
+      ap (λ z. up (passed z) (passed gross)) whole_passed ∙ ap (λ z. up z (passed gross)) (same128 (whole base sum gross) its.whole_fits) ∙ ap (up (whole base sum gross)) (same128 gross gross_fits)
+
+pub base_fits : (base : ℤ) → IsWithin lambda_bases base → FitsSigned w128 base
+base_fits base range = fits_signed_from_abs w128 base (omega (arith, ints, range.low, range.high))
+
+pub short_fits : (sum gross : ℤ) → pos 0 <ℤ gross → gross <ℤ pos (84 * 10 ^ 14) → pos (unsigned_abs sum) ≤ℤ gross → FitsSigned w128 (shortfall sum)
+short_fits sum gross some below summed = let short = shortfall_is sum gross some summed in fits_signed_from_abs w128 (shortfall sum) (omega (arith, ints, short.low, short.high, below))
+
 -- ---- lambda times the root
 
 pub record Scaled (lambda root : ℤ) : Type 0 where
@@ -87,6 +122,10 @@ scaled_is lambda root lambda_low lambda_high root_low root_high =
       low = up_low (lambda *ℤ root) one (up (lambda *ℤ root) one) low some rounded.enough;
       high = rounded.least (pos (10 * unsigned_abs root)) (omega (arith, ints, high));
     }
+
+pub root_passed : (lambda root : ℤ) → Scaled lambda root → FitsSigned w128 lambda → FitsSigned w128 root → up (passed (passed lambda *ℤ passed root)) one ≡ up (lambda *ℤ root) one
+root_passed lambda root its h g =
+    ap (λ z. up (passed (z *ℤ passed root)) one) (same128 lambda h) ∙ ap (λ z. up (passed (lambda *ℤ z)) one) (same128 root g) ∙ ap (λ z. up z one) (same128 (lambda *ℤ root) its.fits)
 
 -- ---- the scale of interest rates
 
@@ -115,3 +154,13 @@ over_ratio_is (pos m) (pos h) range low high =
     }
 over_ratio_is (pos m) (negsuc h) range low high = absurd (omega (arith, ints, range.low))
 over_ratio_is (negsuc m) hvr range low high = absurd low.le
+
+-- r is the ratio
+pub ratio_passed : (margin hvr r : ℤ) → OverRatio margin hvr → r ≡ hvr → FitsSigned w128 margin → FitsSigned w128 hvr → up (passed (passed margin *ℤ pos (10 ^ 8))) (passed (passed r *ℤ passed r)) ≡ up (margin *ℤ pos (10 ^ 8)) (hvr *ℤ hvr)
+ratio_passed margin hvr r its is h g =
+    ap (λ z. up (passed (z *ℤ pos (10 ^ 8))) (passed (passed r *ℤ passed r))) (same128 margin h) ∙ ap (λ z. up z (passed (passed r *ℤ passed r))) (same128 (margin *ℤ pos (10 ^ 8)) its.scaled_fits)
+    ∙ ap (λ z. up (margin *ℤ pos (10 ^ 8)) (passed (passed z *ℤ passed z))) is ∙ ap (λ z. up (margin *ℤ pos (10 ^ 8)) (passed (z *ℤ z))) (same128 hvr g)
+    ∙ ap (up (margin *ℤ pos (10 ^ 8))) (same128 (hvr *ℤ hvr) its.square_fits)
+
+pub hvr_fits : (hvr : ℤ) → IsWithin ir_hvrs hvr → FitsSigned w128 hvr
+hvr_fits hvr range = fits_signed_from_abs w128 hvr (omega (arith, ints, range.low, range.high))

@@ -17,24 +17,28 @@ use Rattle.curvature_margin.specs.Part.{sum_over, gross_over, part_by, part_over
 
 -- ---- one value more
 
+-- what a read gives past the end
+abbrev pub no_margin : BucketMargin
+no_margin = record { q = pos 0; k = pos 0; s = pos 0; sum = pos 0; gross = pos 0; cr = record { 0 = pos 0 } }
+
 module _ (f : BucketMargin → ℤ) where
   pub record TotalStep (values : List BucketMargin) (n : ℕ) (sum more : ℤ) : Type 0 where
     pub own : FitsSigned w128 more
     pub both : FitsSigned w128 (sum +ℤ more)
     pub value : sum +ℤ more ≡ total_by f (take (n + 1) values)
 
-  first_size : (values : List BucketMargin) (n : ℕ) → unsigned_abs (total_by f (take n values)) ≤ sum_by (λ b. unsigned_abs (f b)) values
+  pub first_size : (values : List BucketMargin) (n : ℕ) → unsigned_abs (total_by f (take n values)) ≤ sum_by (λ b. unsigned_abs (f b)) values
   first_size values n = omega (arith, total_size f (take n values), sum_by-take-le (λ b. unsigned_abs (f b)) values n)
 
-  pub total_step : (values : List BucketMargin) (n : ℕ) (sum : ℤ) (own : BucketMargin) → sum_by (λ b. unsigned_abs (f b)) values < 84 * 10 ^ 14 → n < length values → own ≡ get_or values n own → sum ≡ total_by f (take n values) → TotalStep values n sum (f own)
-  total_step values n sum own range inside at so_far =
+  pub total_step : (values : List BucketMargin) (n : ℕ) (sum : ℤ) → sum_by (λ b. unsigned_abs (f b)) values < 84 * 10 ^ 14 → n < length values → sum ≡ total_by f (take n values) → TotalStep values n sum (f (get_or values n no_margin))
+  total_step values n sum range inside so_far =
+      let own = get_or values n no_margin in
       let value : sum +ℤ f own ≡ total_by f (take (n + 1) values) =
-      ap (λ z. z +ℤ f own) so_far ∙ ap (λ b. total_by f (take n values) +ℤ f b) at ∙ ap (λ z. total_by f (take n values) +ℤ z) (sym (+ℤ_idr (f (get_or values n own))))
-      ∙ sym (total_by-append f (take n values) (get_or values n own ∷ [])) ∙ ap (total_by f) (sym (take_more values n own inside)) in
+      ap (λ z. z +ℤ f own) so_far ∙ ap (λ z. total_by f (take n values) +ℤ z) (sym (+ℤ_idr (f own)))
+      ∙ sym (total_by-append f (take n values) (own ∷ [])) ∙ ap (total_by f) (sym (take_more values n no_margin inside)) in
       let size : unsigned_abs (sum +ℤ f own) ≤ sum_by (λ b. unsigned_abs (f b)) values = subst (λ z. unsigned_abs z ≤ sum_by (λ b. unsigned_abs (f b)) values) (sym value) (first_size values (n + 1)) in
-      let one : unsigned_abs (f own) ≤ sum_by (λ b. unsigned_abs (f b)) values = subst (λ b. unsigned_abs (f b) ≤ sum_by (λ b. unsigned_abs (f b)) values) (sym at) (get_or-le-sum_by (λ b. unsigned_abs (f b)) values n own inside) in
       record {
-        own = fits_signed_from_abs w128 (f own) (omega (arith, one, range));
+        own = fits_signed_from_abs w128 (f own) (omega (arith, get_or-le-sum_by (λ b. unsigned_abs (f b)) values n no_margin inside, range));
         both = fits_signed_from_abs w128 (sum +ℤ f own) (omega (arith, size, range));
         value = value;
       }

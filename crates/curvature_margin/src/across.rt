@@ -1,9 +1,9 @@
 ghost use Rattle.std.specs.Prelude.{◌≡◌, ◌+◌, ◌*◌, IfOk, pos, ◌≤ℤ◌};
 ghost use Rattle.curvature_margin.specs.Combine.{curvature_by_class, margins_size, gross_size, AreParts};
 
-use crate::whole_parts::{currencies, single};
+use crate::whole_parts::{over_currencies, over_single};
 use crate::listed::ListedClass;
-use crate::numbered_parts::numbered;
+use crate::numbered_parts::over_numbered;
 use factor_book::ClassAt;
 use mh_units::Cents;
 use simm_kinds::{BucketId, RiskClass};
@@ -27,31 +27,31 @@ pub fn combine(
     ensures size { IfOk result (λ m. m.0 ≤ℤ pos (25 * (gross_size parts.now + 10 * margins_size parts.now))) }
 {
     match at.class {
-        RiskClass::IR => currencies(alloc, params, parts),
-        RiskClass::CreditQ => numbered(
+        RiskClass::IR => over_currencies(alloc, params, parts),
+        RiskClass::CreditQ => over_numbered(
             alloc,
             params,
             ListedClass::Credit(CreditKind::Qualifying),
             parts,
         ),
-        RiskClass::CreditNonQ => numbered(
+        RiskClass::CreditNonQ => over_numbered(
             alloc,
             params,
             ListedClass::Credit(CreditKind::NonQualifying),
             parts,
         ),
-        RiskClass::Equity => numbered(
+        RiskClass::Equity => over_numbered(
             alloc,
             params,
             ListedClass::Priced(PricedKind::Equities),
             parts,
         ),
-        RiskClass::Commodity => numbered(
+        RiskClass::Commodity => over_numbered(
             alloc,
             params,
             ListedClass::Priced(PricedKind::Commodities),
             parts,
         ),
-        RiskClass::FX => single(alloc, params, parts),
+        RiskClass::FX => over_single(alloc, params, parts),
     }
 }

@@ -59,8 +59,9 @@ fn points_value<L: Ledger>(
     ensures steps { let n = length (points_of (credit_class at.kind) at.bucket at.product factors.now) in steps.new ≤ steps.old + n * n }
 {
     let terms = bucket.terms;
+    let place = at.place();
     let sums = point_sums(alloc, factors, at, TenorScale::Curved)?;
-    let grouped = group_points(alloc, terms.thresholds.vega, factors, &at.place())?;
+    let grouped = group_points(alloc, terms.thresholds.vega, factors, &place)?;
     let rho = IssuerRho {
         grouped: grouped.as_slice(),
         same: in_millionths(bucket.same),

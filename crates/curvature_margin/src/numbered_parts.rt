@@ -20,7 +20,7 @@ use simm_rules::BucketMargin;
 use std::alloc::{AllocError, Global};
 
 /// The margin of such a class, in cents, over the values of its buckets. Want of memory is the only error.
-pub fn numbered(
+pub fn over_numbered(
     alloc: Global,
     params: &Params,
     class: ListedClass,

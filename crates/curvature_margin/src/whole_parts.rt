@@ -18,7 +18,7 @@ use simm_rules::BucketMargin;
 use std::alloc::{AllocError, Global};
 
 /// The margin of interest rates, in cents, over the buckets of currencies. Want of memory is the only error.
-pub fn currencies(
+pub fn over_currencies(
     alloc: Global,
     params: &Params,
     parts: &[(BucketId, BucketMargin)],
@@ -77,7 +77,7 @@ fn over_ratio(margin: i128, hvr: Rate4) -> i128
 }
 
 /// The margin of foreign exchange, in cents, whose one bucket is its own root. Want of memory is the only error.
-pub fn single(
+pub fn over_single(
     alloc: Global,
     params: &Params,
     parts: &[(BucketId, BucketMargin)],
