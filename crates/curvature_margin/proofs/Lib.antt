@@ -5,3 +5,4 @@ pub mod NameValues
 pub mod Outer
 pub mod Lambdas
 pub mod Totals
+pub mod Parts

@@ -1,11 +1,12 @@
 -- Sums over the values of buckets, and a part of the margin by them.
-use Rattle.std.proofs.Common.{◌≡◌, ◌^◌, ℕ, ◌+◌, ◌*◌, ◌<◌, ◌≤◌, List, [], ◌∷◌, map, take, length, get_or, refl, sym, ap, ◌∙◌, subst, ℤ, pos, ◌+ℤ◌, ◌≤ℤ◌, unsigned_abs, FitsSigned, arith}
+use Rattle.std.proofs.Common.{◌≡◌, ◌^◌, ℕ, ◌+◌, ◌*◌, ◌<◌, ◌≤◌, List, [], ◌∷◌, map, take, length, get_or, refl, sym, ap, ◌∙◌, subst, ℤ, pos, ◌+ℤ◌, ◌≤ℤ◌, ◌<ℤ◌, unsigned_abs, FitsSigned, All, arith}
 use Rattle.std.specs.Prelude.{sum_by}
-use Rattle.std.specs.Int.{w128}
+use Rattle.std.specs.Int.{w128, int_max}
 use Rattle.std.specs.List.{AllByRecursion}
 use Rattle.std.proofs.Math.IntN.{+ℤ_idr}
-use Rattle.std.proofs.lemmas.Int.{ints, fits_signed_from_abs}
+use Rattle.std.proofs.lemmas.Int.{ints, clamps, fits_signed_from_abs}
 use Rattle.std.proofs.lemmas.List.{take_more}
+use Rattle.std.proofs.lemmas.List.Elements.{recursion_from_All}
 use Rattle.std.proofs.lemmas.List.Sums.{sum_by-cons, sum_by-take-le, get_or-le-sum_by}
 use Rattle.simm_rules.specs.declared.values.BucketMargin.{BucketMargin}
 use Rattle.simm_rules.specs.Sums.{total_by}
@@ -59,3 +60,33 @@ pub sizes_within : (values : List BucketMargin) → AllByRecursion (λ b. pos (u
 sizes_within [] h = omega arith
 sizes_within (b ∷ values) h =
     omega (arith, ints, h.0, sizes_within values h.1, sum_by-cons (λ (v : BucketMargin). unsigned_abs v.sum) b values, sum_by-cons (λ (v : BucketMargin). unsigned_abs v.gross) b values)
+
+module _ (values : List BucketMargin) (each : All (λ b. pos (unsigned_abs b.sum) ≤ℤ b.gross) values) (range : sum_by (λ b. unsigned_abs b.gross) values < 84 * 10 ^ 14) where
+  by_each : AllByRecursion (λ b. pos (unsigned_abs b.sum) ≤ℤ b.gross) values
+  by_each = recursion_from_All (λ (b : BucketMargin). pos (unsigned_abs b.sum) ≤ℤ b.gross) values each
+
+  pub sums_small : sum_by (λ b. unsigned_abs b.sum) values < 84 * 10 ^ 14
+  sums_small = omega (arith, sizes_within values by_each, range)
+
+  pub summed : pos (unsigned_abs (sum_over values)) ≤ℤ gross_over values
+  summed = sums_within values by_each
+
+  pub gross_size : unsigned_abs (gross_over values) ≤ sum_by (λ b. unsigned_abs b.gross) values
+  gross_size = total_size (λ (b : BucketMargin). b.gross) values
+
+  pub gross_below : gross_over values <ℤ pos (84 * 10 ^ 14)
+  gross_below = omega (arith, ints, gross_size, range)
+
+  pub sum_fits : FitsSigned w128 (sum_over values)
+  sum_fits = fits_signed_from_abs w128 (sum_over values) (omega (arith, ints, summed, gross_below))
+
+-- the sum of the risks and the scaled root
+pub record PartSum (sum scaled root : ℤ) (n : ℕ) : Type 0 where
+  pub fits : FitsSigned w128 (sum +ℤ scaled)
+  pub size : int_max (sum +ℤ scaled) (pos 0) ≤ℤ pos (n + 10 * unsigned_abs root)
+
+pub part_sum : (sum gross scaled root : ℤ) (n : ℕ) → pos (unsigned_abs sum) ≤ℤ gross → unsigned_abs gross ≤ n → n < 84 * 10 ^ 14 → pos 0 ≤ℤ scaled → scaled ≤ℤ pos (10 * unsigned_abs root) → pos 0 ≤ℤ root → root <ℤ pos (84 * 10 ^ 14) → PartSum sum scaled root n
+part_sum sum gross scaled root n within size range low high root_low root_high = record {
+  fits = fits_signed_from_abs w128 (sum +ℤ scaled) (omega (arith, ints, within, size, range, low, high, root_low, root_high));
+  size = omega (arith, ints, clamps, within, size, low, high);
+}
