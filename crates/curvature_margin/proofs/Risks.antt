@@ -1,5 +1,5 @@
 -- Curvature risks, their sizes, and the value of a bucket of them.
-use Rattle.std.proofs.Common.{◌≡◌, ◌^◌, ℕ, suc, ◌+◌, ◌*◌, ◌<◌, ◌≤◌, List, [], ◌∷◌, map, length, refl, sym, ap, ◌∙◌, subst, ℤ, pos, ◌+ℤ◌, ◌*ℤ◌, ◌≤ℤ◌, ◌<ℤ◌, unsigned_abs, FitsSigned, All, arith, mul-le-mul_left, mul-le-mul_right}
+use Rattle.std.proofs.Common.{◌≡◌, ◌^◌, ℕ, suc, ◌+◌, ◌*◌, ◌<◌, ◌≤◌, List, [], ◌∷◌, map, length, Bool, true, false, if◌then◌else◌, Result, Ok, Err, IfOk, refl, sym, ap, ◌∙◌, subst, ℤ, pos, ◌+ℤ◌, ◌*ℤ◌, ◌≤ℤ◌, ◌<ℤ◌, unsigned_abs, FitsSigned, All, arith, mul-le-mul_left, mul-le-mul_right}
 use Rattle.std.specs.Prelude.{sum_by}
 use Rattle.std.specs.Int.{w128}
 use Rattle.std.specs.List.{AllByRecursion}
@@ -138,3 +138,29 @@ module _ {A : Type 0} (most : ℤ) (low : pos 0 ≤ℤ most) (amounts : List (Am
     below = its.below;
     unconcentrated = its.unconcentrated;
   }
+
+-- the amounts of a bucket in range whose weight is 1
+pub amounts_small : {A : Type 0} (amounts : List (Amount A)) → IsInRange (λ (x : A). pos 10000) amounts → sum_by (λ a. unsigned_abs a.amount) amounts ≤ 2 * 10 ^ 20
+amounts_small {A} amounts range =
+    omega (
+      arith,
+      sum_by-scaled (λ (a : Amount A). unsigned_abs a.amount) 10000 amounts,
+      size_small (λ (x : A). pos 10000) (λ x. omega (arith, ints)) amounts range,
+    )
+
+-- the volatility at which a bucket's factors count
+pub chosen_within : (t : Bool) (sigma : ℤ) → IsWithin sigmas sigma → IsWithin sigmas (if t then sigma else pos 0)
+chosen_within true sigma h = h
+chosen_within false sigma h = record { low = omega (arith, ints); high = omega (arith, ints) }
+
+pub chosen_size : (t : Bool) (sigma : ℤ) → unsigned_abs (if t then sigma else pos 0) ≤ unsigned_abs sigma
+chosen_size true sigma = omega arith
+chosen_size false sigma = omega arith
+
+pub unit_within : IsWithin sigmas (pos 10000)
+unit_within = record { low = omega (arith, ints); high = omega (arith, ints) }
+
+-- what follows of each answer follows of the answer
+pub if_ok : {X E : Type 0} (P Q : X → Type 0) → ((x : X) → P x → Q x) → (r : Result X E) → IfOk r P → IfOk r Q
+if_ok P Q f (Ok x) h = f x h
+if_ok P Q f (Err e) h = tt

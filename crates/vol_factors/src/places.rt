@@ -33,8 +33,8 @@ pub struct PricedAt {
 
 impl CurrencyAt {
     /// Where its volatilities stand.
-    pub fn place(self) -> Place
-        ensures { result ≡ currency_place self.currency self.product }
+    pub fn place(&self) -> Place
+        ensures { result ≡ currency_place self.now.currency self.now.product }
     {
         Place {
             product: self.product,
@@ -47,8 +47,8 @@ impl CurrencyAt {
 
 impl CreditAt {
     /// Where its volatilities stand.
-    pub fn place(self) -> Place
-        ensures { result ≡ points_place (credit_class self.kind) self.bucket self.product }
+    pub fn place(&self) -> Place
+        ensures { result ≡ points_place (credit_class self.now.kind) self.now.bucket self.now.product }
     {
         Place {
             product: self.product,
@@ -64,8 +64,8 @@ impl CreditAt {
 
 impl PricedAt {
     /// Where its volatilities stand.
-    pub fn place(self) -> Place
-        ensures { result ≡ names_place (priced_class self.kind) self.bucket self.product }
+    pub fn place(&self) -> Place
+        ensures { result ≡ names_place (priced_class self.now.kind) self.now.bucket self.now.product }
     {
         Place {
             product: self.product,
