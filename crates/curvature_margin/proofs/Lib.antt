@@ -6,3 +6,5 @@ pub mod Outer
 pub mod Lambdas
 pub mod Totals
 pub mod Parts
+pub mod Splits
+pub mod Currencies

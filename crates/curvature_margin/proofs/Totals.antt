@@ -14,7 +14,8 @@ use Rattle.simm_rules.specs.Across.{Part}
 use Rattle.simm_rules.specs.Curvature.{curvature_part}
 use Rattle.factor_book.proofs.Sums.{total_by-append, total_by-map}
 use Rattle.name_delta.proofs.Sizes.{total_size}
-use Rattle.curvature_margin.specs.Part.{sum_over, gross_over, part_by, part_over}
+use Rattle.curvature_margin.specs.Numbered.{bound_of}
+use Rattle.curvature_margin.specs.Part.{sum_over, gross_over, margin_over, part_by, part_over}
 
 -- ---- one value more
 
@@ -90,3 +91,36 @@ part_sum sum gross scaled root n within size range low high root_low root_high =
   fits = fits_signed_from_abs w128 (sum +ℤ scaled) (omega (arith, ints, within, size, range, low, high, root_low, root_high));
   size = omega (arith, ints, clamps, within, size, low, high);
 }
+
+-- a part is at most its buckets' gross sizes and ten times their margins
+pub bound_from : (values read again : List BucketMargin) (root part : ℤ) → read ≡ values → again ≡ values → pos 0 ≤ℤ root → root ≤ℤ pos (sum_by (λ b. unsigned_abs b.k) read) → part ≤ℤ pos (sum_by (λ b. unsigned_abs b.gross) again + 10 * unsigned_abs root) → part ≤ℤ pos (bound_of values)
+bound_from values read again root part is is_again low high bound =
+    omega (
+      arith,
+      ints,
+      low,
+      high,
+      bound,
+      ap (sum_by (λ (b : BucketMargin). unsigned_abs b.k)) is,
+      ap (sum_by (λ (b : BucketMargin). unsigned_abs b.gross)) is_again,
+    )
+
+-- two parts together
+pub record Together (first second : ℤ) (bound : ℕ) : Type 0 where
+  pub fits : FitsSigned w128 (first +ℤ second)
+  pub low : pos 0 ≤ℤ (first +ℤ second)
+  pub size : (first +ℤ second) ≤ℤ pos (25 * bound)
+
+pub together : (first second : ℤ) (a b gross margins : ℕ) → pos 0 ≤ℤ first → pos 0 ≤ℤ second → first ≤ℤ pos a → second ≤ℤ pos b → a + b ≤ gross + 10 * margins → gross < 84 * 10 ^ 14 → margins < 84 * 10 ^ 14 → Together first second (gross + 10 * margins)
+together first second a b gross margins first_low second_low first_high second_high all gross_small margins_small = record {
+  fits = fits_signed_from_abs w128 (first +ℤ second) (omega (arith, ints, first_low, second_low, first_high, second_high, all, gross_small, margins_small));
+  low = omega (arith, ints, first_low, second_low);
+  size = omega (arith, ints, first_high, second_high, all);
+}
+
+pub margins_low : (values : List BucketMargin) → AllByRecursion (λ b. pos 0 ≤ℤ b.k) values → pos 0 ≤ℤ margin_over values
+margins_low [] h = omega (arith, ints)
+margins_low (b ∷ values) h = omega (arith, ints, h.0, margins_low values h.1)
+
+pub margins_are : {A : Type 0} (parts : List (Part A)) → margin_over (map (λ b. b.value) parts) ≡ total_by (λ b. (b.value).k) parts
+margins_are {A} parts = total_by-map (λ (b : BucketMargin). b.k) (λ (b : Part A). b.value) parts

@@ -30,7 +30,7 @@ pub fn over_numbered(
     requires sized { AreSized parts.now }
     ensures value { IfOk result (λ m. m.0 ≡ curvature_over params.now.lambda_base (listed_in params.now class) (gamma_in params.now class) (parts_in parts.now)) }
     ensures low { IfOk result (λ m. pos 0 ≤ℤ m.0) }
-    ensures size { IfOk result (λ m. m.0 ≤ℤ pos (gross_size parts.now + 10 * margins_size parts.now)) }
+    ensures size { IfOk result (λ m. m.0 ≤ℤ pos (25 * (gross_size parts.now + 10 * margins_size parts.now))) }
 {
     let numbered = numbered_part(alloc, params, class, parts)?;
     let residual = residual_part(alloc, params, parts)?;

@@ -85,7 +85,7 @@ pub fn over_single(
     requires { AreSized parts.now }
     ensures value { IfOk result (λ m. m.0 ≡ over_single params.now parts.now) }
     ensures low { IfOk result (λ m. pos 0 ≤ℤ m.0) }
-    ensures size { IfOk result (λ m. m.0 ≤ℤ pos (gross_size parts.now + 10 * margins_size parts.now)) }
+    ensures size { IfOk result (λ m. m.0 ≤ℤ pos (25 * (gross_size parts.now + 10 * margins_size parts.now))) }
 {
     let values = values_of(alloc, parts)?;
     let root = margin_over(values.as_slice());

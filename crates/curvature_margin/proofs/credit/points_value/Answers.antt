@@ -46,7 +46,7 @@ curved_bucket-requires-clause-size g c =
     let b = credit_bucket_view c.args.bucket.now in
     let threshold = c.args.bucket.now.terms.thresholds.vega in
     let fits : FitsSigned w64 threshold = search rules in
-    let groups = points_grouped threshold _ class at product c.args.factors.now _ c.as_slice.result.now c.in_ok-grouped.grouped.items c.as_slice.ensures.value c.in_ok-grouped.ensures (same64 threshold fits) c.place.ensures in
+    let groups = points_grouped threshold _ class at product c.args.factors.now _ c.as_slice.result.now c.in_ok-grouped.grouped.items c.as_slice.ensures.value c.in_ok-grouped.ensures (same64 threshold fits) c.place-place.ensures in
     let ascends = points_ascend class at product c.args.factors.now c.requires.book in
     groups_count points held sums c.as_slice-2.ensures.value c.in_ok-sums.ensures b threshold c.requires.weighed.terms.vega c.requires.in_range ascends c.as_slice.result.now groups
 
@@ -113,7 +113,7 @@ returns-clause-value g c =
     let b = credit_bucket_view c.args.bucket.now in
     let threshold = c.args.bucket.now.terms.thresholds.vega in
     let fits : FitsSigned w64 threshold = search rules in
-    let groups = points_grouped threshold _ class at product c.args.factors.now _ c.as_slice.result.now c.in_ok-grouped.grouped.items c.as_slice.ensures.value c.in_ok-grouped.ensures (same64 threshold fits) c.place.ensures in
+    let groups = points_grouped threshold _ class at product c.args.factors.now _ c.as_slice.result.now c.in_ok-grouped.grouped.items c.as_slice.ensures.value c.in_ok-grouped.ensures (same64 threshold fits) c.place-place.ensures in
     let ascends = points_ascend class at product c.args.factors.now c.requires.book in
     subst (λ v. IfOk c.curved_bucket.result (λ (m : BucketMargin). m ≡ v))
     (ap (λ z. bucket_value scaling.Squared (map (curved_by z) sums) (issuer_rho c.in_millionths.result.0 c.in_millionths-2.result.0 c.as_slice.result.now) (record { 0 = one })) c.volatility_in.ensures

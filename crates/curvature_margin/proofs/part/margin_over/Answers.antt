@@ -1,7 +1,8 @@
-use Rattle.std.proofs.Common.{arith}
+use Rattle.std.proofs.Common.{◌≤◌, sym, subst, unsigned_abs}
+use Rattle.std.specs.Prelude.{sum_by}
 use Rattle.std.proofs.lemmas.Int.{to_z-of_z}
 use Rattle.simm_rules.specs.declared.values.BucketMargin.{BucketMargin}
-use Rattle.curvature_margin.proofs.Totals.{total_step}
+use Rattle.curvature_margin.proofs.Totals.{first_size, total_step}
 use Rattle.curvature_margin.proofs.part.margin_over.Goals as goal
 
 pub overflow_add-margin : goal.overflow_add-margin
@@ -16,3 +17,7 @@ loop-value-preserved c =
     let own = step.own in
     let both = step.both in
     simp to_z-of_z step.value
+
+pub returns-clause-size : goal.returns-clause-size
+returns-clause-size c =
+    subst (λ z. unsigned_abs z ≤ sum_by (λ (b : BucketMargin). unsigned_abs b.k) c.args.values.now) (sym c.loop-value.invariant) (first_size (λ (b : BucketMargin). b.k) c.args.values.now c.loop-value.value-index)
