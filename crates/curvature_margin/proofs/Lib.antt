@@ -8,3 +8,5 @@ pub mod Totals
 pub mod Parts
 pub mod Splits
 pub mod Currencies
+pub mod Idle
+pub mod Joined

@@ -12,6 +12,8 @@ use Rattle.simm_kinds.specs.Order.{same_name, bucket_id_cmp}
 use Rattle.simm_rules.specs.declared.values.BucketMargin.{BucketMargin}
 use Rattle.simm_rules.specs.Params.{Params}
 use Rattle.simm_rules.specs.Lookups.{six}
+use Rattle.simm_rules.specs.Net.{Sensitivity}
+use Rattle.simm_rules.specs.Rates.{volatilities_in, volatility_currencies, currency_curvature_value}
 use Rattle.simm_rules.specs.Sums.{total_by}
 use Rattle.simm_rules.specs.Bucket.{combined}
 use Rattle.simm_rules.specs.Across.{Part, outer}
@@ -83,3 +85,8 @@ pub record AreSized (parts : List (BucketId × BucketMargin)) : Type 0 where
 pub record AreParts (p : Params) (class : RiskClass) (parts : List (BucketId × BucketMargin)) : Type 0 where
   pub buckets : AllByRecursion (λ part. HasBucket p class part.0) parts
   pub sized : AreSized parts
+
+-- ---- the buckets of the currencies of a product class that have a volatility
+
+abbrev pub currency_buckets : Params → List Sensitivity → List (BucketId × BucketMargin)
+currency_buckets p ss = map (λ currency. (id.Currency currency, currency_curvature_value p (volatilities_in currency ss))) (volatility_currencies ss)

@@ -1,19 +1,22 @@
 -- What is known of a bucket's value.
 -- (ISDA SIMM methodology, curvature margin.)
-use Rattle.std.specs.Prelude.{◌≡◌, ◌*◌, ◌^◌, ◌≤◌, List, length, ℤ, pos, ◌+ℤ◌, ◌*ℤ◌, ◌≤ℤ◌, ◌<ℤ◌, unsigned_abs}
+use Rattle.std.specs.Prelude.{ℕ, ◌≡◌, ◌*◌, ◌^◌, ◌≤◌, List, length, ℤ, pos, ◌+ℤ◌, ◌*ℤ◌, ◌≤ℤ◌, ◌<ℤ◌, unsigned_abs}
 use Rattle.simm_rules.specs.declared.values.BucketMargin.{BucketMargin}
 use Rattle.simm_rules.specs.Risks.{Amount}
 use Rattle.simm_rules.specs.Concentration.{one}
 use Rattle.simm_rules.specs.Gross.{size_by}
 
 -- The sizes of a bucket's value, beside the sum of the sizes of its sensitivities times their volatilities, in ten-thousandths of a
--- cent. A tenor counts at most a half, and a curvature risk is less than a cent off: so the gross sizes of all buckets of a class in
--- range add up to no more than 5 * 10^12 cents and one for each factor.
-pub record IsSized {A : Type 0} (weight : A → ℤ) (amounts : List (Amount A)) (value : BucketMargin) : Type 0 where
+-- cent, and their number. A tenor counts at most a half, and a curvature risk is less than a cent off: so the gross sizes of all
+-- buckets of a class in range add up to no more than 5 * 10^12 cents and one for each sensitivity.
+pub record IsSizedBy (size : ℤ) (count : ℕ) (value : BucketMargin) : Type 0 where
   pub not_negative : pos 0 ≤ℤ value.k
   pub held : unsigned_abs value.s ≤ unsigned_abs value.k
   pub margin : value.k ≤ℤ value.gross
   pub sum : unsigned_abs value.sum ≤ unsigned_abs value.gross
-  pub gross : (value.gross *ℤ pos 20000) ≤ℤ (size_by weight amounts +ℤ pos (length amounts) *ℤ pos 20000)
+  pub gross : (value.gross *ℤ pos 20000) ≤ℤ (size +ℤ pos count *ℤ pos 20000)
   pub below : value.gross <ℤ pos (84 * 10 ^ 14)
   pub unconcentrated : value.cr.0 ≡ one
+
+abbrev pub IsSized : {A : Type 0} → (A → ℤ) → List (Amount A) → BucketMargin → Type 0
+IsSized weight amounts value = IsSizedBy (size_by weight amounts) (length amounts) value

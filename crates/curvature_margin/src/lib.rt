@@ -7,6 +7,7 @@ mod across;
 mod credit;
 mod curvature;
 mod gamma;
+mod laws;
 mod listed;
 mod numbered_parts;
 mod part;
@@ -17,3 +18,4 @@ mod whole_parts;
 
 pub use across::combine;
 pub use curvature::bucket;
+pub use laws::{currencies_make_curvature, empty_buckets_add_nothing, values_can_be_joined};
