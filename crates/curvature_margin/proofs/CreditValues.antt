@@ -1,5 +1,5 @@
 -- The curvature value of a bucket of credit, by the numbers of its issuers.
-use Rattle.std.proofs.Common.{◌≡◌, ◌≢◌, ℕ, ◌*◌, ◌<◌, ◌≤◌, List, [], ◌∷◌, map, length, get_or, Bool, true, false, if◌then◌else◌, refl, sym, ap, ◌∙◌, ℤ, pos, unsigned_abs, arith}
+use Rattle.std.proofs.Common.{◌≡◌, ◌≢◌, ℕ, ◌*◌, ◌<◌, ◌≤◌, List, [], map, length, get_or, Bool, true, false, if◌then◌else◌, refl, sym, ap, ◌∙◌, ℤ, pos, unsigned_abs, arith}
 use Rattle.std.specs.Prelude.{sum_by}
 use Rattle.std.specs.List.Sorted.{IsStrictlySortedBy}
 use Rattle.std.proofs.lemmas.Int.{ints}

@@ -1,5 +1,5 @@
 -- Classes of one part: the buckets of currencies, and the one bucket of foreign exchange.
-use Rattle.std.proofs.Common.{◌≡◌, ℕ, ◌<◌, ◌≤◌, List, [], ◌∷◌, map, length, get_or, Bool, ◌==◌, refl, sym, ap, ◌∙◌, subst, ℤ, pos, unsigned_abs, All}
+use Rattle.std.proofs.Common.{◌≡◌, ℕ, ◌≤◌, List, [], ◌∷◌, map, refl, sym, ap, ◌∙◌, subst, ℤ, pos, unsigned_abs, All}
 use Rattle.std.specs.Prelude.{sum_by}
 use Rattle.std.specs.declared.cmp.Ordering.TheVariants.{Less}
 use Rattle.std.specs.List.{AllByRecursion}

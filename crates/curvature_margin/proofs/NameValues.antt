@@ -1,5 +1,5 @@
 -- The curvature value of a bucket of names.
-use Rattle.std.proofs.Common.{◌≡◌, ◌≢◌, ℕ, ◌*◌, ◌<◌, ◌≤◌, List, [], ◌∷◌, map, length, Bool, true, false, if◌then◌else◌, refl, sym, ap, ◌∙◌, subst, ℤ, pos, unsigned_abs, arith}
+use Rattle.std.proofs.Common.{◌≡◌, ℕ, ◌*◌, ◌≤◌, List, [], map, length, Bool, true, false, if◌then◌else◌, refl, sym, ap, ◌∙◌, subst, ℤ, pos, unsigned_abs, arith}
 use Rattle.std.specs.Prelude.{sum_by}
 use Rattle.std.specs.List.Sorted.{IsStrictlySortedBy}
 use Rattle.std.proofs.lemmas.Cmp.{nat_list_cmp_total}
@@ -13,12 +13,11 @@ use Rattle.simm_rules.specs.Concentration.{one}
 use Rattle.simm_rules.specs.Bucket.{squared}
 use Rattle.simm_rules.specs.Bucket.{bucket_value as value_of_factors}
 use Rattle.simm_rules.specs.Curvature.{curvature_risk, curved}
-use Rattle.simm_rules.specs.Priced.{NameVolatility, names_of, tenors_of, name_rho, curved_name, price_curvature_value}
+use Rattle.simm_rules.specs.Priced.{NameVolatility, names_of, tenors_of, name_rho, price_curvature_value}
 use Rattle.factor_book.proofs.Sorting.{different_ascends, length-different}
 use Rattle.weighted_bucket.specs.declared.scaling.Scaling.TheVariants as scaling
 use Rattle.weighted_bucket.specs.declared.weighed.Weighed.{Weighed}
 use Rattle.weighted_bucket.specs.Bucket.{bucket_value}
-use Rattle.name_delta.specs.Values.{weighed_as}
 use Rattle.name_delta.proofs.Lists.{map-itself}
 use Rattle.name_delta.proofs.Sizes.{sum_by-map}
 use Rattle.name_delta.proofs.Valued.{value_is}

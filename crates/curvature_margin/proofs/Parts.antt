@@ -1,5 +1,5 @@
 -- A part of the margin as it is computed.
-use Rattle.std.proofs.Common.{◌≡◌, ◌^◌, ℕ, zero, suc, ◌*◌, ◌==◌, if◌then◌else◌, false, sym, ap, ◌∙◌, ℤ, pos, negsuc, ◌+ℤ◌, ◌*ℤ◌, ◌≤ℤ◌, ◌<ℤ◌, unsigned_abs, FitsSigned, arith}
+use Rattle.std.proofs.Common.{◌≡◌, zero, suc, ◌==◌, if◌then◌else◌, false, sym, ap, ◌∙◌, ℤ, pos, negsuc, ◌+ℤ◌, ◌*ℤ◌, ◌≤ℤ◌, ◌<ℤ◌, unsigned_abs, FitsSigned, arith}
 use Rattle.std.specs.Int.{w128, int_max, cast_unsigned}
 use Rattle.std.proofs.lemmas.Bool.{ne_eqb}
 use Rattle.std.proofs.lemmas.Int.{ints}

@@ -1,7 +1,6 @@
 -- The parts of a class that has buckets: the numbered ones and the residual one, with their sizes and their correlations.
-use Rattle.std.proofs.Common.{◌≡◌, ◌^◌, ℕ, ◌+◌, ◌*◌, ◌<◌, ◌≤◌, List, [], ◌∷◌, ◌++◌, map, take, length, get_or, Bool, true, false, not, ◌==◌, refl, sym, ap, ◌∙◌, subst, ℤ, pos, ◌≤ℤ◌, unsigned_abs, All, arith}
+use Rattle.std.proofs.Common.{◌≡◌, ℕ, ◌+◌, ◌<◌, ◌≤◌, List, [], ◌∷◌, ◌++◌, map, take, length, get_or, true, false, ◌==◌, refl, sym, ap, ◌∙◌, subst, ℤ, pos, unsigned_abs, All, arith}
 use Rattle.std.specs.Prelude.{sum_by}
-use Rattle.std.specs.Ordering.{is_eq}
 use Rattle.std.specs.List.{AllByRecursion}
 use Rattle.std.specs.List.Sorted.{IsStrictlySortedBy}
 use Rattle.std.proofs.lemmas.Cmp.{nat_list_cmp_total}
@@ -20,7 +19,7 @@ use Rattle.simm_rules.specs.declared.values.BucketMargin.{BucketMargin}
 use Rattle.simm_rules.specs.Lookups.{at_row, six}
 use Rattle.simm_rules.specs.Concentration.{one}
 use Rattle.simm_rules.specs.Bucket.{root_of, combined}
-use Rattle.simm_rules.specs.Across.{Part, outer, is_residual, numbered, residual, place_among, gamma_among, gamma_squared}
+use Rattle.simm_rules.specs.Across.{Part, outer, is_residual, numbered, residual, place_among, gamma_squared}
 use Rattle.simm_params.specs.Weighed.{AreCorrelations}
 use Rattle.pair_sum.specs.PairTotal.{outer_total}
 use Rattle.pair_sum.specs.WithItself.{with_itself}

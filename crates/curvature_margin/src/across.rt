@@ -1,9 +1,9 @@
 ghost use Rattle.std.specs.Prelude.{◌≡◌, ◌+◌, ◌*◌, IfOk, pos, ◌≤ℤ◌};
 ghost use Rattle.curvature_margin.specs.Combine.{curvature_by_class, margins_size, gross_size, AreParts};
 
-use crate::whole_parts::{over_currencies, over_single};
 use crate::listed::ListedClass;
 use crate::numbered_parts::over_numbered;
+use crate::whole_parts::{over_currencies, over_single};
 use factor_book::ClassAt;
 use mh_units::Cents;
 use simm_kinds::{BucketId, RiskClass};

@@ -58,11 +58,7 @@ fn numbered_part(
         places: numbered.places,
     };
     let root = outer_root(numbered.margins.as_slice(), &gamma);
-    Ok(part_over(
-        params.lambda_base(),
-        numbered.margins.as_slice(),
-        root,
-    ))
+    Ok(part_over(params.lambda_base(), numbered.margins.as_slice(), root))
 }
 
 // The part of the residual bucket, whose margin is its own root.

@@ -89,11 +89,7 @@ pub fn over_single(
 {
     let values = values_of(alloc, parts)?;
     let root = margin_over(values.as_slice());
-    Ok(Cents(part_over(
-        params.lambda_base(),
-        values.as_slice(),
-        root,
-    )))
+    Ok(Cents(part_over(params.lambda_base(), values.as_slice(), root)))
 }
 
 // The values of the buckets, side by side.

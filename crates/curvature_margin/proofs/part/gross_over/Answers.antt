@@ -1,4 +1,3 @@
-use Rattle.std.proofs.Common.{arith}
 use Rattle.std.proofs.lemmas.Int.{to_z-of_z}
 use Rattle.simm_rules.specs.declared.values.BucketMargin.{BucketMargin}
 use Rattle.curvature_margin.proofs.Totals.{total_step}

@@ -1,9 +1,8 @@
-use Rattle.std.proofs.Common.{◌≡◌, ◌∙◌, ◌+◌, ◌*◌, ◌^◌, ◌≤◌, map, length, sym, ap, subst, ℤ, pos, unsigned_abs, IfOk, arith}
+use Rattle.std.proofs.Common.{◌≡◌, ◌∙◌, ◌+◌, ◌*◌, ◌≤◌, map, length, sym, ap, subst, unsigned_abs, IfOk}
 use Rattle.std.specs.Prelude.{sum_by}
-use Rattle.std.proofs.lemmas.Int.{ints}
 use Rattle.simm_rules.specs.declared.values.BucketMargin.{BucketMargin}
 use Rattle.simm_rules.specs.Concentration.{one}
-use Rattle.simm_rules.specs.Priced.{NameVolatility, names_of}
+use Rattle.simm_rules.specs.Priced.{NameVolatility}
 use Rattle.simm_params.specs.ClassKinds.{priced_class}
 use Rattle.simm_params.specs.ListedBuckets.{priced_bucket_view}
 use Rattle.simm_params.specs.Ranges.{sigmas, IsWithin}

@@ -1,9 +1,7 @@
-use Rattle.std.proofs.Common.{◌≡◌, ◌∙◌, ◌+◌, ◌*◌, ◌^◌, ◌<◌, ◌≤◌, List, map, sym, ap, subst, ℤ, pos, ◌+ℤ◌, ◌≤ℤ◌, ◌<ℤ◌, unsigned_abs, FitsSigned, rules, arith}
-use Rattle.std.specs.Prelude.{sum_by}
+use Rattle.std.proofs.Common.{◌≡◌, ◌∙◌, ◌+◌, ◌*◌, ◌^◌, sym, ap, subst, pos, ◌≤ℤ◌, unsigned_abs, FitsSigned, rules, arith}
 use Rattle.std.specs.Int.{w128}
 use Rattle.std.proofs.lemmas.Int.{ints}
 use Rattle.mh_units.proofs.Integers.{same128}
-use Rattle.simm_rules.specs.declared.values.BucketMargin.{BucketMargin}
 use Rattle.curvature_margin.specs.Combine.{over_currencies, over_ratio, gross_size, margins_size}
 use Rattle.curvature_margin.proofs.Lambdas.{passed}
 use Rattle.curvature_margin.proofs.whole_parts.over_currencies.Goals as goal

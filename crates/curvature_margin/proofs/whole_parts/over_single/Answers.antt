@@ -1,4 +1,4 @@
-use Rattle.std.proofs.Common.{◌≡◌, ◌∙◌, ◌+◌, ◌*◌, ◌^◌, ◌<◌, ◌≤◌, List, map, refl, sym, ap, subst, ℤ, pos, ◌+ℤ◌, ◌≤ℤ◌, ◌<ℤ◌, unsigned_abs, FitsSigned, rules, arith}
+use Rattle.std.proofs.Common.{◌≡◌, ◌∙◌, ◌+◌, ◌*◌, ◌^◌, ◌<◌, map, refl, sym, ap, subst, pos, ◌≤ℤ◌, ◌<ℤ◌, unsigned_abs, FitsSigned, rules, arith}
 use Rattle.std.specs.Prelude.{sum_by}
 use Rattle.std.specs.Int.{w128}
 use Rattle.std.proofs.lemmas.Int.{ints}
@@ -128,6 +128,11 @@ returns-clause-size c =
     let part = c.part_over.result in
     let fits : FitsSigned w128 part = search rules in
     subst (λ z. z ≤ℤ pos (25 * (gross_size ps + 10 * margins_size ps))) (sym (same128 part fits))
-    (omega (arith, ints, values_size (λ m. unsigned_abs m.gross) ps (values_of ps) refl, values_size (λ m. unsigned_abs m.k) ps (values_of ps) refl,
-    bound_from (values_of ps) c.as_slice.result.now c.as_slice-2.result.now root part made again low (omega (arith, ints, low, c.margin_over-root.ensures.size))
-    (subst (λ z. part ≤ℤ pos (sum_by (λ (m : BucketMargin). unsigned_abs m.gross) c.as_slice-2.result.now + 10 * unsigned_abs z)) root_is c.part_over.ensures.size)))
+    (omega (
+      arith,
+      ints,
+      values_size (λ m. unsigned_abs m.gross) ps (values_of ps) refl,
+      values_size (λ m. unsigned_abs m.k) ps (values_of ps) refl,
+      bound_from (values_of ps) c.as_slice.result.now c.as_slice-2.result.now root part made again low (omega (arith, ints, low, c.margin_over-root.ensures.size))
+          (subst (λ z. part ≤ℤ pos (sum_by (λ (m : BucketMargin). unsigned_abs m.gross) c.as_slice-2.result.now + 10 * unsigned_abs z)) root_is c.part_over.ensures.size),
+    ))
