@@ -5,5 +5,7 @@ pub mod Runs
 pub mod NamesTogether
 pub mod NameRuns
 pub mod Readings
+pub mod Gathered
 pub mod NameSizes
 pub mod Lent
+pub mod Currencies

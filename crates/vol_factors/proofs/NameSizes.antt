@@ -1,58 +1,24 @@
 -- The sizes of the sums of names, beside those of their volatilities.
-use Rattle.std.proofs.Common.{◌≡◌, ℕ, ◌+◌, ◌*◌, ◌≤◌, List, [], ◌∷◌, map, refl, sym, ap, ◌∙◌, subst, ℤ, ◌*ℤ◌, unsigned_abs, arith}
+use Rattle.std.proofs.Common.{◌≡◌, ℕ, ◌*◌, ◌≤◌, List, [], ◌∷◌, sym, subst, ℤ, ◌*ℤ◌, unsigned_abs, arith}
 use Rattle.std.specs.Prelude.{sum_by}
-use Rattle.std.specs.Ordering.{is_eq}
-use Rattle.std.specs.List.{filter, flat_map}
-use Rattle.std.specs.List.Sorted.{IsPermutation}
-use Rattle.std.proofs.lemmas.Cmp.{nat_list_cmp_total, eq_by_cmp_equiv}
-use Rattle.std.proofs.lemmas.List.Sorted.{sum_by-IsPermutation}
-use Rattle.std.proofs.lemmas.List.Sums.{sum_by-cons, sum_by-append}
-use Rattle.std.proofs.lemmas.Map.Lookups.{exact_bytes}
+use Rattle.std.specs.List.{filter}
+use Rattle.std.proofs.lemmas.List.Sums.{sum_by-cons}
 use Rattle.simm_kinds.specs.declared.kinds.Tenor.{Tenor}
-use Rattle.simm_kinds.specs.Order.{name_cmp, same_name}
+use Rattle.simm_kinds.specs.Order.{same_name}
 use Rattle.simm_rules.specs.Sums.{total_by}
 use Rattle.simm_rules.specs.Risks.{Amount}
 use Rattle.simm_rules.specs.Priced.{NameVolatility, names_of}
-use Rattle.factor_book.proofs.Sorting.{any_different, different_ascends}
 use Rattle.factor_book.proofs.Sums.{total_by-map}
-use Rattle.factor_book.proofs.Grouping.{grouped_all}
-use Rattle.ir_delta.proofs.Lists.{filter_agrees}
 use Rattle.name_delta.proofs.Sizes.{total_size}
 use Rattle.vol_factors.specs.declared.tenor_scale.TenorScale.{TenorScale}
 use Rattle.vol_factors.specs.Scale.{scale_by}
 use Rattle.vol_factors.specs.Names.{name_total}
+use Rattle.vol_factors.proofs.Gathered.{over_names}
 use Rattle.vol_factors.proofs.Readings.{scale_by-size, times_size}
 
 module _ (amounts : List (Amount NameVolatility)) where
-  abbrev name_at : Amount NameVolatility → List ℕ
-  name_at a = (a.of).name
-
   abbrev pub own : List ℕ → List (Amount NameVolatility)
   own name = filter (λ a. same_name (a.of).name name) amounts
-
-  -- ---- sums over names are sums over their volatilities
-
-  abbrev group : List ℕ → List (Amount NameVolatility)
-  group name = filter (λ a. is_eq (name_cmp name (name_at a))) amounts
-
-  group_is : (name : List ℕ) → own name ≡ group name
-  group_is name =
-      filter_agrees (λ a. same_name (name_at a) name) (λ a. is_eq (name_cmp name (name_at a))) (λ a. (eq_by_cmp_equiv nat_list_cmp_total).symm (name_at a) name) amounts
-
-  gathered : IsPermutation amounts (flat_map (λ (e : List ℕ × List (Amount NameVolatility)). e.1) (map (λ name. (name, group name)) (names_of amounts)))
-  gathered =
-      grouped_all name_cmp nat_list_cmp_total name_at (names_of amounts) amounts (different_ascends name_cmp nat_list_cmp_total (map name_at amounts))
-      (λ a. any_different name_cmp (λ q. is_eq (name_cmp q (name_at a))) (λ k l alike. ap (λ q. is_eq (name_cmp q (name_at a))) (exact_bytes k l alike)) (map name_at amounts))
-
-  group_sums : (f : Amount NameVolatility → ℕ) (names : List (List ℕ)) → sum_by (λ name. sum_by f (own name)) names ≡ sum_by f (flat_map (λ (e : List ℕ × List (Amount NameVolatility)). e.1) (map (λ name. (name, group name)) names))
-  group_sums f [] = refl
-  group_sums f (name ∷ names) =
-      sum_by-cons (λ n. sum_by f (own n)) name names ∙ ap (λ xs. sum_by f xs + sum_by (λ n. sum_by f (own n)) names) (group_is name)
-      ∙ ap (λ n. sum_by f (group name) + n) (group_sums f names)
-      ∙ sym (sum_by-append f (group name) (flat_map (λ (e : List ℕ × List (Amount NameVolatility)). e.1) (map (λ n. (n, group n)) names)))
-
-  pub over_names : (f : Amount NameVolatility → ℕ) → sum_by (λ name. sum_by f (own name)) (names_of amounts) ≡ sum_by f amounts
-  over_names f = group_sums f (names_of amounts) ∙ sum_by-IsPermutation f amounts (flat_map (λ (e : List ℕ × List (Amount NameVolatility)). e.1) (map (λ name. (name, group name)) (names_of amounts))) gathered
 
   -- ---- sizes
 
@@ -90,4 +56,4 @@ module _ (amounts : List (Amount NameVolatility)) where
 
     -- the sums of all names are at most their volatilities' sizes, each counted in full
     pub totals_size : sum_by (λ name. unsigned_abs (name_total s amounts name)) (names_of amounts) ≤ 10950 * sum_by (λ a. unsigned_abs a.amount) amounts
-    totals_size = omega (arith, names_sizes (names_of amounts), over_names (λ a. unsigned_abs a.amount))
+    totals_size = omega (arith, names_sizes (names_of amounts), over_names (λ (a : Amount NameVolatility). (a.of).name) amounts (λ a. unsigned_abs a.amount))

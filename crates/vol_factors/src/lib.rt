@@ -4,6 +4,7 @@
 #![tactic(auto)]
 
 mod credit;
+mod laws;
 mod names;
 mod places;
 mod rate_rho;
@@ -12,6 +13,7 @@ mod tenor_scale;
 mod volatility;
 
 pub use credit::point_sums;
+pub use laws::currencies_add_up;
 pub use names::{NameSum, name_sums};
 pub use places::{CreditAt, CurrencyAt, PricedAt};
 pub use rate_rho::VolatilityRho;
