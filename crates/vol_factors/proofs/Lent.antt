@@ -9,19 +9,22 @@ use Rattle.simm_kinds.specs.declared.key.FactorKey.{FactorKey}
 use Rattle.simm_kinds.specs.Tenors.{tenor_at}
 use Rattle.simm_rules.specs.Risks.{RateVolatility, CreditClass, CreditPoint, PricedClass, Amount}
 use Rattle.simm_rules.specs.Priced.{NameVolatility}
+use Rattle.simm_rules.specs.ForeignExchange.{PairVolatility}
 use Rattle.factor_book.specs.declared.place.Place.{Place}
 use Rattle.factor_book.specs.declared.holding.Holding.{Holding}
 use Rattle.factor_book.specs.Factors.{IsBook}
 use Rattle.factor_book.specs.Places.{factors_at}
 use Rattle.name_delta.proofs.Sizes.{sum_by-map}
 use Rattle.vol_factors.specs.declared.tenor_scale.TenorScale.{TenorScale}
-use Rattle.vol_factors.specs.Places.{currency_place, points_place, names_place, volatilities_of, points_of, name_volatilities}
+use Rattle.vol_factors.specs.Places.{currency_place, points_place, names_place, volatilities_of, points_of, name_volatilities, pairs_place, pair_volatilities}
 use Rattle.vol_factors.specs.Rates.{alone_of, scaled_volatility, volatilities_among}
 use Rattle.vol_factors.specs.Credit.{scaled_tenor, scaled_point, tenors_among}
 use Rattle.vol_factors.specs.Names.{nets_at, name_sums_at, name_totals}
+use Rattle.vol_factors.specs.Pairs.{pair_nets_at, pair_sums_at, pair_totals}
 use Rattle.vol_factors.proofs.RateNets as rates
 use Rattle.vol_factors.proofs.VolatilePoints as credit
 use Rattle.vol_factors.proofs.NamesTogether as names
+use Rattle.vol_factors.proofs.PairsTogether as pairs
 
 module _ (fs lent : List (FactorKey × Holding)) (place : Place) (there : lent ≡ factors_at place fs) where
   -- ---- currencies
@@ -63,3 +66,12 @@ module _ (fs : List (FactorKey × Holding)) (place : Place) (class : PricedClass
 
   pub names_summed : IsBook fs → (s : TenorScale) → name_sums_at s place fs ≡ name_totals s (name_volatilities class at product fs)
   names_summed book s = ap (λ p. name_sums_at s p fs) is ∙ names.sums_are s class at product fs book
+
+-- ---- pairs of currencies
+
+module _ (fs : List (FactorKey × Holding)) (place : Place) (product : ProductClass) (is : place ≡ pairs_place product) where
+  pub pairs_small : (n : ℕ) → sum_by (λ a. unsigned_abs a.amount) (pair_volatilities product fs) ≤ n → sum_by (λ a. unsigned_abs a.amount) (pair_nets_at place fs) ≤ n
+  pairs_small n h = subst (λ xs. sum_by (λ (a : Amount PairVolatility). unsigned_abs a.amount) xs ≤ n) (sym (ap (λ p. pair_nets_at p fs) is ∙ pairs.nets_are product fs)) h
+
+  pub pairs_summed : IsBook fs → (s : TenorScale) → pair_sums_at s place fs ≡ pair_totals s (pair_volatilities product fs)
+  pairs_summed book s = ap (λ p. pair_sums_at s p fs) is ∙ pairs.sums_are s product fs book

@@ -3,9 +3,10 @@ pub mod RateNets
 pub mod VolatilePoints
 pub mod Runs
 pub mod NamesTogether
-pub mod NameRuns
+pub mod Summing
 pub mod Readings
 pub mod Gathered
 pub mod NameSizes
+pub mod PairsTogether
 pub mod Lent
 pub mod Currencies

@@ -10,7 +10,9 @@ use Rattle.simm_kinds.specs.declared.kinds.Tenor.TheVariants as tenor
 use Rattle.simm_kinds.specs.declared.key.FactorKey.{FactorKey}
 use Rattle.simm_rules.specs.Curvature.{scale_of}
 use Rattle.simm_rules.specs.Risks.{Risk, risk, Amount, select}
+use Rattle.simm_kinds.specs.Pair.{Pair}
 use Rattle.simm_rules.specs.Priced.{NameVolatility}
+use Rattle.simm_rules.specs.ForeignExchange.{PairVolatility}
 use Rattle.factor_book.specs.declared.holding.Holding.{Holding}
 use Rattle.factor_book.specs.Factors.{net_of}
 use Rattle.name_delta.proofs.Selected.{select_none, select_some}
@@ -18,6 +20,7 @@ use Rattle.vol_factors.specs.declared.tenor_scale.TenorScale.{TenorScale}
 use Rattle.vol_factors.specs.declared.tenor_scale.TenorScale.TheVariants as scale
 use Rattle.vol_factors.specs.Scale.{scale_by}
 use Rattle.vol_factors.specs.Names.{scaled_net, scaled_nets}
+use Rattle.vol_factors.specs.Pairs.{scaled_pair, scaled_pairs}
 
 -- ---- how much a tenor counts
 
@@ -58,7 +61,19 @@ module _ (s : TenorScale) where
         sum_by-cons (λ (b : Amount (List ℕ)). unsigned_abs b.amount) (scaled_net s a) (scaled_nets s amounts),
         sum_by-cons (λ (b : Amount NameVolatility). unsigned_abs b.amount) a amounts,
       )
-  -- ---- those so far, of one sort
+
+  pub pairs_sizes : (amounts : List (Amount PairVolatility)) → sum_by (λ a. unsigned_abs a.amount) (scaled_pairs s amounts) ≤ 10950 * sum_by (λ a. unsigned_abs a.amount) amounts
+  pairs_sizes [] = omega arith
+  pairs_sizes (a ∷ amounts) =
+      omega (
+        arith,
+        pairs_sizes amounts,
+        times_size (scale_by s (a.of).tenor) a.amount (scale_by-size s (a.of).tenor),
+        sum_by-cons (λ (b : Amount Pair). unsigned_abs b.amount) (scaled_pair s a) (scaled_pairs s amounts),
+        sum_by-cons (λ (b : Amount PairVolatility). unsigned_abs b.amount) a amounts,
+      )
+
+-- ---- those so far, of one sort
 
 module _ {A B : Type 0} (sort : Risk → Option A) (V : Amount A → B) where
   abbrev among : List (FactorKey × Holding) → List (Amount A)

@@ -4,4 +4,5 @@ pub mod Rates
 pub mod Credit
 pub mod Together
 pub mod Names
+pub mod Pairs
 pub mod Ranges

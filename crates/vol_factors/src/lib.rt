@@ -6,6 +6,7 @@
 mod credit;
 mod laws;
 mod names;
+mod pairs;
 mod places;
 mod rate_rho;
 mod rates;
@@ -15,6 +16,7 @@ mod volatility;
 pub use credit::point_sums;
 pub use laws::currencies_add_up;
 pub use names::{NameSum, name_sums};
+pub use pairs::{PairSum, pair_sums};
 pub use places::{CreditAt, CurrencyAt, PricedAt};
 pub use rate_rho::VolatilityRho;
 pub use rates::{VolatilitySum, volatility_sums};

@@ -1,0 +1,181 @@
+-- Volatilities of pairs of currencies: where they stand, and in which order.
+use Rattle.std.proofs.Common.{◌≡◌, List, [], ◌∷◌, map, false, true, ◌&&◌, Some, None, refl, sym, ap, ◌∙◌, ◌*ℤ◌, ◌⊎◌, inl, inr}
+use Rattle.std.specs.declared.cmp.Ordering.{Ordering}
+use Rattle.std.specs.declared.cmp.Ordering.TheVariants.{Less, Equal, Greater}
+use Rattle.std.specs.Ordering.{nat_cmp, ordering_then, is_eq, then_cmp, on}
+use Rattle.std.specs.Cmp.{IsTotalOrder}
+use Rattle.std.specs.List.{filter}
+use Rattle.std.specs.List.Sorted.{IsStrictlySortedBy}
+use Rattle.std.specs.Str.{bytes_eq}
+use Rattle.std.proofs.lemmas.Cmp.{nat_list_cmp_total, on_total, then_total}
+use Rattle.std.proofs.lemmas.Map.Lookups.{CmpEqualImpliesEq, exact_bytes}
+use Rattle.std.proofs.lemmas.Map.Text.{is_eq-slice_cmp}
+use Rattle.std.proofs.lemmas.Simd.{map-map}
+use Rattle.simm_kinds.specs.declared.kinds.ProductClass.{ProductClass}
+use Rattle.simm_kinds.specs.declared.kinds.Tenor.{Tenor}
+use Rattle.simm_kinds.specs.declared.kinds.BucketId.TheVariants as id
+use Rattle.simm_kinds.specs.declared.factor.Factor.{Factor}
+use Rattle.simm_kinds.specs.declared.factor.Factor.TheVariants as factor
+use Rattle.simm_kinds.specs.declared.key.FactorKey.{FactorKey}
+use Rattle.simm_kinds.specs.Factors.{bucket_id_of}
+use Rattle.simm_kinds.specs.Pair.{Pair}
+use Rattle.simm_kinds.specs.Order.{same_product, key_cmp, name_cmp, pair_cmp, same_pair, tenor_place, same_bucket_id}
+use Rattle.simm_rules.specs.Sums.{total_by, different}
+use Rattle.simm_rules.specs.Risks.{risk, Amount}
+use Rattle.simm_rules.specs.ForeignExchange.{PairVolatility, as_pair_volatility, pairs_of}
+use Rattle.factor_book.specs.declared.holding.Holding.{Holding}
+use Rattle.factor_book.specs.Factors.{IsBook}
+use Rattle.factor_book.specs.Places.{stands_at}
+use Rattle.factor_book.proofs.Sums.{total_by-map}
+use Rattle.name_delta.proofs.Keys.{then_Equal, and_trues, and_other, and_side, key_with, by_factor}
+use Rattle.name_delta.proofs.Lists.{each_weaker, each_map, each_unmap, map-filter, map-itself}
+use Rattle.name_delta.proofs.Selected.{issuers_place, select_ascends}
+use Rattle.vol_factors.specs.declared.tenor_scale.TenorScale.{TenorScale}
+use Rattle.vol_factors.specs.Scale.{scale_by}
+use Rattle.vol_factors.specs.Places.{pairs_place, pair_volatilities}
+use Rattle.vol_factors.specs.Pairs.{pair_nets_at, scaled_pair, scaled_pairs, pair_total, pair_totals, pair_sums_at}
+use Rattle.vol_factors.specs.Together.{summed}
+use Rattle.vol_factors.proofs.Runs.{NotAfter, Ascends, sum_to, runs_are}
+use Rattle.vol_factors.proofs.NamesTogether.{maps_agree}
+
+-- ---- the order of pairs
+
+pub pairs_total : IsTotalOrder pair_cmp
+pairs_total = then_total (on_total (λ p. p.first) nat_list_cmp_total) (on_total (λ p. p.second) nat_list_cmp_total)
+
+both_Equal : (a b : Ordering) → ordering_then a b ≡ Equal → (a ≡ Equal) × (b ≡ Equal)
+both_Equal Less b e = absurd (cc)
+both_Equal Equal b e = (refl, e)
+both_Equal Greater b e = absurd (cc)
+
+pub exact_pair : CmpEqualImpliesEq pair_cmp
+exact_pair p q e =
+    let both = both_Equal (name_cmp p.first q.first) (name_cmp p.second q.second) e in
+    let first = exact_bytes p.first q.first both.0 in
+    let second = exact_bytes p.second q.second both.1 in
+    λ i. record { first = first i; second = second i }
+
+-- two are one where both currencies are
+either : (a b : Ordering) → is_eq (ordering_then a b) ≡ (is_eq a && is_eq b)
+either Less b = refl
+either Equal b = refl
+either Greater b = refl
+
+pub pair_tests : (p q : Pair) → same_pair p q ≡ (bytes_eq p.first q.first && bytes_eq p.second q.second)
+pair_tests p q =
+    either (name_cmp p.first q.first) (name_cmp p.second q.second) ∙ ap (λ t. t && is_eq (name_cmp p.second q.second)) (is_eq-slice_cmp p.first q.first)
+    ∙ ap (λ t. bytes_eq p.first q.first && t) (is_eq-slice_cmp p.second q.second)
+
+-- ---- which factors they are
+
+is_volatility : (f : Factor) (x : PairVolatility) → as_pair_volatility (risk f) ≡ Some x → f ≡ factor.FxVol x.pair x.tenor
+is_volatility (factor.IrCurve n t s) x h = absurd (cc)
+is_volatility (factor.Inflation n) x h = absurd (cc)
+is_volatility (factor.XccyBasis n) x h = absurd (cc)
+is_volatility (factor.IrVol n t) x h = absurd (cc)
+is_volatility (factor.InflationVol n t) x h = absurd (cc)
+is_volatility (factor.CreditQ i b t l) x h = absurd (cc)
+is_volatility (factor.CreditVol i b t l) x h = absurd (cc)
+is_volatility (factor.CreditNonQ i b t l) x h = absurd (cc)
+is_volatility (factor.CreditVolNonQ i b t l) x h = absurd (cc)
+is_volatility (factor.BaseCorr i) x h = absurd (cc)
+is_volatility (factor.Equity i b) x h = absurd (cc)
+is_volatility (factor.EquityVol i b t) x h = absurd (cc)
+is_volatility (factor.Commodity n b) x h = absurd (cc)
+is_volatility (factor.CommodityVol n b t) x h = absurd (cc)
+is_volatility (factor.Fx n) x h = absurd (cc)
+is_volatility (factor.FxVol p t) x h =
+    let is : record { pair = p; tenor = t } ≡ x = cc in ap (λ (z : PairVolatility). factor.FxVol z.pair z.tenor) is
+
+-- ---- where they stand
+
+stands : (product : ProductClass) (k : FactorKey) (x : PairVolatility) → as_pair_volatility (risk k.factor) ≡ Some x → stands_at (pairs_place product) k ≡ same_product k.product product
+stands product k x e = ap (λ f. stands_at (pairs_place product) (key_with k.product f)) (is_volatility k.factor x e) ∙ and_trues (same_product k.product product)
+
+elsewhere : (product c : ProductClass) (f : Factor) → as_pair_volatility (risk f) ≡ None → stands_at (pairs_place product) (key_with c f) ≡ false
+elsewhere product c (factor.IrCurve n t s) h = and_other (same_product c product) false (same_bucket_id (id.Currency n) id.Single)
+elsewhere product c (factor.Inflation n) h = and_other (same_product c product) false (same_bucket_id (id.Currency n) id.Single)
+elsewhere product c (factor.XccyBasis n) h = and_other (same_product c product) false (same_bucket_id (id.Currency n) id.Single)
+elsewhere product c (factor.IrVol n t) h = and_other (same_product c product) true (same_bucket_id (id.Currency n) id.Single)
+elsewhere product c (factor.InflationVol n t) h = and_other (same_product c product) true (same_bucket_id (id.Currency n) id.Single)
+elsewhere product c (factor.CreditQ i b t l) h = and_other (same_product c product) false (same_bucket_id (bucket_id_of b) id.Single)
+elsewhere product c (factor.CreditVol i b t l) h = and_other (same_product c product) true (same_bucket_id (bucket_id_of b) id.Single)
+elsewhere product c (factor.CreditNonQ i b t l) h = and_other (same_product c product) false (same_bucket_id (bucket_id_of b) id.Single)
+elsewhere product c (factor.CreditVolNonQ i b t l) h = and_other (same_product c product) true (same_bucket_id (bucket_id_of b) id.Single)
+elsewhere product c (factor.BaseCorr i) h = and_other (same_product c product) false true
+elsewhere product c (factor.Equity i b) h = and_other (same_product c product) false (same_bucket_id (bucket_id_of b) id.Single)
+elsewhere product c (factor.EquityVol i b t) h = and_other (same_product c product) true (same_bucket_id (bucket_id_of b) id.Single)
+elsewhere product c (factor.Commodity n b) h = and_other (same_product c product) false (same_bucket_id (id.Number b) id.Single)
+elsewhere product c (factor.CommodityVol n b t) h = and_other (same_product c product) true (same_bucket_id (id.Number b) id.Single)
+elsewhere product c (factor.Fx n) h = and_side (same_product c product) true
+elsewhere product c (factor.FxVol p t) h = absurd (cc)
+
+-- the nets of the place are those of the pairs
+pub nets_are : (product : ProductClass) (fs : List (FactorKey × Holding)) → pair_nets_at (pairs_place product) fs ≡ pair_volatilities product fs
+nets_are product fs =
+    issuers_place as_pair_volatility as_pair_volatility (λ x. x) (pairs_place product) (stands product) (λ k x e. e) (λ k e. elsewhere product k.product k.factor e) fs
+    ∙ map-itself (λ (a : Amount PairVolatility). record { of = a.of; amount = a.amount }) (λ a. refl) (pair_volatilities product fs)
+
+-- ---- in which order
+
+abbrev volatility_cmp : PairVolatility → PairVolatility → Ordering
+volatility_cmp = then_cmp (on (λ x. x.pair) pair_cmp) (on (λ x. tenor_place x.tenor) nat_cmp)
+
+three : (a b c : Ordering) → ordering_then a (ordering_then b (ordering_then c Equal)) ≡ ordering_then (ordering_then a b) c
+three Less b c = refl
+three Equal b c = ap (ordering_then b) (then_Equal c)
+three Greater b c = refl
+
+by_parts : (x y : PairVolatility) → ordering_then (name_cmp (x.pair).first (y.pair).first) (ordering_then (name_cmp (x.pair).second (y.pair).second) (ordering_then (name_cmp (tenor_place x.tenor ∷ []) (tenor_place y.tenor ∷ [])) Equal)) ≡ volatility_cmp x y
+by_parts x y =
+    let first = name_cmp (x.pair).first (y.pair).first in
+    let second = name_cmp (x.pair).second (y.pair).second in
+    three first second (name_cmp (tenor_place x.tenor ∷ []) (tenor_place y.tenor ∷ []))
+    ∙ ap (ordering_then (ordering_then first second)) (then_Equal (nat_cmp (tenor_place x.tenor) (tenor_place y.tenor)))
+
+less : (product : ProductClass) (k l : FactorKey) (x y : PairVolatility) → same_product k.product product ≡ true → same_product l.product product ≡ true → as_pair_volatility (risk k.factor) ≡ Some x → as_pair_volatility (risk l.factor) ≡ Some y → key_cmp k l ≡ Less → volatility_cmp x y ≡ Less
+less product k l x y p q e d h =
+    sym (by_factor product k l (factor.FxVol x.pair x.tenor) (factor.FxVol y.pair y.tenor) p q (is_volatility k.factor x e) (is_volatility l.factor y d) ∙ by_parts x y) ∙ h
+
+-- a volatility that comes before another is of no later pair
+pair_first : (x y : PairVolatility) → volatility_cmp x y ≡ Less → (pair_cmp x.pair y.pair ≡ Less) ⊎ (pair_cmp x.pair y.pair ≡ Equal)
+pair_first x y h = by (pair_cmp x.pair y.pair) refl h
+  where
+    by : (o : Ordering) → pair_cmp x.pair y.pair ≡ o → ordering_then o (nat_cmp (tenor_place x.tenor) (tenor_place y.tenor)) ≡ Less → (pair_cmp x.pair y.pair ≡ Less) ⊎ (pair_cmp x.pair y.pair ≡ Equal)
+    by Less e g = inl e
+    by Equal e g = inr e
+    by Greater e g = absurd (cc)
+
+module _ (scale : TenorScale) where
+  abbrev by_pair : Amount PairVolatility → Amount Pair
+  by_pair = scaled_pair scale
+
+  ascend : (amounts : List (Amount PairVolatility)) → IsStrictlySortedBy volatility_cmp (map (λ a. a.of) amounts) → Ascends pair_cmp pairs_total same_pair (λ x y. refl) (scaled_pairs scale amounts)
+  unfolding IsStrictlySortedBy
+  ascend [] s = tt
+  ascend (a ∷ amounts) s = (
+    each_map (λ (b : Amount Pair). NotAfter pair_cmp pairs_total same_pair (λ x y. refl) (a.of).pair b.of) by_pair amounts
+        (each_weaker (λ (b : Amount PairVolatility). volatility_cmp a.of b.of ≡ Less) (λ b. NotAfter pair_cmp pairs_total same_pair (λ x y. refl) (a.of).pair (b.of).pair) (λ b its. pair_first a.of b.of its) amounts
+        (each_unmap (λ y. volatility_cmp a.of y ≡ Less) (λ (b : Amount PairVolatility). b.of) amounts s.0)),
+    ascend amounts s.1,
+  )
+
+  -- ---- the sums of the pairs
+
+  module _ (amounts : List (Amount PairVolatility)) where
+    abbrev own : Pair → List (Amount PairVolatility)
+    own pair = filter (λ (a : Amount PairVolatility). same_pair (a.of).pair pair) amounts
+
+    total_of : (pair : Pair) → total_by (λ a. a.amount) (filter (λ a. same_pair a.of pair) (scaled_pairs scale amounts)) ≡ pair_total scale amounts pair
+    total_of pair =
+        ap (total_by (λ (a : Amount Pair). a.amount)) (sym (map-filter by_pair (λ (a : Amount Pair). same_pair a.of pair) amounts))
+        ∙ total_by-map (λ (a : Amount Pair). a.amount) by_pair (own pair)
+        ∙ sym (total_by-map (λ (a : Amount Tenor). scale_by scale a.of *ℤ a.amount) (λ (a : Amount PairVolatility). record { of = (a.of).tenor; amount = a.amount }) (own pair))
+
+  pub sums_are : (product : ProductClass) (fs : List (FactorKey × Holding)) → IsBook fs → pair_sums_at scale (pairs_place product) fs ≡ pair_totals scale (pair_volatilities product fs)
+  sums_are product fs book =
+      let amounts = pair_volatilities product fs in
+      ap (λ xs. summed same_pair (scaled_pairs scale xs)) (nets_are product fs)
+      ∙ runs_are pair_cmp pairs_total same_pair (λ x y. refl) (scaled_pairs scale amounts) (ascend amounts (select_ascends as_pair_volatility volatility_cmp product (less product) fs book))
+      ∙ ap (λ ks. map (sum_to pair_cmp pairs_total same_pair (λ x y. refl) (scaled_pairs scale amounts)) (different pair_cmp ks)) (map-map (λ (a : Amount Pair). a.of) by_pair amounts)
+      ∙ maps_agree (sum_to pair_cmp pairs_total same_pair (λ x y. refl) (scaled_pairs scale amounts)) (λ pair. record { of = pair; amount = pair_total scale amounts pair }) (λ pair. ap (λ z. record { of = pair; amount = z }) (total_of amounts pair)) (pairs_of amounts)
