@@ -8,5 +8,6 @@ pub mod Readings
 pub mod Gathered
 pub mod NameSizes
 pub mod PairsTogether
+pub mod PairSizes
 pub mod Lent
 pub mod Currencies
