@@ -16,7 +16,6 @@ use Rattle.simm_rules.specs.Credit.{same_point, credit_rho, curved_point, credit
 use Rattle.simm_params.specs.Facts.{IsWeighed}
 use Rattle.weighted_bucket.specs.declared.group.Grouped.{Grouped}
 use Rattle.weighted_bucket.specs.declared.scaling.Scaling.TheVariants as scaling
-use Rattle.weighted_bucket.specs.declared.weighed.Weighed.{Weighed}
 use Rattle.weighted_bucket.specs.Bucket.{bucket_value}
 use Rattle.name_delta.specs.Alone.{AreTerms}
 use Rattle.name_delta.specs.Points.{AreGrouped, issuer_rho}
@@ -30,13 +29,10 @@ use Rattle.vol_factors.specs.Credit.{scaled_point}
 use Rattle.vol_factors.specs.Ranges.{alone}
 use Rattle.vol_factors.proofs.NamesTogether.{maps_agree}
 use Rattle.curvature_margin.specs.Risk.{curved_by, volatility_in}
-use Rattle.curvature_margin.proofs.Risks.{risk_alone, risk_none, scaled_sizes}
+use Rattle.curvature_margin.proofs.Risks.{with_risk, risk_alone, risk_none, scaled_sizes}
 
 abbrev none : Amount CreditPoint
 none = record { of = credit_point [] credit.Y1 []; amount = pos 0 }
-
-abbrev with_risk : ℤ → Weighed
-with_risk w = record { w = w; cr = record { 0 = one } }
 
 six_of : (t : Bool) (a b : ℤ) → (if t then six a else six b) ≡ six (if t then a else b)
 six_of true a b = refl

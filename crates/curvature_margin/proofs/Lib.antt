@@ -2,6 +2,7 @@ pub mod Risks
 pub mod RateValues
 pub mod CreditValues
 pub mod NameValues
+pub mod PairValues
 pub mod Outer
 pub mod Lambdas
 pub mod Totals

@@ -16,7 +16,6 @@ use Rattle.simm_rules.specs.Curvature.{curvature_risk, curved}
 use Rattle.simm_rules.specs.Priced.{NameVolatility, names_of, tenors_of, name_rho, price_curvature_value}
 use Rattle.factor_book.proofs.Sorting.{different_ascends, length-different}
 use Rattle.weighted_bucket.specs.declared.scaling.Scaling.TheVariants as scaling
-use Rattle.weighted_bucket.specs.declared.weighed.Weighed.{Weighed}
 use Rattle.weighted_bucket.specs.Bucket.{bucket_value}
 use Rattle.name_delta.proofs.Lists.{map-itself}
 use Rattle.name_delta.proofs.Sizes.{sum_by-map}
@@ -27,13 +26,10 @@ use Rattle.vol_factors.specs.Names.{name_total, name_totals, sum_view}
 use Rattle.vol_factors.proofs.NamesTogether.{maps_agree}
 use Rattle.vol_factors.proofs.NameSizes.{totals_size}
 use Rattle.curvature_margin.specs.Risk.{curved_by, volatility_in}
-use Rattle.curvature_margin.proofs.Risks.{risk_is, risk_none}
+use Rattle.curvature_margin.proofs.Risks.{with_risk, risk_is, risk_none}
 
 abbrev none : Amount (List ℕ)
 none = record { of = []; amount = pos 0 }
-
-abbrev with_risk : ℤ → Weighed
-with_risk w = record { w = w; cr = record { 0 = one } }
 
 module _ (amounts : List (Amount NameVolatility)) where
   abbrev names : List (List ℕ)

@@ -13,7 +13,6 @@ use Rattle.simm_rules.specs.Bucket.{bucket_value as value_of_factors}
 use Rattle.simm_rules.specs.Curvature.{scale_of, curvature_risk, curved}
 use Rattle.simm_rules.specs.Rates.{VolatilityIn, same_rate_volatility, rate_volatility_rho, tenor_of, currency_curvature_value}
 use Rattle.weighted_bucket.specs.declared.scaling.Scaling.TheVariants as scaling
-use Rattle.weighted_bucket.specs.declared.weighed.Weighed.{Weighed}
 use Rattle.weighted_bucket.specs.Bucket.{bucket_value}
 use Rattle.name_delta.specs.Values.{weighed_as}
 use Rattle.name_delta.proofs.Sizes.{sum_by-map}
@@ -24,10 +23,7 @@ use Rattle.vol_factors.specs.Rates.{alone_of, rule_volatility, scaled_volatility
 use Rattle.vol_factors.proofs.RateNets.{volatility_cmp, volatility_total, volatility_tests}
 use Rattle.vol_factors.proofs.NamesTogether.{maps_agree}
 use Rattle.curvature_margin.specs.Risk.{curved_by}
-use Rattle.curvature_margin.proofs.Risks.{risk_alone, scaled_sizes}
-
-abbrev with_risk : ℤ → Weighed
-with_risk w = record { w = w; cr = record { 0 = one } }
+use Rattle.curvature_margin.proofs.Risks.{with_risk, risk_alone, scaled_sizes}
 
 module _ (p : Params) (amounts : List (Amount VolatilityIn)) where
   abbrev nets : List (Amount RateVolatility)

@@ -1,11 +1,12 @@
 -- Curvature risks, their sizes, and the value of a bucket of them.
-use Rattle.std.proofs.Common.{◌≡◌, ◌^◌, ℕ, ◌+◌, ◌*◌, ◌<◌, ◌≤◌, List, [], ◌∷◌, map, length, Bool, true, false, if◌then◌else◌, Result, Ok, Err, IfOk, sym, ap, ◌∙◌, ℤ, pos, ◌+ℤ◌, ◌*ℤ◌, ◌≤ℤ◌, ◌<ℤ◌, unsigned_abs, FitsSigned, All, arith, mul-le-mul_left, mul-le-mul_right}
+use Rattle.std.proofs.Common.{◌≡◌, ◌^◌, ℕ, ◌+◌, ◌*◌, ◌<◌, ◌≤◌, List, [], ◌∷◌, map, length, Bool, true, false, if◌then◌else◌, Result, Ok, Err, IfOk, refl, sym, ap, ◌∙◌, subst, ℤ, pos, ◌+ℤ◌, ◌*ℤ◌, ◌≤ℤ◌, ◌<ℤ◌, unsigned_abs, FitsSigned, All, arith, mul-le-mul_left, mul-le-mul_right}
 use Rattle.std.specs.Prelude.{sum_by}
 use Rattle.std.specs.Int.{w128}
 use Rattle.std.specs.List.{AllByRecursion}
 use Rattle.std.proofs.Math.IntN.{+ℤ_idr, *ℤ_comm, zero-*ℤ}
 use Rattle.std.proofs.lemmas.Int.{ints, unsigned_abs-mul, fits_signed_from_abs}
-use Rattle.std.proofs.lemmas.List.Elements.{All-from_recursion}
+use Rattle.std.proofs.lemmas.List.{length-map}
+use Rattle.std.proofs.lemmas.List.Elements.{All-from_recursion, recursion_from_All}
 use Rattle.std.proofs.lemmas.List.Sums.{sum_by-cons}
 use Rattle.mh_units.specs.Rounding.{away}
 use Rattle.mh_units.proofs.Integers.{mul_assoc_ℤ, mul-add_ℤ, product_size}
@@ -18,11 +19,11 @@ use Rattle.simm_rules.specs.Curvature.{scale_of, curvature_risk}
 use Rattle.simm_params.specs.Ranges.{sigmas, IsWithin}
 use Rattle.weighted_bucket.specs.declared.weighed.Weighed.{Weighed}
 use Rattle.name_delta.specs.Values.{IsInRange}
-use Rattle.name_delta.proofs.Lists.{each_always}
+use Rattle.name_delta.proofs.Lists.{each_always, each_weaker}
 use Rattle.name_delta.proofs.Sizes.{sum_by-map, sum_by-scaled, away_size_close, size_all, size_is, size_small}
 use Rattle.name_delta.proofs.Thick.{all_made}
 use Rattle.vol_factors.proofs.Readings.{scale_of-size, times_size}
-use Rattle.curvature_margin.specs.Risk.{risk_of, curved_by, IsCurved}
+use Rattle.curvature_margin.specs.Risk.{risk_of, curved_by, AreNear, IsCurved}
 use Rattle.curvature_margin.specs.Values.{IsSized}
 
 -- ---- the rule's
@@ -35,6 +36,10 @@ scaled_total sigma (a ∷ xs) =
     mul-add_ℤ sigma (f *ℤ a.amount) (total_by (λ b. scale_of b.of *ℤ b.amount) xs)
     ∙ ap (λ z. z +ℤ sigma *ℤ total_by (λ b. scale_of b.of *ℤ b.amount) xs) own
     ∙ ap (λ z. f *ℤ sigma *ℤ a.amount +ℤ z) (scaled_total sigma xs)
+
+-- a factor of this risk
+abbrev pub with_risk : ℤ → Weighed
+with_risk w = record { w = w; cr = record { 0 = one } }
 
 -- the risk of the sum of a factor's nets is the rule's
 pub risk_is : (sigma : ℤ) (xs : List (Amount Tenor)) → risk_of sigma (total_by (λ a. scale_of a.of *ℤ a.amount) xs) ≡ curvature_risk sigma xs
@@ -59,39 +64,59 @@ product_fits sigma x range small = fits_signed_from_abs w128 (sigma *ℤ x) (ome
 risk_close : (sigma x : ℤ) → unsigned_abs (risk_of sigma x) * 219000000 ≤ unsigned_abs x * unsigned_abs sigma + 219000000
 risk_close sigma x = omega (arith, away_size_close (sigma *ℤ x) 219000000 (omega arith), unsigned_abs-mul sigma x)
 
-module _ (sigma : ℤ) where
-  abbrev weight : ℤ → ℕ
-  weight x = unsigned_abs x * unsigned_abs sigma
+-- risks, each of a sum at a volatility of its own
+module _ {X : Type 0} (sigma sum : X → ℤ) where
+  abbrev weight : X → ℕ
+  weight x = unsigned_abs (sum x) * unsigned_abs (sigma x)
 
-  gross_close : (xs : List ℤ) → sum_by (λ x. unsigned_abs (risk_of sigma x)) xs * 219000000 ≤ sum_by weight xs + length xs * 219000000
+  abbrev risk : X → Weighed
+  risk x = curved_by (sigma x) (sum x)
+
+  gross_close : (xs : List X) → sum_by (λ x. unsigned_abs (risk x).w) xs * 219000000 ≤ sum_by weight xs + length xs * 219000000
   gross_close [] = omega arith
-  gross_close (x ∷ xs) = omega (arith, gross_close xs, risk_close sigma x, sum_by-cons (λ y. unsigned_abs (risk_of sigma y)) x xs, sum_by-cons weight x xs)
+  gross_close (x ∷ xs) = omega (arith, gross_close xs, risk_close (sigma x) (sum x), sum_by-cons (λ y. unsigned_abs (risk y).w) x xs, sum_by-cons weight x xs)
 
-  module _ (sums : List ℤ) (factors : List Weighed) (made : factors ≡ map (curved_by sigma) sums) where
-    pub factors_from_one : All (λ factor. one ≤ℤ factor.cr.0) factors
-    factors_from_one = all_made (λ (factor : Weighed). one ≤ℤ factor.cr.0) (curved_by sigma) sums factors made (each_always (λ x. one ≤ℤ one) (λ x. omega (arith, ints)) sums)
+  module _ (xs : List X) (risks : List Weighed) (made : risks ≡ map (λ x. curved_by (sigma x) (sum x)) xs) where
+    pub unconcentrated : All (λ r. r.cr.0 ≡ one) risks
+    unconcentrated = all_made (λ (r : Weighed). r.cr.0 ≡ one) risk xs risks made (each_always (λ x. one ≡ one) (λ x. refl) xs)
 
-    pub factors_below : All (λ factor. factor.cr.0 <ℤ pos 347000000) factors
-    factors_below = all_made (λ (factor : Weighed). factor.cr.0 <ℤ pos 347000000) (curved_by sigma) sums factors made (each_always (λ x. one <ℤ pos 347000000) (λ x. omega (arith, ints)) sums)
+    gross_is : sum_by (λ r. unsigned_abs r.w) risks ≡ sum_by (λ x. unsigned_abs (risk x).w) xs
+    gross_is = ap (sum_by (λ (r : Weighed). unsigned_abs r.w)) made ∙ sum_by-map (λ (r : Weighed). unsigned_abs r.w) risk xs
 
-    gross_is : sum_by (λ factor. unsigned_abs factor.w) factors ≡ sum_by (λ x. unsigned_abs (risk_of sigma x)) sums
-    gross_is = ap (sum_by (λ (factor : Weighed). unsigned_abs factor.w)) made ∙ sum_by-map (λ (factor : Weighed). unsigned_abs factor.w) (curved_by sigma) sums
+    pub risks_count : length risks ≡ length xs
+    risks_count = ap length made ∙ length-map xs risk
 
-    pub factors_in_range : length sums ≤ 2000 → sum_by (λ x. unsigned_abs x * unsigned_abs sigma) sums ≤ 1095 * 10 ^ 18 → sum_by (λ factor. unsigned_abs factor.w) factors < 84 * 10 ^ 14
-    factors_in_range few range = omega (arith, gross_is, gross_close sums, few, range)
+    pub risks_near : AreNear (sum_by (λ x. unsigned_abs (sum x) * unsigned_abs (sigma x)) xs) risks
+    risks_near = omega (arith, gross_is, gross_close xs, risks_count)
 
-    pub is_curved : length sums ≤ 2000 → sum_by (λ x. unsigned_abs x * unsigned_abs sigma) sums ≤ 1095 * 10 ^ 18 → (value : BucketMargin) → pos 0 ≤ℤ value.k → unsigned_abs value.s ≤ unsigned_abs value.k
-        → unsigned_abs value.k ≤ sum_by (λ factor. unsigned_abs factor.w) factors → unsigned_abs value.sum ≤ unsigned_abs value.gross → value.gross ≡ pos (sum_by (λ factor. unsigned_abs factor.w) factors) → value.cr.0 ≡ one
-        → IsCurved (sum_by (λ x. unsigned_abs x * unsigned_abs sigma) sums) (length sums) value
-    is_curved few range value low held margin sum gross cr = record {
-      not_negative = low;
-      held = held;
-      margin = omega (arith, ints, low, margin, gross);
-      sum = sum;
-      gross = omega (arith, ints, gross, gross_is, gross_close sums);
-      below = omega (arith, ints, gross, factors_in_range few range);
-      unconcentrated = cr;
-    }
+    pub risks_in_range : length xs ≤ 2000 → sum_by (λ x. unsigned_abs (sum x) * unsigned_abs (sigma x)) xs ≤ 1095 * 10 ^ 18 → sum_by (λ r. unsigned_abs r.w) risks < 84 * 10 ^ 14
+    risks_in_range few range = omega (arith, gross_is, gross_close xs, few, range)
+
+-- the value of risks
+module _ (risks : List Weighed) where
+  module _ (alone : All (λ r. r.cr.0 ≡ one) risks) where
+    all_of : (P : ℤ → Type 0) → P one → All (λ r. P r.cr.0) risks
+    all_of P p =
+        All-from_recursion (λ (r : Weighed). P r.cr.0) risks (each_weaker (λ (r : Weighed). r.cr.0 ≡ one) (λ r. P r.cr.0) (λ r e. subst P (sym e) p) risks (recursion_from_All (λ (r : Weighed). r.cr.0 ≡ one) risks alone))
+
+    pub risks_from_one : All (λ r. one ≤ℤ r.cr.0) risks
+    risks_from_one = all_of (λ c. one ≤ℤ c) (omega (arith, ints))
+
+    pub risks_below : All (λ r. r.cr.0 <ℤ pos 347000000) risks
+    risks_below = all_of (λ c. c <ℤ pos 347000000) (omega (arith, ints))
+
+  pub is_curved : sum_by (λ r. unsigned_abs r.w) risks < 84 * 10 ^ 14 → (value : BucketMargin) → pos 0 ≤ℤ value.k → unsigned_abs value.s ≤ unsigned_abs value.k
+      → unsigned_abs value.k ≤ sum_by (λ r. unsigned_abs r.w) risks → unsigned_abs value.sum ≤ unsigned_abs value.gross → value.gross ≡ pos (sum_by (λ r. unsigned_abs r.w) risks) → value.cr.0 ≡ one
+      → (sizes : ℕ) → AreNear sizes risks → IsCurved sizes (length risks) value
+  is_curved range value low held margin sum gross cr sizes near = record {
+    not_negative = low;
+    held = held;
+    margin = omega (arith, ints, low, margin, gross);
+    sum = sum;
+    gross = omega (arith, ints, gross, near);
+    below = omega (arith, ints, gross, range);
+    unconcentrated = cr;
+  }
 
 -- nets, each times what its tenor counts
 pub scaled_sizes : {X : Type 0} (t : X → Tenor) (x : X → ℤ) (xs : List X) → sum_by (λ a. unsigned_abs (scale_of (t a) *ℤ x a)) xs ≤ 10950 * sum_by (λ a. unsigned_abs (x a)) xs
@@ -107,36 +132,50 @@ all_within n (x ∷ xs) h = (omega (arith, h, sum_by-cons (λ y. unsigned_abs y)
 pub sums_small : (sums : List ℤ) (n : ℕ) → sum_by (λ x. unsigned_abs x) sums ≤ 10950 * n → n ≤ 2 * 10 ^ 20 → All (λ x. unsigned_abs x ≤ 219 * 10 ^ 22) sums
 sums_small sums n h m = All-from_recursion (λ x. unsigned_abs x ≤ 219 * 10 ^ 22) sums (all_within (219 * 10 ^ 22) sums (omega (arith, h, m)))
 
+-- sizes and a count that are within those of a bucket in range
+module _ {A : Type 0} (weight : A → ℤ) (positive : (x : A) → pos 0 ≤ℤ weight x) (amounts : List (Amount A)) (range : IsInRange weight amounts) (sizes count : ℕ) (within : sizes ≤ 10950 * size_all weight amounts) (fewer : count ≤ length amounts) where
+  pub few_within : count ≤ 2000
+  few_within = omega (arith, fewer, range.few)
+
+  pub sizes_within : sizes ≤ 1095 * 10 ^ 18
+  sizes_within = omega (arith, within, size_small weight positive amounts range)
+
+  pub sized_within : (value : BucketMargin) → IsCurved sizes count value → IsSized weight amounts value
+  sized_within value its = record {
+    not_negative = its.not_negative;
+    held = its.held;
+    margin = its.margin;
+    sum = its.sum;
+    gross = omega (arith, ints, its.gross, within, fewer, size_is weight positive amounts);
+    below = its.below;
+    unconcentrated = its.unconcentrated;
+  }
+
 -- the sums of the factors of a bucket in range, at no more than its volatility
 module _ {A : Type 0} (most : ℤ) (low : pos 0 ≤ℤ most) (amounts : List (Amount A)) (range : IsInRange (λ (x : A). most) amounts) (sigma : ℤ) (less : unsigned_abs sigma ≤ unsigned_abs most) (sums : List ℤ) (sizes : sum_by (λ x. unsigned_abs x) sums ≤ 10950 * sum_by (λ a. unsigned_abs a.amount) amounts) (count : length sums ≤ length amounts) where
   abbrev whole : ℕ
   whole = sum_by (λ a. unsigned_abs a.amount) amounts
 
-  weights_are : sum_by (λ x. unsigned_abs x * unsigned_abs sigma) sums ≡ sum_by (λ x. unsigned_abs x) sums * unsigned_abs sigma
+  abbrev weights : ℕ
+  weights = sum_by (λ x. unsigned_abs x * unsigned_abs sigma) sums
+
+  weights_are : weights ≡ sum_by (λ x. unsigned_abs x) sums * unsigned_abs sigma
   weights_are = sum_by-scaled (λ x. unsigned_abs x) (unsigned_abs sigma) sums
 
   all_are : size_all (λ (x : A). most) amounts ≡ whole * unsigned_abs most
   all_are = sum_by-scaled (λ (a : Amount A). unsigned_abs a.amount) (unsigned_abs most) amounts
 
-  weights_small : sum_by (λ x. unsigned_abs x * unsigned_abs sigma) sums ≤ 10950 * size_all (λ (x : A). most) amounts
+  weights_small : weights ≤ 10950 * size_all (λ (x : A). most) amounts
   weights_small = omega (arith, weights_are, all_are, mul-le-mul_right (unsigned_abs sigma) sizes, mul-le-mul_left (10950 * whole) less)
 
   pub sums_few : length sums ≤ 2000
-  sums_few = omega (arith, count, range.few)
+  sums_few = few_within (λ (x : A). most) (λ x. low) amounts range weights (length sums) weights_small count
 
   pub sums_in_range : sum_by (λ x. unsigned_abs x * unsigned_abs sigma) sums ≤ 1095 * 10 ^ 18
-  sums_in_range = omega (arith, weights_small, size_small (λ (x : A). most) (λ x. low) amounts range)
+  sums_in_range = sizes_within (λ (x : A). most) (λ x. low) amounts range weights (length sums) weights_small count
 
   pub sized : (value : BucketMargin) → IsCurved (sum_by (λ x. unsigned_abs x * unsigned_abs sigma) sums) (length sums) value → IsSized (λ (x : A). most) amounts value
-  sized value its = record {
-    not_negative = its.not_negative;
-    held = its.held;
-    margin = its.margin;
-    sum = its.sum;
-    gross = omega (arith, ints, its.gross, weights_small, count, size_is (λ (x : A). most) (λ x. low) amounts);
-    below = its.below;
-    unconcentrated = its.unconcentrated;
-  }
+  sized value its = sized_within (λ (x : A). most) (λ x. low) amounts range weights (length sums) weights_small count value its
 
 -- the amounts of a bucket in range whose weight is 1
 pub amounts_small : {A : Type 0} (amounts : List (Amount A)) → IsInRange (λ (x : A). pos 10000) amounts → sum_by (λ a. unsigned_abs a.amount) amounts ≤ 2 * 10 ^ 20

@@ -1,11 +1,13 @@
 -- The curvature risk of a factor by the sum of its nets, and what is known of a bucket of such risks.
 -- (ISDA SIMM methodology, curvature margin: the curvature risk exposure.)
-use Rattle.std.specs.Prelude.{ℕ, ◌≡◌, ◌+◌, ◌*◌, ◌^◌, ◌≤◌, ℤ, pos, ◌*ℤ◌, ◌≤ℤ◌, ◌<ℤ◌, unsigned_abs, if◌then◌else◌}
+use Rattle.std.specs.Prelude.{ℕ, ◌≡◌, ◌+◌, ◌*◌, ◌^◌, ◌≤◌, List, length, sum_by, ℤ, pos, ◌*ℤ◌, ◌≤ℤ◌, ◌<ℤ◌, unsigned_abs, if◌then◌else◌}
 use Rattle.mh_units.specs.Rounding.{away}
 use Rattle.simm_rules.specs.declared.values.BucketMargin.{BucketMargin}
-use Rattle.simm_rules.specs.Params.{BucketTerms}
+use Rattle.simm_rules.specs.Params.{Params, BucketTerms}
 use Rattle.simm_rules.specs.Concentration.{one}
+use Rattle.simm_rules.specs.ForeignExchange.{fx_sigma}
 use Rattle.weighted_bucket.specs.declared.weighed.Weighed.{Weighed}
+use Rattle.vol_factors.specs.declared.pairs.PairSum.{PairSum}
 
 -- the volatility at which a bucket's factors count: none where the bucket has no curvature
 abbrev pub volatility_in : BucketTerms → ℤ → ℤ
@@ -17,6 +19,14 @@ risk_of sigma sum = away (sigma *ℤ sum) (pos (21900 * 10 ^ 4))
 
 abbrev pub curved_by : ℤ → ℤ → Weighed
 curved_by sigma sum = record { w = risk_of sigma sum; cr = record { 0 = one } }
+
+-- of a pair of currencies, at its own volatility
+abbrev pub pair_curved_by : Params → PairSum → Weighed
+pair_curved_by p s = curved_by (fx_sigma p s.pair) s.sum
+
+-- the gross size of risks is at most these sizes, in 219,000,000ths of a cent, and a cent for each
+abbrev pub AreNear : ℕ → List Weighed → Type 0
+AreNear sizes risks = sum_by (λ risk. unsigned_abs risk.w) risks * 219000000 ≤ sizes + length risks * 219000000
 
 -- the sizes of a bucket's value, beside those of its sums times the volatility and how many there are
 pub record IsCurved (sizes count : ℕ) (value : BucketMargin) : Type 0 where

@@ -1,9 +1,10 @@
 ghost use Rattle.std.specs.Prelude.{◌≡◌, ◌+◌, ◌*◌, ◌≤◌, Some, IfOk};
 ghost use Rattle.simm_params.specs.ClassKinds.{credit_class, priced_class};
 ghost use Rattle.name_delta.specs.Ids.{listed_id};
-ghost use Rattle.curvature_margin.specs.Curvature.{rate_curvature_at, credit_curvature_at, priced_curvature_at, curvature_value, IsRateReady, IsCreditReady, IsPricedReady, IsReady, IsRateSized, IsCreditSized, IsPricedSized, IsCurvatureSized, rate_count, point_count, name_count, factor_count};
+ghost use Rattle.curvature_margin.specs.Curvature.{rate_curvature_at, credit_curvature_at, priced_curvature_at, fx_curvature_at, curvature_value, IsRateReady, IsCreditReady, IsPricedReady, IsFxReady, IsReady, IsRateSized, IsCreditSized, IsPricedSized, IsFxSized, IsCurvatureSized, rate_count, point_count, name_count, pair_count, factor_count};
 
 use crate::credit::credit_bucket;
+use crate::fx::pair_bucket;
 use crate::priced::priced_bucket;
 use crate::rates::currency_bucket;
 use factor_book::{BucketAt, Factors};
@@ -16,7 +17,7 @@ use std::alloc::{AllocError, Global};
 use std::sync::ledger::Ledger;
 use vol_factors::{CreditAt, CurrencyAt, PricedAt};
 
-/// The curvature value of a bucket of interest rates, credit, equity or commodities: that of a currency, or one that the file lists for
+/// The curvature value of a bucket: that of a currency in interest rates, the one of foreign exchange, or one that the file lists for
 /// the class. Its factors are those of a book in range. `n` factors take at most `n * n` steps. Want of memory is the only error.
 pub fn bucket<L: Ledger>(
     alloc: Global,
@@ -43,7 +44,7 @@ pub fn bucket<L: Ledger>(
         ),
         RiskClass::Equity => priced(alloc, params, factors, at, PricedKind::Equities, steps),
         RiskClass::Commodity => priced(alloc, params, factors, at, PricedKind::Commodities, steps),
-        RiskClass::FX => unreachable!(),
+        RiskClass::FX => pairs(alloc, params, factors, at, steps),
     }
 }
 
@@ -115,4 +116,22 @@ fn priced<L: Ledger>(
         bucket,
     };
     priced_bucket(alloc, params, factors, at, steps)
+}
+
+fn pairs<L: Ledger>(
+    alloc: Global,
+    params: &Params,
+    factors: &Factors,
+    at: BucketAt,
+    steps: &mut Steps<L>,
+) -> Result<BucketMargin, AllocError>
+    requires { IsFxReady params.now at.bucket at.product factors.now }
+    ensures value { IfOk result (λ m. Some m ≡ fx_curvature_at params.now at.bucket at.product factors.now) }
+    ensures sizes { IfOk result (IsFxSized params.now at.bucket at.product factors.now) }
+    ensures steps { let n = pair_count at.bucket at.product factors.now in steps.new ≤ steps.old + n * n }
+{
+    let BucketId::Single = &at.bucket else {
+        unreachable!()
+    };
+    pair_bucket(alloc, params, factors, at.product, steps)
 }

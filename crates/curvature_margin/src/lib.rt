@@ -6,6 +6,7 @@
 mod across;
 mod credit;
 mod curvature;
+mod fx;
 mod gamma;
 mod laws;
 mod listed;

@@ -1,11 +1,11 @@
 //! Curvature risks, and the value of a bucket of them.
-ghost use Rattle.std.specs.Prelude.{◌≡◌, ◌+◌, ◌*◌, ◌^◌, ◌≤◌, All, IfOk, length, map, sum_by, unsigned_abs};
+ghost use Rattle.std.specs.Prelude.{◌≡◌, ◌+◌, ◌*◌, ◌^◌, ◌<◌, ◌≤◌, ℕ, All, IfOk, length, map, sum_by, unsigned_abs};
 ghost use Rattle.simm_rules.specs.Concentration.{one};
 ghost use Rattle.simm_params.specs.Ranges.{sigmas, IsWithin};
 ghost use Rattle.simm_params.specs.BucketView.{terms_view};
 ghost use Rattle.weighted_bucket.specs.Bucket.{bucket_value};
 ghost use Rattle.weighted_bucket.specs.declared.scaling.Scaling.TheVariants as scaling;
-ghost use Rattle.curvature_margin.specs.Risk.{curved_by, risk_of, volatility_in, IsCurved};
+ghost use Rattle.curvature_margin.specs.Risk.{curved_by, risk_of, volatility_in, AreNear, IsCurved};
 
 use mh_units::{Corr6, Rate4, div_away};
 use pair_sum::Steps;
@@ -36,8 +36,25 @@ pub fn curved_bucket<R: Rho, L: Ledger>(
     ensures sizes { IfOk result (IsCurved (sum_by (λ sum. unsigned_abs sum * unsigned_abs sigma.0) sums.now) (length sums.now)) }
     ensures steps { let n = length sums.now in steps.new ≤ steps.old + n * n }
 {
-    let curved = curve_each(alloc, sigma, sums)?;
-    Ok(bucket_margin(curved.as_slice(), rho, Scaling::Squared, Corr6::ONE, steps))
+    let risks = curve_each(alloc, sigma, sums)?;
+    Ok(value_of_risks(risks.as_slice(), rho, steps))
+}
+
+/// The value of a bucket of these curvature risks. What their sizes are near to, its sizes are near to. `n` risks take at most
+/// `n * n` steps.
+pub fn value_of_risks<R: Rho, L: Ledger>(
+    risks: &[Weighed],
+    rho: &R,
+    steps: &mut Steps<L>,
+) -> BucketMargin
+    requires size { R.size rho.now ≡ length risks.now }
+    requires unconcentrated { All (λ risk. risk.cr.0 ≡ one) risks.now }
+    requires in_range { sum_by (λ risk. unsigned_abs risk.w) risks.now < 84 * 10 ^ 14 }
+    ensures value { result ≡ bucket_value scaling.Squared risks.now (R.rho rho.now) (record { 0 = one }) }
+    ensures sizes { (sizes : ℕ) → AreNear sizes risks.now → IsCurved sizes (length risks.now) result }
+    ensures steps { let n = length risks.now in steps.new ≤ steps.old + n * n }
+{
+    bucket_margin(risks, rho, Scaling::Squared, Corr6::ONE, steps)
 }
 
 /// The volatility at which a bucket's factors count: its own, or none where the bucket has no curvature.
@@ -47,20 +64,21 @@ pub fn volatility_in(terms: &BucketTerms, sigma: Rate4) -> Rate4
     if terms.curvature { sigma } else { Rate4(0) }
 }
 
-// The curvature risk of each factor, which no concentration scales.
+// The curvature risk of each factor, all at one volatility.
 fn curve_each(alloc: Global, sigma: Rate4, sums: &[i128]) -> Result<Vec<Weighed>, AllocError>
     requires sigma { IsWithin sigmas sigma.0 }
     requires small { All (λ sum. unsigned_abs sum ≤ 219 * 10 ^ 22) sums.now }
-    ensures { IfOk result (λ curved. curved.items ≡ map (curved_by sigma.0) sums.now) }
+    ensures { IfOk result (λ risks. risks.items ≡ map (curved_by sigma.0) sums.now) }
 {
-    let mut curved = Vec::with_capacity(alloc, sums.len())?;
+    let mut risks = Vec::with_capacity(alloc, sums.len())?;
     for sum in sums {
-        curved.push(curve(sigma, *sum))?;
+        risks.push(curve(sigma, *sum))?;
     }
-    Ok(curved)
+    Ok(risks)
 }
 
-fn curve(sigma: Rate4, sum: i128) -> Weighed
+/// The curvature risk of a factor with this sum at this volatility, which no concentration scales.
+pub fn curve(sigma: Rate4, sum: i128) -> Weighed
     requires sigma { IsWithin sigmas sigma.0 }
     requires small { unsigned_abs sum ≤ 219 * 10 ^ 22 }
     ensures { result ≡ curved_by sigma.0 sum }

@@ -1,8 +1,9 @@
 //! The volatilities of a bucket of a book, as vega and curvature take them: which there are, in their order, and what the net
-//! sensitivities to each come to. The tenors of a name are one factor, whose nets add up.
+//! sensitivities to each come to. The tenors of a name, or of a pair of currencies, are one factor, whose nets add up.
 //! (ISDA SIMM methodology, vega and curvature: definition of the sensitivities.)
 #![tactic(auto)]
 
+mod categories;
 mod credit;
 mod laws;
 mod names;
@@ -13,6 +14,7 @@ mod rates;
 mod tenor_scale;
 mod volatility;
 
+pub use categories::pair_volatility;
 pub use credit::point_sums;
 pub use laws::currencies_add_up;
 pub use names::{NameSum, name_sums};
