@@ -9,6 +9,6 @@ pub mod Gathered
 pub mod NameSizes
 pub mod PairsTogether
 pub mod PairSizes
-pub mod Categories
+pub mod Sigmas
 pub mod Lent
 pub mod Currencies

@@ -8,7 +8,7 @@ use Rattle.weighted_bucket.specs.Bucket.{bucket_value}
 use Rattle.name_delta.proofs.Sizes.{size_all}
 use Rattle.vol_factors.specs.declared.pairs.PairSum.{PairSum}
 use Rattle.vol_factors.specs.Places.{pair_volatilities}
-use Rattle.vol_factors.proofs.Categories.{sigma_low}
+use Rattle.vol_factors.proofs.Sigmas.{sigma_low}
 use Rattle.curvature_margin.specs.Risk.{pair_curved_by, IsCurved}
 use Rattle.curvature_margin.proofs.Risks.{unconcentrated, risks_count, risks_near, risks_in_range, few_within, sizes_within, sized_within}
 use Rattle.curvature_margin.proofs.PairValues.{pairs_count, pairs_fewer, pairs_small, pairs_sizes, pairs_value}

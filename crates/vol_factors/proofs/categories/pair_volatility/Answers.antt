@@ -1,5 +1,5 @@
 use Rattle.std.proofs.Common.{◌∙◌}
-use Rattle.vol_factors.proofs.Categories.{sigma_is}
+use Rattle.vol_factors.proofs.Sigmas.{sigma_is}
 use Rattle.vol_factors.proofs.categories.pair_volatility.Goals as goal
 
 pub returns-clause-value : goal.returns-clause-value
