@@ -1,5 +1,5 @@
 -- The curvature value of the pairs of a product class.
-use Rattle.std.proofs.Common.{◌≡◌, ℕ, ◌^◌, ◌*◌, ◌≤◌, List, [], map, length, refl, sym, ap, ◌∙◌, subst, ℤ, pos, unsigned_abs, All, arith}
+use Rattle.std.proofs.Common.{◌≡◌, ◌^◌, ◌*◌, ◌≤◌, List, [], map, length, refl, sym, ap, ◌∙◌, subst, ℤ, pos, unsigned_abs, All, arith}
 use Rattle.std.specs.Prelude.{sum_by}
 use Rattle.std.specs.List.{AllByRecursion}
 use Rattle.std.specs.List.Sorted.{IsStrictlySortedBy}

@@ -1,4 +1,4 @@
-use Rattle.std.proofs.Common.{◌≡◌, ◌∙◌, ◌+◌, ◌*◌, ◌≤◌, map, length, sym, ap, subst, unsigned_abs}
+use Rattle.std.proofs.Common.{◌≡◌, ◌∙◌, ◌+◌, ◌*◌, ◌≤◌, map, length, ap, subst, unsigned_abs}
 use Rattle.std.specs.Prelude.{sum_by}
 use Rattle.simm_rules.specs.Concentration.{one}
 use Rattle.simm_rules.specs.Lookups.{six}

@@ -1,4 +1,4 @@
-use Rattle.std.proofs.Common.{◌≡◌, ◌∙◌, ◌+◌, ◌*◌, ◌≤◌, map, length, sym, ap, subst, unsigned_abs}
+use Rattle.std.proofs.Common.{◌≡◌, ◌∙◌, ◌+◌, ◌*◌, ◌≤◌, map, sym, ap, subst, unsigned_abs}
 use Rattle.std.specs.Prelude.{sum_by}
 use Rattle.simm_rules.specs.Concentration.{one}
 use Rattle.weighted_bucket.specs.declared.scaling.Scaling.TheVariants as scaling
