@@ -40,8 +40,8 @@ pub fn curved_bucket<R: Rho, L: Ledger>(
     Ok(value_of_risks(risks.as_slice(), rho, steps))
 }
 
-/// The value of a bucket of these curvature risks. What their sizes are near to, its sizes are near to. `n` risks take at most
-/// `n * n` steps.
+/// The value of a bucket of these curvature risks, which no concentration scales; its gross size is that of the risks. `n` risks
+/// take at most `n * n` steps.
 pub fn value_of_risks<R: Rho, L: Ledger>(
     risks: &[Weighed],
     rho: &R,
