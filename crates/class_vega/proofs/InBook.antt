@@ -1,11 +1,12 @@
 -- The buckets of a class in a book: those that have a volatility, each of which the parameters admit.
-use Rattle.std.proofs.Common.{◌≡◌, List, [], ◌∷◌, map, Bool, true, false, ◌&&◌, refl, sym, ap, ◌∙◌}
+use Rattle.std.proofs.Common.{◌≡◌, List, [], ◌∷◌, map, Bool, true, false, ◌&&◌, refl, sym, ap, ◌∙◌, subst}
 use Rattle.std.specs.Ordering.{is_eq}
 use Rattle.std.specs.Cmp.{IsTotalOrder}
 use Rattle.std.specs.List.{filter, list_any, list_all, AllByRecursion}
 use Rattle.std.specs.List.Sorted.{IsStrictlySortedBy}
 use Rattle.std.proofs.lemmas.Bool.{and_parts, false≢true}
 use Rattle.std.proofs.lemmas.Cmp.{nat_list_cmp_total, on_total, alike_right, eq_by_cmp_equiv}
+use Rattle.simm_kinds.specs.declared.kinds.ProductClass.{ProductClass}
 use Rattle.simm_kinds.specs.declared.kinds.RiskClass.{RiskClass}
 use Rattle.simm_kinds.specs.declared.kinds.RiskClass.TheVariants as class
 use Rattle.simm_kinds.specs.declared.kinds.BucketId.{BucketId}
@@ -20,23 +21,30 @@ use Rattle.simm_kinds.specs.Factors.{class_of, side_of, bucket_of, bucket_id_of}
 use Rattle.simm_kinds.specs.Order.{same_product, same_class, bucket_id_numbers, bucket_id_cmp, same_bucket_id, key_cmp}
 use Rattle.simm_rules.specs.Params.{Params}
 use Rattle.simm_rules.specs.Net.{Sensitivity, sensitivities, keys_of}
+use Rattle.simm_rules.specs.Risks.{CreditClass, PricedClass}
 use Rattle.simm_rules.specs.Admits.{admits_factor, admits}
 use Rattle.factor_book.specs.declared.at.ClassAt.{ClassAt}
 use Rattle.factor_book.specs.declared.holding.Holding.{Holding}
 use Rattle.factor_book.specs.declared.place.BookSide.TheVariants as side
-use Rattle.factor_book.specs.declared.place.Place.{Place}
 use Rattle.factor_book.specs.Factors.{factor_of, factors_of}
 use Rattle.factor_book.specs.Place.{book_side}
-use Rattle.factor_book.specs.Places.{same_side, stands_at, factors_at, is_on}
+use Rattle.factor_book.specs.Places.{same_side, stands_at, factors_at, is_on, place_in}
 use Rattle.factor_book.proofs.Grouping.{any_is, any-filter}
 use Rattle.factor_book.proofs.Sorting.{any_different, different_ascends}
 use Rattle.ir_delta.proofs.Lists.{filter_agrees}
-use Rattle.name_delta.specs.Combine.{HasBucket}
-use Rattle.name_delta.proofs.Lists.{each_weaker, each_both, each_map, each_kept, kept_pass}
-use Rattle.class_delta.specs.Buckets.{IsNumbered}
+use Rattle.name_delta.specs.Combine.{IsNamed, HasBucket}
+use Rattle.name_delta.specs.Points.{issuer_nets}
+use Rattle.name_delta.proofs.CreditPoints.{issuer_amount}
+use Rattle.name_delta.proofs.Lists.{each_weaker, each_both, each_map, each_unmap, each_kept, kept_pass}
 use Rattle.class_delta.proofs.Lists.{filter_twice, different_each}
 use Rattle.vega_margin.specs.Combine.{volatility_buckets}
+use Rattle.vega_margin.specs.Credit.{points_place, points_of}
+use Rattle.vega_margin.specs.Priced.{names_place, name_volatilities, name_nets}
+use Rattle.vega_margin.proofs.NamesTogether.{by_name}
+use Rattle.vega_margin.proofs.NamesTogether.{nets_are as name_nets_are}
+use Rattle.vega_margin.proofs.VolatilePoints.{points_nets}
 use Rattle.class_vega.specs.Class.{volatility_side}
+use Rattle.class_vega.proofs.Listed.{Whole, ids, has}
 
 id_total : IsTotalOrder bucket_id_cmp
 id_total = on_total bucket_id_numbers nat_list_cmp_total
@@ -47,11 +55,7 @@ is_volatile at k = is_on (volatility_side at) k
 pub buckets_ascend : (at : ClassAt) (fs : List (FactorKey × Holding)) → IsStrictlySortedBy bucket_id_cmp (volatility_buckets at fs)
 buckets_ascend at fs = different_ascends bucket_id_cmp id_total (map (λ f. bucket_of f.0.factor) (filter (λ f. is_volatile at f.0) fs))
 
--- ---- whether a listed bucket has a factor
-
--- where its volatilities stand
-abbrev pub place_in : ClassAt → Bucket → Place
-place_in at b = record { product = at.product; class = at.class; side = side.Volatility; bucket = bucket_id_of b }
+-- ---- whether a bucket has a factor
 
 and_again : (a b c d : Bool) → ((a && (b && c)) && d) ≡ (a && (b && c) && d)
 and_again true b c d = refl
@@ -61,25 +65,42 @@ none_kept : {X : Type 0} (xs : List X) → any_is xs ≡ false → xs ≡ []
 none_kept [] h = refl
 none_kept (x ∷ xs) h = absurd (false≢true (sym h))
 
-module _ (at : ClassAt) (b : Bucket) where
+module _ (at : ClassAt) (b : BucketId) where
   abbrev is_it : BucketId → Bool
-  is_it k = same_bucket_id k (bucket_id_of b)
+  is_it k = same_bucket_id k b
 
   abbrev bucket_in : FactorKey × Holding → BucketId
   bucket_in f = bucket_of f.0.factor
 
-  has_is : (fs : List (FactorKey × Holding)) → list_any is_it (volatility_buckets at fs) ≡ any_is (factors_at (place_in at b) fs)
+  has_is : (fs : List (FactorKey × Holding)) → list_any is_it (volatility_buckets at fs) ≡ any_is (factors_at (place_in (volatility_side at) b) fs)
   has_is fs =
       let kept = filter (λ (f : FactorKey × Holding). is_volatile at f.0) fs in
-      any_different bucket_id_cmp is_it (λ k l alike. (eq_by_cmp_equiv id_total).symm k (bucket_id_of b) ∙ ap is_eq (alike_right id_total k l (bucket_id_of b) alike) ∙ (eq_by_cmp_equiv id_total).symm (bucket_id_of b) l) (map bucket_in kept)
+      any_different bucket_id_cmp is_it (λ k l alike. (eq_by_cmp_equiv id_total).symm k b ∙ ap is_eq (alike_right id_total k l b alike) ∙ (eq_by_cmp_equiv id_total).symm b l) (map bucket_in kept)
       ∙ any-filter is_it bucket_in kept
       ∙ ap any_is (filter_twice (λ (f : FactorKey × Holding). is_it (bucket_in f)) (λ f. is_volatile at f.0) fs
-      ∙ filter_agrees (λ (f : FactorKey × Holding). is_volatile at f.0 && is_it (bucket_in f)) (λ f. stands_at (place_in at b) f.0)
+      ∙ filter_agrees (λ (f : FactorKey × Holding). is_volatile at f.0 && is_it (bucket_in f)) (λ f. stands_at (place_in (volatility_side at) b) f.0)
       (λ f. and_again (same_product f.0.product at.product) (same_class (class_of f.0.factor) at.class) (same_side (book_side (side_of f.0.factor)) side.Volatility) (is_it (bucket_in f))) fs)
 
   -- one that is not among them has none
-  pub none_at : (fs : List (FactorKey × Holding)) → list_any is_it (volatility_buckets at fs) ≡ false → factors_at (place_in at b) fs ≡ []
-  none_at fs h = none_kept (factors_at (place_in at b) fs) (sym (has_is fs) ∙ h)
+  pub none_at : (fs : List (FactorKey × Holding)) → list_any (λ k. same_bucket_id k b) (volatility_buckets at fs) ≡ false → factors_at (place_in (volatility_side at) b) fs ≡ []
+  none_at fs h = none_kept (factors_at (place_in (volatility_side at) b) fs) (sym (has_is fs) ∙ h)
+
+-- so what comes of the factors of a listed bucket alone is none
+pub none_of : {Y : Type 0} (own : Bucket → List Y) (at : ClassAt) (fs : List (FactorKey × Holding)) → ((b : Bucket) → factors_at (place_in (volatility_side at) (bucket_id_of b)) fs ≡ [] → own b ≡ []) → (ks : List BucketId) → ks ≡ volatility_buckets at fs → (b : Bucket) → has ks b ≡ false → own b ≡ []
+none_of own at fs idle ks are b none = idle b (none_at at (bucket_id_of b) fs (ap (λ ls. has ls b) (sym are) ∙ none))
+
+-- ---- what a place without factors has
+
+nothing : {X Y : Type 0} (f : X → Y) (xs : List X) → map f xs ≡ [] → xs ≡ []
+nothing f [] e = refl
+nothing f (x ∷ xs) e = absurd (cc)
+
+module _ (product : ProductClass) (fs : List (FactorKey × Holding)) where
+  pub no_points : (c : CreditClass) (b : Bucket) → factors_at (points_place c b product) fs ≡ [] → points_of c b product fs ≡ []
+  no_points c b e = nothing issuer_amount (points_of c b product fs) (sym (points_nets c b product fs) ∙ ap issuer_nets e)
+
+  pub no_names : (c : PricedClass) (b : Bucket) → factors_at (names_place c b product) fs ≡ [] → name_volatilities c b product fs ≡ []
+  no_names c b e = nothing by_name (name_volatilities c b product fs) (sym (name_nets_are c b product fs) ∙ ap name_nets e)
 
 -- ---- what the parameters admit
 
@@ -122,21 +143,28 @@ module _ (p : Params) where
   commodity_bucket (factor.CommodityVol n b t) a on = a
   commodity_bucket f a on = absurd (false≢true on)
 
-  listed_bucket : (c : RiskClass) → IsNumbered c → (f : Factor) → admits_factor p f ≡ true → is_of c f ≡ true → HasBucket p c (bucket_of f)
-  listed_bucket class.IR n f a on = absurd n
-  listed_bucket class.CreditQ n f a on = credit_q_bucket f a on
-  listed_bucket class.CreditNonQ n f a on = credit_nq_bucket f a on
-  listed_bucket class.Equity n f a on = equity_bucket f a on
-  listed_bucket class.Commodity n f a on = commodity_bucket f a on
-  listed_bucket class.FX n f a on = absurd n
+  single_bucket : (f : Factor) → is_of class.FX f ≡ true → HasBucket p class.FX (bucket_of f)
+  single_bucket (factor.FxVol pair t) on = refl
+  single_bucket f on = absurd (false≢true on)
 
-  -- each bucket of a book of admitted rows is one that the file lists
-  pub listed_each : (at : ClassAt) → IsNumbered at.class → (held : List CrifRow) → list_all (admits p) held ≡ true → AllByRecursion (HasBucket p at.class) (volatility_buckets at (factors_of held))
-  listed_each at numbered held h =
+  own_bucket : (c : RiskClass) → IsNamed c → (f : Factor) → admits_factor p f ≡ true → is_of c f ≡ true → HasBucket p c (bucket_of f)
+  own_bucket class.IR n f a on = absurd n
+  own_bucket class.CreditQ n f a on = credit_q_bucket f a on
+  own_bucket class.CreditNonQ n f a on = credit_nq_bucket f a on
+  own_bucket class.Equity n f a on = equity_bucket f a on
+  own_bucket class.Commodity n f a on = commodity_bucket f a on
+  own_bucket class.FX n f a on = single_bucket f on
+
+  -- each bucket of a book of admitted rows is one that its class has
+  pub own_each : (at : ClassAt) → IsNamed at.class → (held : List CrifRow) → list_all (admits p) held ≡ true → AllByRecursion (HasBucket p at.class) (volatility_buckets at (factors_of held))
+  own_each at named held h =
       let fs = factors_of held in
       let Kept : FactorKey × Holding → Type 0 = λ f. (is_volatile at f.0 ≡ true) × IsAdmitted f.0 in
       let kept = filter (λ (f : FactorKey × Holding). is_volatile at f.0) fs in
       let each : AllByRecursion Kept kept = each_both (λ f. is_volatile at f.0 ≡ true) (λ f. IsAdmitted f.0) kept (kept_pass (λ f. is_volatile at f.0) fs) (each_kept (λ f. IsAdmitted f.0) (λ f. is_volatile at f.0) fs (factors_admitted held h)) in
       let own : AllByRecursion (λ f. HasBucket p at.class (bucket_of f.0.factor)) kept = each_weaker Kept (λ f. HasBucket p at.class (bucket_of f.0.factor))
-      (λ f both. listed_bucket at.class numbered f.0.factor both.1 (and_parts (same_product f.0.product at.product) (is_of at.class f.0.factor) both.0).1) kept each in
+      (λ f both. own_bucket at.class named f.0.factor both.1 (and_parts (same_product f.0.product at.product) (is_of at.class f.0.factor) both.0).1) kept each in
       different_each bucket_id_cmp (HasBucket p at.class) (map (λ f. bucket_of f.0.factor) kept) (each_map (HasBucket p at.class) (λ (f : FactorKey × Holding). bucket_of f.0.factor) kept own)
+
+  pub parts_have : (at : ClassAt) → IsNamed at.class → (held : List CrifRow) → list_all (admits p) held ≡ true → (parts : List Whole) → ids parts ≡ volatility_buckets at (factors_of held) → AllByRecursion (λ part. HasBucket p at.class part.0) parts
+  parts_have at named held h parts are = each_unmap (HasBucket p at.class) (λ (part : Whole). part.0) parts (subst (AllByRecursion (HasBucket p at.class)) (sym are) (own_each at named held h))

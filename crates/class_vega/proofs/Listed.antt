@@ -1,15 +1,16 @@
--- A class of which the file lists buckets: each bucket of the book is one of them, and those alone add to the margin.
-use Rattle.std.proofs.Common.{◌≡◌, ◌^◌, ◌*◌, ◌<◌, ◌≤◌, List, [], ◌∷◌, ◌++◌, map, length, Some, Bool, true, false, ◌||◌, cond, refl, sym, ap, ◌∙◌, subst, ℤ, pos, ◌+ℤ◌, ◌*ℤ◌, ◌≤ℤ◌, unsigned_abs, arith, le_refl}
-use Rattle.std.specs.Prelude.{sum_by, option_map, IsSomeAnd}
+-- A class of which the file lists buckets: each bucket of the book is one of them, and those alone add to a margin, however
+-- buckets are valued.
+use Rattle.std.proofs.Common.{◌≡◌, ◌^◌, ◌<◌, ◌≤◌, List, [], ◌∷◌, ◌++◌, map, Some, Bool, true, false, ◌||◌, cond, refl, sym, ap, ◌∙◌, subst, ℤ, pos, ◌+ℤ◌, ◌≤ℤ◌, arith, le_refl}
+use Rattle.std.specs.Prelude.{option_map, IsSomeAnd}
 use Rattle.std.specs.declared.cmp.Ordering.TheVariants.{Less}
 use Rattle.std.specs.Ordering.{is_eq}
 use Rattle.std.specs.Cmp.{IsTotalOrder}
 use Rattle.std.specs.List.{filter, find, list_any, AllByRecursion}
 use Rattle.std.specs.List.Sorted.{IsStrictlySortedBy}
+use Rattle.std.proofs.Math.IntN.{+ℤ_idr}
 use Rattle.std.proofs.lemmas.Bool.{false≢true}
 use Rattle.std.proofs.lemmas.Cmp.{nat_list_cmp_total, eq_by_cmp_equiv, on_total}
 use Rattle.std.proofs.lemmas.Int.{ints}
-use Rattle.std.proofs.lemmas.List.Sums.{sum_by-cons}
 use Rattle.std.proofs.lemmas.Map.Lookups.{exact_bytes}
 use Rattle.simm_kinds.specs.declared.kinds.BucketId.{BucketId}
 use Rattle.simm_kinds.specs.declared.bucket.Bucket.{Bucket}
@@ -20,18 +21,28 @@ use Rattle.simm_kinds.proofs.Variants.{is_eq-Equal}
 use Rattle.simm_rules.specs.declared.values.BucketMargin.{BucketMargin}
 use Rattle.simm_rules.specs.Sums.{total_by}
 use Rattle.simm_rules.specs.Risks.{Amount}
-use Rattle.simm_rules.specs.Across.{Part, margin_over}
+use Rattle.simm_rules.specs.Across.{Part}
 use Rattle.simm_rules.specs.Admits.{lists}
 use Rattle.simm_rules.specs.Gross.{size_by}
 use Rattle.simm_params.specs.Buckets.{bucket_slot, AreInOrder}
-use Rattle.name_delta.specs.Combine.{part_in, parts_in, AreSized}
+use Rattle.name_delta.specs.Combine.{part_in, parts_in}
 use Rattle.name_delta.specs.Values.{IsInRange}
 use Rattle.name_delta.proofs.Keys.{bucket_ids}
 use Rattle.name_delta.proofs.Listed.{found}
 use Rattle.name_delta.proofs.Lists.{each_weaker, map-filter}
 use Rattle.class_delta.proofs.Bounds.{size_low, total_low, HasClass}
-use Rattle.class_delta.proofs.Totals.{Alike, alike_map, alike_margin, total_split}
-use Rattle.vega_margin.specs.Values.{IsSized}
+use Rattle.class_delta.proofs.Totals.{Alike, alike_map, total_split}
+
+-- a bucket with its value
+abbrev pub Whole : Type 0
+Whole = BucketId × BucketMargin
+
+abbrev pub ids : List Whole → List BucketId
+ids parts = map (λ part. part.0) parts
+
+-- a bucket is among these
+abbrev pub has : List BucketId → Bucket → Bool
+has ks b = list_any (λ k. same_bucket_id k (bucket_id_of b)) ks
 
 -- ---- a bucket is known by its numbers
 
@@ -85,10 +96,6 @@ total_kept f t (x ∷ xs) low = by (t x) (total_kept f t xs low.1)
     by true i = omega (arith, ints, i)
     by false i = omega (arith, ints, i, low.0)
 
-total_scaled : {X : Type 0} (f : X → ℤ) (xs : List X) → total_by (λ x. f x *ℤ pos 832799998 +ℤ pos (2000 * (695 * 10 ^ 10))) xs ≡ total_by f xs *ℤ pos 832799998 +ℤ pos (length xs * (2000 * (695 * 10 ^ 10)))
-total_scaled f [] = refl
-total_scaled f (x ∷ xs) = omega (arith, ints, total_scaled f xs)
-
 -- ---- the bucket of an id
 
 module _ {X : Type 0} (id : X → Bucket) where
@@ -101,7 +108,7 @@ module _ {X : Type 0} (id : X → Bucket) where
   rest_in_order a [] order = tt
   rest_in_order a (x ∷ xs) order = order.1
 
-  abbrev is_at : BucketId → X → Bool
+  abbrev pub is_at : BucketId → X → Bool
   is_at k x = same_bucket_id k (bucket_id_of (id x))
 
   -- the one bucket of an id
@@ -139,11 +146,11 @@ module _ {X : Type 0} (id : X → Bucket) where
             alone = here false e ∙ rest.alone;
           }
 
-module _ {X A : Type 0} (id : X → Bucket) (weight : X → ℤ) (V : X → List (Amount A) → BucketMargin) (amounts : Bucket → List (Amount A)) (xs : List X) (its : HasClass id weight amounts xs) where
-  abbrev size : X → ℤ
+module _ {X A : Type 0} (id : X → Bucket) (weight : X → ℤ) (amounts : Bucket → List (Amount A)) (xs : List X) (its : HasClass id weight amounts xs) where
+  abbrev pub size : X → ℤ
   size x = size_by (λ _. weight x) (amounts (id x))
 
-  sizes_low : AllByRecursion (λ x. pos 0 ≤ℤ size x) xs
+  pub sizes_low : AllByRecursion (λ x. pos 0 ≤ℤ size x) xs
   sizes_low = each_weaker (λ x. pos 0 ≤ℤ weight x) (λ x. pos 0 ≤ℤ size x) (λ x low. size_low (λ _. weight x) (λ _. low) (amounts (id x))) xs its.low
 
   -- a listed bucket is in range
@@ -154,95 +161,72 @@ module _ {X A : Type 0} (id : X → Bucket) (weight : X → ℤ) (V : X → List
       subst (λ o. IsSomeAnd o (λ x. IsInRange (λ _. weight x) (amounts b))) (sym f.found)
       (record { few = its.few_each b; small = subst (λ a. size_by (λ _. weight f.of) (amounts a) ≤ℤ pos (10 ^ 17)) (sym f.is) small })
 
-  -- ---- parts of its buckets
+  -- ---- parts of its buckets, by how a bucket is valued and by what is known of its value
 
-  pub record IsOwned (part : BucketId × BucketMargin) : Type 0 where
-    of : X
-    alone : filter (is_at id part.0) xs ≡ of ∷ []
-    is : part_in part ≡ record { at = id of; value = V of (amounts (id of)) } ∷ []
-    value : part.1 ≡ V of (amounts (id of))
-    sized : IsSized (λ _. weight of) (amounts (id of)) part.1
+  module _ (V : X → List (Amount A) → BucketMargin) (IsKnown : X → List (Amount A) → BucketMargin → Type 0) where
+    pub record IsOwned (part : Whole) : Type 0 where
+      pub of : X
+      alone : filter (is_at id part.0) xs ≡ of ∷ []
+      is : part_in part ≡ record { at = id of; value = V of (amounts (id of)) } ∷ []
+      pub known : IsKnown of (amounts (id of)) part.1
 
-  pub owned : (b : Bucket) (m : BucketMargin) → lists (map id xs) b ≡ true → Some m ≡ option_map (λ x. V x (amounts b)) (find (λ y. same_bucket b (id y)) xs) → IsSomeAnd (find (λ y. same_bucket b (id y)) xs) (λ x. IsSized (λ _. weight x) (amounts b) m) → IsOwned (bucket_id_of b, m)
-  owned b m h value sized =
-      let f = find_listed id b xs its.in_order h in
-      let there : Some m ≡ Some (V f.of (amounts b)) = value ∙ ap (option_map (λ x. V x (amounts b))) f.found in
-      let same : m ≡ V f.of (amounts (id f.of)) = cc (there, ap (λ a. V f.of (amounts a)) f.is) in
-      let part : Bucket → BucketMargin → List (Part Bucket) = λ a v. record { at = a; value = v } ∷ [] in
-      record {
-        of = f.of;
-        alone = f.alone;
-        is = part_of_listed b m ∙ ap (λ a. part a m) f.is ∙ ap (part (id f.of)) same;
-        value = same;
-        sized = subst (λ a. IsSized (λ _. weight f.of) (amounts a) m) f.is (subst (λ o. IsSomeAnd o (λ x. IsSized (λ _. weight x) (amounts b) m)) f.found sized);
-      }
+    pub owned : (b : Bucket) (m : BucketMargin) → lists (map id xs) b ≡ true → Some m ≡ option_map (λ x. V x (amounts b)) (find (λ y. same_bucket b (id y)) xs) → IsSomeAnd (find (λ y. same_bucket b (id y)) xs) (λ x. IsKnown x (amounts b) m) → IsOwned (bucket_id_of b, m)
+    owned b m h value known =
+        let f = find_listed id b xs its.in_order h in
+        let there : Some m ≡ Some (V f.of (amounts b)) = value ∙ ap (option_map (λ x. V x (amounts b))) f.found in
+        let same : m ≡ V f.of (amounts (id f.of)) = cc (there, ap (λ a. V f.of (amounts a)) f.is) in
+        let part : Bucket → BucketMargin → List (Part Bucket) = λ a v. record { at = a; value = v } ∷ [] in
+        record {
+          of = f.of;
+          alone = f.alone;
+          is = part_of_listed b m ∙ ap (λ a. part a m) f.is ∙ ap (part (id f.of)) same;
+          known = subst (λ a. IsKnown f.of (amounts a) m) f.is (subst (λ o. IsSomeAnd o (λ x. IsKnown x (amounts b) m)) f.found known);
+        }
 
-  abbrev Whole : Type 0
-  Whole = BucketId × BucketMargin
+    owners : (parts : List Whole) → AllByRecursion IsOwned parts → List X
+    owners [] h = []
+    owners (part ∷ parts) h = h.0.of ∷ owners parts h.1
 
-  abbrev ids : List Whole → List BucketId
-  ids parts = map (λ part. part.0) parts
+    abbrev part_at : X → Part Bucket
+    part_at x = record { at = id x; value = V x (amounts (id x)) }
 
-  abbrev has : List BucketId → Bucket → Bool
-  has ks b = list_any (λ k. same_bucket_id k (bucket_id_of b)) ks
+    not_among : (k : BucketId) (ks : List BucketId) (x : X) → AllByRecursion (λ l. bucket_id_cmp k l ≡ Less) ks → is_at id k x ≡ true → has ks (id x) ≡ false
+    not_among k [] x h e = refl
+    not_among k (l ∷ ks) x h e = ap (λ t. t || has ks (id x)) (not_later k l (bucket_id_of (id x)) h.0 e) ∙ not_among k ks x h.1 e
 
-  owners : (parts : List Whole) → AllByRecursion IsOwned parts → List X
-  owners [] h = []
-  owners (part ∷ parts) h = h.0.of ∷ owners parts h.1
+    -- the owners of the parts are the buckets that have a part
+    sums : (parts : List Whole) (h : AllByRecursion IsOwned parts) → IsStrictlySortedBy bucket_id_cmp (ids parts) → Alike (filter (λ x. has (ids parts) (id x)) xs) (owners parts h)
+    unfolding IsStrictlySortedBy owners
+    sums [] h s = λ f. ap (total_by f) (filter_none (λ x. false) xs (never xs))
+    sums (part ∷ parts) h s = λ f.
+        total_split f (is_at id part.0) (λ x. has (ids parts) (id x)) (λ x e. not_among part.0 (ids parts) x s.0 e) xs
+        ∙ ap (λ ys. total_by f ys +ℤ total_by f (filter (λ x. has (ids parts) (id x)) xs)) (h.0.alone)
+        ∙ omega (arith, ints, sums parts h.1 s.1 f)
 
-  abbrev part_at : X → Part Bucket
-  part_at x = record { at = id x; value = V x (amounts (id x)) }
+    parts_are : (parts : List Whole) (h : AllByRecursion IsOwned parts) → parts_in parts ≡ map part_at (owners parts h)
+    unfolding owners
+    parts_are [] h = refl
+    parts_are (part ∷ parts) h = ap (λ ps. ps ++ parts_in parts) h.0.is ∙ ap (λ ps. part_at h.0.of ∷ ps) (parts_are parts h.1)
 
-  not_among : (k : BucketId) (ks : List BucketId) (x : X) → AllByRecursion (λ l. bucket_id_cmp k l ≡ Less) ks → is_at id k x ≡ true → has ks (id x) ≡ false
-  not_among k [] x h e = refl
-  not_among k (l ∷ ks) x h e = ap (λ t. t || has ks (id x)) (not_later k l (bucket_id_of (id x)) h.0 e) ∙ not_among k ks x h.1 e
+    -- a margin over the parts, which hangs on sums alone, is that over the buckets that have one
+    pub margin_of_parts : (M : List (Part Bucket) → ℤ) → ((ps qs : List (Part Bucket)) → Alike ps qs → M ps ≡ M qs) → (parts : List Whole) → AllByRecursion IsOwned parts → IsStrictlySortedBy bucket_id_cmp (ids parts)
+        → M (parts_in parts) ≡ M (filter (λ q. has (ids parts) q.at) (map (λ x. record { at = id x; value = V x (amounts (id x)) }) xs))
+    margin_of_parts M alike parts h s =
+        let kept = filter (λ x. has (ids parts) (id x)) xs in
+        ap M (parts_are parts h)
+        ∙ sym (alike (map part_at kept) (map part_at (owners parts h)) (alike_map part_at kept (owners parts h) (sums parts h s)))
+        ∙ ap M (map-filter part_at (λ q. has (ids parts) q.at) xs)
 
-  -- the owners of the parts are the buckets that have a part
-  sums : (parts : List Whole) (h : AllByRecursion IsOwned parts) → IsStrictlySortedBy bucket_id_cmp (ids parts) → Alike (filter (λ x. has (ids parts) (id x)) xs) (owners parts h)
-  unfolding IsStrictlySortedBy owners
-  sums [] h s = λ f. ap (total_by f) (filter_none (λ x. false) xs (never xs))
-  sums (part ∷ parts) h s = λ f.
-      total_split f (is_at id part.0) (λ x. has (ids parts) (id x)) (λ x e. not_among part.0 (ids parts) x s.0 e) xs
-      ∙ ap (λ ys. total_by f ys +ℤ total_by f (filter (λ x. has (ids parts) (id x)) xs)) (h.0.alone)
-      ∙ omega (arith, ints, sums parts h.1 s.1 f)
+    -- ---- what their buckets have
 
-  parts_are : (parts : List Whole) (h : AllByRecursion IsOwned parts) → parts_in parts ≡ map part_at (owners parts h)
-  unfolding owners
-  parts_are [] h = refl
-  parts_are (part ∷ parts) h = ap (λ ps. ps ++ parts_in parts) h.0.is ∙ ap (λ ps. part_at h.0.of ∷ ps) (parts_are parts h.1)
+    pub share_is : (f : X → ℤ) (part : Whole) (h : IsOwned part) → total_by f (filter (is_at id part.0) xs) ≡ f h.of
+    share_is f part h = ap (total_by f) h.alone ∙ +ℤ_idr (f h.of)
 
-  -- the margin over the parts is that over the buckets that have one
-  pub margin_of_parts : (gamma : List (List ℤ)) (parts : List Whole) → AllByRecursion IsOwned parts → IsStrictlySortedBy bucket_id_cmp (ids parts) → margin_over (map id xs) gamma (parts_in parts) ≡ margin_over (map id xs) gamma (filter (λ q. has (ids parts) q.at) (map part_at xs))
-  margin_of_parts gamma parts h s =
-      let kept = filter (λ x. has (ids parts) (id x)) xs in
-      ap (margin_over (map id xs) gamma) (parts_are parts h)
-      ∙ sym (alike_margin (map id xs) gamma (map part_at kept) (map part_at (owners parts h)) (alike_map part_at kept (owners parts h) (sums parts h s)))
-      ∙ ap (margin_over (map id xs) gamma) (map-filter part_at (λ q. has (ids parts) q.at) xs)
+    shares_are : (f : X → ℤ) (parts : List Whole) (h : AllByRecursion IsOwned parts) → total_by (λ part. total_by f (filter (is_at id part.0) xs)) parts ≡ total_by f (owners parts h)
+    unfolding owners
+    shares_are f [] h = refl
+    shares_are f (part ∷ parts) h = omega (arith, ints, share_is f part h.0, shares_are f parts h.1)
 
-  -- ---- their sizes
-
-  abbrev most : X → ℤ
-  most x = size x *ℤ pos 832799998 +ℤ pos (2000 * (695 * 10 ^ 10))
-
-  one_small : (part : Whole) (h : IsOwned part) → (pos (unsigned_abs (part.1).k) *ℤ pos (10 ^ 10)) ≤ℤ most h.of
-  one_small part h =
-      omega (arith, ints, h.sized.gross, h.sized.margin, h.sized.not_negative, its.few_each (id h.of))
-
-  all_small : (parts : List Whole) (h : AllByRecursion IsOwned parts) → (pos (sum_by (λ part. unsigned_abs (part.1).k) parts) *ℤ pos (10 ^ 10)) ≤ℤ total_by most (owners parts h)
-  unfolding owners
-  all_small [] h = omega (arith, ints)
-  all_small (part ∷ parts) h = omega (arith, ints, one_small part h.0, all_small parts h.1, sum_by-cons (λ (q : Whole). unsigned_abs (q.1).k) part parts)
-
-  pub parts_small : (parts : List Whole) → AllByRecursion IsOwned parts → IsStrictlySortedBy bucket_id_cmp (ids parts) → sum_by (λ part. unsigned_abs (part.1).k) parts < 84 * 10 ^ 14
-  parts_small parts h s =
-      let kept = λ (x : X). has (ids parts) (id x) in
-      let lows : AllByRecursion (λ x. pos 0 ≤ℤ most x) xs = each_weaker (λ x. pos 0 ≤ℤ size x) (λ x. pos 0 ≤ℤ most x) (λ x low. omega (arith, ints, low)) xs sizes_low in
-      omega (arith, ints, all_small parts h, sums parts h s most, total_kept most kept xs lows, total_scaled size xs, its.total, its.few)
-
-  pub parts_sized : (parts : List Whole) → AllByRecursion IsOwned parts → IsStrictlySortedBy bucket_id_cmp (ids parts) → AreSized parts
-  parts_sized parts h s = record {
-    ascends = s;
-    not_negative = each_weaker IsOwned (λ part. pos 0 ≤ℤ (part.1).k) (λ part o. o.sized.not_negative) parts h;
-    held = each_weaker IsOwned (λ part. unsigned_abs (part.1).s ≤ unsigned_abs (part.1).k) (λ part o. o.sized.held) parts h;
-    in_range = omega (arith, parts_small parts h s);
-  }
+    -- it is at most what all listed ones have
+    pub shares_within : (f : X → ℤ) → AllByRecursion (λ x. pos 0 ≤ℤ f x) xs → (parts : List Whole) → AllByRecursion IsOwned parts → IsStrictlySortedBy bucket_id_cmp (ids parts) → total_by (λ part. total_by f (filter (is_at id part.0) xs)) parts ≤ℤ total_by f xs
+    shares_within f low parts h s = omega (arith, ints, shares_are f parts h, sums parts h s f, total_kept f (λ x. has (ids parts) (id x)) xs low)

@@ -1,6 +1,6 @@
 -- The vega margin of a risk class in a product class, and the values of its buckets.
 -- (ISDA SIMM methodology, vega margin.)
-use Rattle.std.specs.Prelude.{◌≡◌, List, Some, ℤ}
+use Rattle.std.specs.Prelude.{◌≡◌, List, Option, Some, ℤ}
 use Rattle.simm_kinds.specs.declared.kinds.RiskClass.{RiskClass}
 use Rattle.simm_kinds.specs.declared.kinds.RiskClass.TheVariants as class
 use Rattle.simm_kinds.specs.declared.kinds.BucketId.{BucketId}
@@ -13,6 +13,7 @@ use Rattle.simm_rules.specs.Rates.{rate_vega}
 use Rattle.simm_rules.specs.Credit.{credit_vega}
 use Rattle.simm_rules.specs.Priced.{price_vega}
 use Rattle.simm_rules.specs.ForeignExchange.{fx_vega}
+use Rattle.factor_book.specs.declared.at.BucketAt.{BucketAt}
 use Rattle.factor_book.specs.declared.at.ClassAt.{ClassAt}
 use Rattle.factor_book.specs.declared.at.SideAt.{SideAt}
 use Rattle.factor_book.specs.declared.holding.Holding.{Holding}
@@ -41,7 +42,10 @@ HasBuckets class.Equity = Unit {0}
 HasBuckets class.Commodity = Unit {0}
 HasBuckets class.FX = ⊥
 
--- a bucket with its value
-pub record IsValued (p : Params) (at : ClassAt) (factors : List (FactorKey × Holding)) (part : BucketId × BucketMargin) : Type 0 where
-  pub value : Some part.1 ≡ vega_value p (bucket_at at part.0) factors
-  pub sized : IsVegaSized p (bucket_at at part.0) factors part.1
+-- a bucket with its value, by how buckets are valued and by what is known of their values
+pub record IsValuedBy (value_at : BucketAt → Option BucketMargin) (IsSizedAt : BucketAt → BucketMargin → Type 0) (at : ClassAt) (part : BucketId × BucketMargin) : Type 0 where
+  pub value : Some part.1 ≡ value_at (bucket_at at part.0)
+  pub sized : IsSizedAt (bucket_at at part.0) part.1
+
+abbrev pub IsValued : Params → ClassAt → List (FactorKey × Holding) → BucketId × BucketMargin → Type 0
+IsValued p at factors part = IsValuedBy (λ b. vega_value p b factors) (λ b m. IsVegaSized p b factors m) at part

@@ -36,7 +36,8 @@ pub fn bucket_values<L: Ledger>(
     Ok(parts)
 }
 
-fn volatility_buckets(
+/// The buckets of a class that have a volatility, in order. Want of memory is the only error.
+pub fn volatility_buckets(
     alloc: Global,
     factors: &Factors,
     at: ClassAt,
@@ -60,7 +61,8 @@ fn volatility_side(at: ClassAt) -> SideAt
     }
 }
 
-fn bucket_at(at: ClassAt, bucket: BucketId) -> BucketAt
+/// A bucket of a class.
+pub fn bucket_at(at: ClassAt, bucket: BucketId) -> BucketAt
     ensures { result ≡ bucket_at at bucket }
 {
     BucketAt {

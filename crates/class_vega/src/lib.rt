@@ -6,4 +6,5 @@ mod buckets;
 mod class;
 mod pairs;
 
+pub use buckets::{bucket_at, volatility_buckets};
 pub use class::class_vega;
