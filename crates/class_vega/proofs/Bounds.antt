@@ -60,6 +60,9 @@ module _ (p : Params) (facts : IsParams p) (held : List CrifRow) (bounded : IsBo
   abbrev ss : List Sensitivity
   ss = in_product product (sensitivities held)
 
+  pub nets_few : length (nets_in product (factors_of held)) ≤ 20000
+  nets_few = omega (arith, filter-length (λ (s : Sensitivity). same_product s.key.product product) (map net_of fs), length-map fs net_of, bounded.keys)
+
   -- ---- interest rates
 
   rates_few : (currency : List ℕ) → length (volatilities_in currency (nets_in product fs)) ≤ 2000
@@ -76,7 +79,7 @@ module _ (p : Params) (facts : IsParams p) (held : List CrifRow) (bounded : IsBo
 
   pub rates_range : IsRateClass (nets_in product fs)
   rates_range = record {
-    few = omega (arith, select-length as_rate_volatility (nets_in product fs), filter-length (λ (s : Sensitivity). same_product s.key.product product) (map net_of fs), length-map fs net_of, bounded.keys);
+    few = omega (arith, select-length as_rate_volatility (nets_in product fs), nets_few);
     few_each = rates_few;
     small = omega (arith, ints, nets_shrink as_rate_volatility (λ (x : VolatilityIn). alone x) one_low held sizes product, bounded.vega product class.IR);
   }
