@@ -1,4 +1,4 @@
-//! The vega margin of a risk class in a product class: over all buckets that have a volatility in a book.
+//! The vega margin of a risk class in a product class: over all buckets that have a volatility in a book; and which these are.
 //! (ISDA SIMM methodology, vega margin.)
 #![tactic(auto)]
 
