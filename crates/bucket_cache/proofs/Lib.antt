@@ -4,5 +4,5 @@ pub mod Books
 pub mod Admitted
 pub mod Sizes
 pub mod Puts
+pub mod Parameters
 pub mod Lives
-pub mod Firsts

@@ -1,21 +1,21 @@
 -- The book of a live margin stays one: after a batch that is in range, and without some of its trades.
 use Rattle.std.proofs.Common.{◌≡◌, ℕ, ◌<◌, ◌≤◌, List, [], ◌∷◌, length, get_or, Option, Some, None, Bool, true, false, not, ◌||◌, ◌==◌, cond, if◌then◌else◌, nat_lt, refl, ap, sym, ◌∙◌, arith}
 use Rattle.std.specs.List.{list_all, list_any, filter, flat_map}
-use Rattle.std.proofs.lemmas.Bool.{or_parts, and_parts, and_from, ltb-false}
+use Rattle.std.proofs.lemmas.Bool.{or_parts, or_from, and_parts, and_from, ltb-false}
 use Rattle.std.proofs.lemmas.List.Folds.{length-flat_map-take}
 use Rattle.simm_kinds.specs.declared.fault.MakeFault.TheVariants as fault
 use Rattle.simm_kinds.specs.declared.row.CrifRow.{CrifRow}
 use Rattle.simm_kinds.specs.declared.row.TradeRows.{TradeRows}
 use Rattle.simm_kinds.specs.Batch.{rows_of, IsBatch, has_repeats, is_misplaced, is_in_range, factor_names, multiplied}
-use Rattle.simm_kinds.specs.Built.{is_built_row}
 use Rattle.simm_kinds.specs.Order.{same_name, same_product}
 use Rattle.simm_kinds.specs.Repeats.{repeats}
 use Rattle.simm_rules.specs.Params.{Params}
 use Rattle.simm_rules.specs.Admits.{admits}
 use Rattle.simm_rules.specs.Range.{range}
-use Rattle.bucket_cache.specs.Live.{put_trades, without, first_unadmitted, IsLive}
+use Rattle.bucket_cache.specs.Live.{put_trades, without, first_unadmitted, has_factors_once, IsLive}
 use Rattle.bucket_cache.specs.Entries.{names_of, trade_of, trades_of}
-use Rattle.bucket_cache.proofs.Puts.{all_rows_of, all_puts, count_puts}
+use Rattle.bucket_cache.proofs.Parameters.{each_once, factors_once}
+use Rattle.bucket_cache.proofs.Puts.{all_rows_of, all_puts, named_puts, count_puts}
 use Rattle.bucket_cache.proofs.Admitted.{all_admitted}
 use Rattle.bucket_cache.proofs.Ranges.{few_rows, range_none}
 use Rattle.bucket_cache.proofs.Sizes.{trades_within}
@@ -36,12 +36,13 @@ none_fails : (b : Bool) → not b ≡ false → b ≡ true
 none_fails true h = refl
 none_fails false h = absurd (cc)
 
--- of a batch: different names, few rows, each trade has one, and each is built
+-- of a batch: different names, few rows, each trade has one, parameters stand where they belong, and none repeats
 pub record BatchFacts (ts : List TradeRows) : Type 0 where
   pub once : repeats same_name (names_of ts) ≡ false
   pub few : length (rows_of ts) ≤ 100000
   pub filled : list_all (λ t. not (length t.rows == 0)) ts ≡ true
-  pub built : list_all is_built_row (rows_of ts) ≡ true
+  pub placed : list_all (λ t. not (is_misplaced t)) ts ≡ true
+  pub factored : repeats same_name (flat_map factor_names (rows_of ts)) ≡ false
   pub amounts : list_all is_in_range (rows_of ts) ≡ true
 
 pub batch_facts : (ts : List TradeRows) → IsBatch ts → BatchFacts ts
@@ -54,12 +55,13 @@ batch_facts ts h =
     let placed = none_else (list_any is_misplaced ts) fault.Place _ few.1 in
     let filled = none_else (list_any (λ (t : TradeRows). length t.rows == 0) ts) fault.EmptyTrade _ placed.1 in
     let ranged = none_else (not (list_all is_in_range (rows_of ts))) fault.Amount _ filled.1 in
-    let built = none_else (not (list_all is_built_row (rows_of ts))) fault.Unbuilt None ranged.1 in
+    let names = or_parts named factored (or_parts (named || factored) (repeats same_product (flat_map multiplied (rows_of ts))) once.0).0 in
     record {
-      once = (or_parts named factored (or_parts (named || factored) (repeats same_product (flat_map multiplied (rows_of ts))) once.0).0).0;
+      once = names.0;
       few = ltb-false 100000 (length (rows_of ts)) few.0;
       filled = none_empty (λ (t : TradeRows). length t.rows == 0) ts filled.0;
-      built = none_fails (list_all is_built_row (rows_of ts)) built.0;
+      placed = none_empty is_misplaced ts placed.0;
+      factored = names.1;
       amounts = none_fails (list_all is_in_range (rows_of ts)) ranged.0;
     }
 
@@ -73,7 +75,11 @@ few_in_trade ts i t batch h at =
 -- ---- no trades
 
 pub live_none : (p : Params) → IsLive p []
-live_none p = record { built = refl; amounts = refl; admitted = refl; filled = refl; in_range = range_none p }
+live_none p = record { named = refl; placed = refl; factored = refl; amounts = refl; admitted = refl; filled = refl; in_range = range_none p }
+
+-- the book has one factor of a qualifier at most
+pub live_once : (p : Params) (us : List TradeRows) → IsLive p us → repeats same_name (flat_map factor_names (rows_of us)) ≡ false
+live_once p us live = factors_once us live.named live.placed live.factored
 
 -- ---- after a batch
 
@@ -84,10 +90,7 @@ few_after p ts us batch live = omega (arith, count_puts ts us, (batch_facts ts b
 all_after : (test : CrifRow → Bool) (ts us : List TradeRows) → list_all test (rows_of ts) ≡ true → list_all test (rows_of us) ≡ true → list_all test (rows_of (put_trades ts us)) ≡ true
 all_after test ts us batch live =
     all_rows_of test (put_trades ts us)
-    ∙ all_puts (list_all test) ts us (sym (all_rows_of test ts) ∙ batch) (sym (all_rows_of test us) ∙ live)
-
-pub built_after : (p : Params) (ts us : List TradeRows) → IsBatch ts → IsLive p us → list_all is_built_row (rows_of (put_trades ts us)) ≡ true
-built_after p ts us batch live = all_after is_built_row ts us (batch_facts ts batch).built live.built
+    ∙ all_puts (λ (t : TradeRows). list_all test t.rows) ts us (sym (all_rows_of test ts) ∙ batch) (sym (all_rows_of test us) ∙ live)
 
 pub amounts_after : (p : Params) (ts us : List TradeRows) → IsBatch ts → IsLive p us → list_all is_in_range (rows_of (put_trades ts us)) ≡ true
 amounts_after p ts us batch live = all_after is_in_range ts us (batch_facts ts batch).amounts live.amounts
@@ -97,10 +100,12 @@ admitted_after p ts us none live = all_after (admits p) ts us (all_admitted p ts
 
 pub live_after : (p : Params) (ts us : List TradeRows) → IsBatch ts → first_unadmitted p ts ≡ None → IsLive p us → range p (rows_of (put_trades ts us)) ≡ None → IsLive p (put_trades ts us)
 live_after p ts us batch admitted live none = record {
-  built = built_after p ts us batch live;
+  named = named_puts ts us live.named;
+  placed = all_puts (λ t. not (is_misplaced t)) ts us (batch_facts ts batch).placed live.placed;
+  factored = all_puts has_factors_once ts us (each_once ts (batch_facts ts batch).factored) live.factored;
   amounts = amounts_after p ts us batch live;
   admitted = admitted_after p ts us admitted live;
-  filled = all_puts (λ rows. not (length rows == 0)) ts us (batch_facts ts batch).filled live.filled;
+  filled = all_puts (λ (t : TradeRows). not (length t.rows == 0)) ts us (batch_facts ts batch).filled live.filled;
   in_range = none;
 }
 
@@ -115,6 +120,25 @@ all_kept test keep (x ∷ xs) h =
     at true passes rest = and_from (test x) (list_all test (filter keep xs)) passes rest
     at false passes rest = rest
 
+none_kept : (name : List ℕ) (keep : TradeRows → Bool) (us : List TradeRows) → list_any (same_name name) (names_of us) ≡ false → list_any (same_name name) (names_of (filter keep us)) ≡ false
+none_kept name keep [] h = h
+none_kept name keep (u ∷ us) h =
+    let parts = or_parts (same_name name u.trade) (list_any (same_name name) (names_of us)) h in at (keep u) parts.0 (none_kept name keep us parts.1)
+  where
+    at : (b : Bool) → same_name name u.trade ≡ false → list_any (same_name name) (names_of (filter keep us)) ≡ false → list_any (same_name name) (names_of (cond b (u ∷ filter keep us) (filter keep us))) ≡ false
+    at true other rest = or_from (same_name name u.trade) (list_any (same_name name) (names_of (filter keep us))) other rest
+    at false other rest = rest
+
+-- the names of some trades are different where those of all are
+named_kept : (keep : TradeRows → Bool) (us : List TradeRows) → repeats same_name (names_of us) ≡ false → repeats same_name (names_of (filter keep us)) ≡ false
+named_kept keep [] h = h
+named_kept keep (u ∷ us) h =
+    let parts = or_parts (list_any (same_name u.trade) (names_of us)) (repeats same_name (names_of us)) h in at (keep u) (none_kept u.trade keep us parts.0) (named_kept keep us parts.1)
+  where
+    at : (b : Bool) → list_any (same_name u.trade) (names_of (filter keep us)) ≡ false → repeats same_name (names_of (filter keep us)) ≡ false → repeats same_name (names_of (cond b (u ∷ filter keep us) (filter keep us))) ≡ false
+    at true none rest = or_from (list_any (same_name u.trade) (names_of (filter keep us))) (repeats same_name (names_of (filter keep us))) none rest
+    at false none rest = rest
+
 -- what each row of a book passes, each row of some of its trades passes
 all_among : (test : CrifRow → Bool) (keep : TradeRows → Bool) (us : List TradeRows) → list_all test (rows_of us) ≡ true → list_all test (rows_of (filter keep us)) ≡ true
 all_among test keep us h =
@@ -128,7 +152,9 @@ pub live_without : (p : Params) (names : List (List ℕ)) (us : List TradeRows) 
 live_without p names us fewer live =
     let kept : TradeRows → Bool = λ t. not (list_any (same_name t.trade) names) in
     record {
-      built = all_among is_built_row kept us live.built;
+      named = named_kept kept us live.named;
+      placed = all_kept (λ (t : TradeRows). not (is_misplaced t)) kept us live.placed;
+      factored = all_kept has_factors_once kept us live.factored;
       amounts = all_among is_in_range kept us live.amounts;
       admitted = all_among (admits p) kept us live.admitted;
       filled = all_kept (λ (t : TradeRows). not (length t.rows == 0)) kept us live.filled;

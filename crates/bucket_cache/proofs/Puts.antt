@@ -14,8 +14,8 @@ use Rattle.simm_kinds.specs.declared.row.TradeRows.{TradeRows}
 use Rattle.simm_kinds.specs.Batch.{rows_of}
 use Rattle.simm_kinds.specs.Order.{same_name}
 use Rattle.simm_kinds.specs.Repeats.{repeats}
-use Rattle.bucket_cache.specs.declared.lent.LentRows.{LentRows}
-use Rattle.bucket_cache.specs.Lent.{all_rows}
+use Rattle.class_combine.specs.declared.lent.LentRows.{LentRows}
+use Rattle.class_combine.specs.Lent.{all_rows}
 use Rattle.bucket_cache.specs.Live.{put_trade, put_trades}
 use Rattle.bucket_cache.specs.Entries.{trade_of, trades_of, row_lists, lent_lists, names_of, Follows}
 use Rattle.bucket_cache.proofs.Maps.{key_test, same_name-equal, same_name-refl}
@@ -63,6 +63,25 @@ flip a b h = by (same_name b a) refl
     by : (t : Bool) → same_name b a ≡ t → t ≡ false
     by false e = refl
     by true e = sym (ap (same_name a) (same_name-equal b a e) ∙ same_name-refl a) ∙ h
+
+-- names stay different
+named_head : (b : Bool) (t u : TradeRows) (us rest : List TradeRows) → list_any (same_name u.trade) (names_of us) ≡ false → repeats same_name (names_of us) ≡ false → (b ≡ false → list_any (same_name u.trade) (names_of rest) ≡ false) → repeats same_name (names_of rest) ≡ false → repeats same_name (names_of (if b then record u { rows = t.rows } ∷ us else u ∷ rest)) ≡ false
+named_head true t u us rest none once more after = or_from (list_any (same_name u.trade) (names_of us)) (repeats same_name (names_of us)) none once
+named_head false t u us rest none once more after = or_from (list_any (same_name u.trade) (names_of rest)) (repeats same_name (names_of rest)) (more refl) after
+
+named_put : (t : TradeRows) (us : List TradeRows) → repeats same_name (names_of us) ≡ false → repeats same_name (names_of (put_trade t us)) ≡ false
+named_put t [] h = refl
+named_put t (u ∷ us) h =
+    let parts = or_parts (list_any (same_name u.trade) (names_of us)) (repeats same_name (names_of us)) h in
+    let put = added_put t us in
+    named_head (same_name t.trade u.trade) t u us (put_trade t us) parts.0 parts.1
+    (λ other. ap (list_any (same_name u.trade)) put.order ∙ list_any-append (same_name u.trade) (names_of us) put.added
+    ∙ or_from (list_any (same_name u.trade) (names_of us)) (list_any (same_name u.trade) put.added) parts.0 (put.others u.trade (flip t.trade u.trade other)))
+    (named_put t us parts.1)
+
+pub named_puts : (ts us : List TradeRows) → repeats same_name (names_of us) ≡ false → repeats same_name (names_of (put_trades ts us)) ≡ false
+named_puts [] us h = h
+named_puts (t ∷ ts) us h = named_puts ts (put_trade t us) (named_put t us h)
 
 not_at : (name : List ℕ) (ts : List TradeRows) (i : ℕ) (t : TradeRows) → i < length ts → t ≡ get_or ts i t → list_any (same_name name) (names_of ts) ≡ false → same_name name t.trade ≡ false
 not_at name [] i t h at none = absurd (omega arith)
@@ -162,22 +181,26 @@ trades_of-insert_entry name rows [] = refl
 trades_of-insert_entry name rows (e ∷ es) =
     put_entry (pointwise ◌==◌ name e.0) (same_name name e.0) e rows es (insert_entry (pointwise ◌==◌) es name rows) (put_trade (record { trade = name; rows = rows }) (trades_of es)) (key_test name e.0) (trades_of-insert_entry name rows es)
 
--- ---- what holds of each trade's rows
+-- ---- what holds of each trade
 
-all_head : (test : List CrifRow → Bool) (b : Bool) (t u : TradeRows) (us rest : List TradeRows) → test t.rows ≡ true → test u.rows ≡ true → list_all (λ (x : TradeRows). test x.rows) us ≡ true → list_all (λ (x : TradeRows). test x.rows) rest ≡ true → list_all (λ (x : TradeRows). test x.rows) (if b then record u { rows = t.rows } ∷ us else u ∷ rest) ≡ true
-all_head test true t u us rest a c d e = and_from (test t.rows) (list_all (λ (x : TradeRows). test x.rows) us) a d
-all_head test false t u us rest a c d e = and_from (test u.rows) (list_all (λ (x : TradeRows). test x.rows) rest) c e
+-- a trade's rows under the name of another, which is its own
+renamed : (test : TradeRows → Bool) (t u : TradeRows) → test t ≡ true → same_name t.trade u.trade ≡ true → test (record u { rows = t.rows }) ≡ true
+renamed test t u a same = ap (λ name. test (record { trade = name; rows = t.rows })) (sym (same_name-equal t.trade u.trade same)) ∙ a
 
-all_put : (test : List CrifRow → Bool) (t : TradeRows) (us : List TradeRows) → test t.rows ≡ true → list_all (λ (x : TradeRows). test x.rows) us ≡ true → list_all (λ (x : TradeRows). test x.rows) (put_trade t us) ≡ true
-all_put test t [] a h = and_from (test t.rows) true a refl
+all_head : (test : TradeRows → Bool) (b : Bool) (t u : TradeRows) (us rest : List TradeRows) → (b ≡ true → test (record u { rows = t.rows }) ≡ true) → test u ≡ true → list_all test us ≡ true → list_all test rest ≡ true → list_all test (if b then record u { rows = t.rows } ∷ us else u ∷ rest) ≡ true
+all_head test true t u us rest a c d e = and_from (test (record u { rows = t.rows })) (list_all test us) (a refl) d
+all_head test false t u us rest a c d e = and_from (test u) (list_all test rest) c e
+
+all_put : (test : TradeRows → Bool) (t : TradeRows) (us : List TradeRows) → test t ≡ true → list_all test us ≡ true → list_all test (put_trade t us) ≡ true
+all_put test t [] a h = and_from (test t) true a refl
 all_put test t (u ∷ us) a h =
-    let parts = and_parts (test u.rows) (list_all (λ (x : TradeRows). test x.rows) us) h in
-    all_head test (same_name t.trade u.trade) t u us (put_trade t us) a parts.0 parts.1 (all_put test t us a parts.1)
+    let parts = and_parts (test u) (list_all test us) h in
+    all_head test (same_name t.trade u.trade) t u us (put_trade t us) (renamed test t u a) parts.0 parts.1 (all_put test t us a parts.1)
 
-pub all_puts : (test : List CrifRow → Bool) (ts us : List TradeRows) → list_all (λ (x : TradeRows). test x.rows) ts ≡ true → list_all (λ (x : TradeRows). test x.rows) us ≡ true → list_all (λ (x : TradeRows). test x.rows) (put_trades ts us) ≡ true
+pub all_puts : (test : TradeRows → Bool) (ts us : List TradeRows) → list_all test ts ≡ true → list_all test us ≡ true → list_all test (put_trades ts us) ≡ true
 all_puts test [] us a h = h
 all_puts test (t ∷ ts) us a h =
-    let parts = and_parts (test t.rows) (list_all (λ (x : TradeRows). test x.rows) ts) a in
+    let parts = and_parts (test t) (list_all test ts) a in
     all_puts test ts (put_trade t us) parts.1 (all_put test t us parts.0 h)
 
 pub all_rows_of : (test : CrifRow → Bool) (ts : List TradeRows) → list_all test (rows_of ts) ≡ list_all (λ (t : TradeRows). list_all test t.rows) ts

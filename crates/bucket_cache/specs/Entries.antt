@@ -5,7 +5,7 @@ use Rattle.std.specs.List.{list_any}
 use Rattle.simm_kinds.specs.declared.row.CrifRow.{CrifRow}
 use Rattle.simm_kinds.specs.declared.row.TradeRows.{TradeRows}
 use Rattle.simm_kinds.specs.Order.{same_name}
-use Rattle.bucket_cache.specs.declared.lent.LentRows.{LentRows}
+use Rattle.class_combine.specs.declared.lent.LentRows.{LentRows}
 
 abbrev pub trade_of : List ℕ × List CrifRow → TradeRows
 trade_of entry = record { trade = entry.0; rows = entry.1 }

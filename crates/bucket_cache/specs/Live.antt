@@ -1,11 +1,11 @@
 -- What a live margin holds, and what a batch and a withdrawal make of it.
-use Rattle.std.specs.Prelude.{◌≡◌, ℕ, ◌+◌, zero, suc, List, [], ◌∷◌, map, length, position, slice_get, find, Option, None, Some, option_map, Bool, true, not, ◌==◌, if◌then◌else◌}
-use Rattle.std.specs.List.{filter, list_all, list_any}
+use Rattle.std.specs.Prelude.{◌≡◌, ℕ, ◌+◌, zero, suc, List, [], ◌∷◌, map, length, position, slice_get, find, Option, None, Some, option_map, Bool, true, false, not, ◌==◌, if◌then◌else◌}
+use Rattle.std.specs.List.{filter, flat_map, list_all, list_any}
 use Rattle.simm_kinds.specs.declared.row.CrifRow.{CrifRow}
 use Rattle.simm_kinds.specs.declared.row.TradeRows.{TradeRows}
-use Rattle.simm_kinds.specs.Batch.{rows_of, is_in_range}
-use Rattle.simm_kinds.specs.Built.{is_built_row}
+use Rattle.simm_kinds.specs.Batch.{rows_of, factor_names, is_misplaced, is_in_range}
 use Rattle.simm_kinds.specs.Order.{same_name}
+use Rattle.simm_kinds.specs.Repeats.{repeats}
 use Rattle.simm_rules.specs.Params.{Params}
 use Rattle.simm_rules.specs.Admits.{admits}
 use Rattle.simm_rules.specs.Range.{range}
@@ -64,9 +64,16 @@ name_at book (suc i) = slice_get (map (λ t. t.trade) book) i
 abbrev pub rows_named : List TradeRows → List ℕ → Option (List CrifRow)
 rows_named book name = option_map (λ t. t.rows) (find (λ t. same_name name t.trade) book)
 
--- Each row is built and admitted, and its amount one that a batch can have, each trade has a row, and the book is in range.
+-- the trade has one factor of a qualifier at most
+abbrev pub has_factors_once : TradeRows → Bool
+has_factors_once t = not (repeats same_name (flat_map factor_names t.rows))
+
+-- Trades have different names, parameters stand in the trade without a name alone, each row is admitted and its amount one that a
+-- batch can have, each trade has a row, and the book is in range.
 pub record IsLive (p : Params) (trades : List TradeRows) : Type 0 where
-  pub built : list_all is_built_row (rows_of trades) ≡ true
+  pub named : repeats same_name (map (λ t. t.trade) trades) ≡ false
+  pub placed : list_all (λ t. not (is_misplaced t)) trades ≡ true
+  pub factored : list_all has_factors_once trades ≡ true
   pub amounts : list_all is_in_range (rows_of trades) ≡ true
   pub admitted : list_all (admits p) (rows_of trades) ≡ true
   pub filled : list_all (λ t. not (length t.rows == 0)) trades ≡ true

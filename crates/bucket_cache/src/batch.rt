@@ -1,24 +1,21 @@
 //! The margin of a batch that is a book of its own.
-ghost use Rattle.std.specs.Prelude.{◌≡◌, ℕ, length, None, Some, Err, IfOk, OnOk};
+ghost use Rattle.std.specs.Prelude.{◌≡◌, ℕ, None, Some, Err, IfOk, OnOk};
 ghost use Rattle.simm_kinds.specs.Batch.{IsBatch, rows_of};
 ghost use Rattle.simm_rules.specs.declared.values.RangeFault.{RangeFault as Fault};
 ghost use Rattle.simm_rules.specs.Range.{range};
 ghost use Rattle.simm_rules.specs.Simm.{simm};
-ghost use Rattle.factor_book.specs.Factors.{factors_of};
 ghost use Rattle.bucket_cache.specs.Live.{first_unadmitted};
 
 use crate::admitting::first_unadmitted;
 use crate::booking::{count_rows, net};
 use crate::fault::SubmitFault;
-use crate::lending::lend_after;
+use crate::lending::lend_batch;
 use book_margin::margin_in_range;
 use book_range::{range_bounds, range_fault};
-use factor_book::Factors;
-use indexmap::IndexMap;
 use simm_kinds::TradeRows;
 use simm_params::Params;
 use simm_rules::Breakdown;
-use std::alloc::{AllocError, Global};
+use std::alloc::Global;
 
 /// The margin of a batch alone, with all of its parts: what a live margin without trades would answer once it took the batch in.
 /// No row is copied, and the rows net once, for the range and for the margin.
@@ -49,30 +46,11 @@ pub fn batch_margin(
             row: at.row,
         });
     }
-    let netted = net_batch(alloc, trades)?;
-    if let Some(fault) = range_fault(params, &netted.factors, netted.rows) {
+    let lent = lend_batch(alloc, trades)?;
+    let factors = net(alloc, lent.as_slice())?;
+    if let Some(fault) = range_fault(params, &factors, count_rows(lent.as_slice())) {
         return Err(SubmitFault::Range(fault));
     }
     range_bounds(params);
-    Ok(margin_in_range(alloc, params, &netted.factors)?)
-}
-
-// The factors of a book, and how many rows it has.
-#[derive(Drop)]
-struct Netted {
-    factors: Factors,
-    rows: usize,
-}
-
-// The rows of a batch, netted.
-fn net_batch(alloc: Global, trades: &[TradeRows]) -> Result<Netted, AllocError>
-    requires { IsBatch trades.now }
-    ensures factors { IfOk result (λ n. n.factors ≡ factors_of (rows_of trades.now)) }
-    ensures rows { IfOk result (λ n. n.rows ≡ length (rows_of trades.now)) }
-{
-    let none = IndexMap::new(alloc);
-    let lent = lend_after(alloc, &none, trades)?;
-    let factors = net(alloc, lent.as_slice())?;
-    let rows = count_rows(lent.as_slice());
-    Ok(Netted { factors, rows })
+    Ok(margin_in_range(alloc, params, &factors, lent.as_slice())?)
 }

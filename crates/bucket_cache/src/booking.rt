@@ -1,16 +1,17 @@
 //! The range and the margin of a book whose rows are lent. Its rows net once a call, in a factor book.
-ghost use Rattle.std.specs.Prelude.{◌≡◌, ◌^◌, ◌<◌, ◌≤◌, None, true, IfOk, length, pos, ◌≤ℤ◌, ◌<ℤ◌};
-ghost use Rattle.std.specs.List.{list_all};
-ghost use Rattle.simm_kinds.specs.Batch.{is_in_range};
-ghost use Rattle.simm_kinds.specs.Built.{is_built_row};
+ghost use Rattle.std.specs.Prelude.{◌≡◌, ◌^◌, ◌<◌, ◌≤◌, None, false, true, IfOk, length, pos, ◌≤ℤ◌, ◌<ℤ◌};
+ghost use Rattle.std.specs.List.{flat_map, list_all};
+ghost use Rattle.simm_kinds.specs.Batch.{factor_names, is_in_range};
+ghost use Rattle.simm_kinds.specs.Order.{same_name};
+ghost use Rattle.simm_kinds.specs.Repeats.{repeats};
 ghost use Rattle.simm_rules.specs.declared.values.RangeKind.TheVariants as range_kind;
 ghost use Rattle.simm_rules.specs.Admits.{admits};
 ghost use Rattle.simm_rules.specs.Range.{range, above};
 ghost use Rattle.simm_rules.specs.Simm.{simm};
 ghost use Rattle.factor_book.specs.Factors.{factors_of};
-ghost use Rattle.bucket_cache.specs.Lent.{all_rows};
+ghost use Rattle.class_combine.specs.Lent.{all_rows};
 
-use crate::lent::LentRows;
+use class_combine::LentRows;
 use book_margin::margin_in_range;
 use book_range::{range_bounds, range_fault};
 use factor_book::Factors;
@@ -29,7 +30,6 @@ pub fn range_fault_of(
     lent: &[LentRows],
 ) -> Result<Option<RangeFault>, AllocError>
     requires few { length (all_rows lent.now) < 2 ^ 63 }
-    requires built { list_all is_built_row (all_rows lent.now) ≡ true }
     requires amounts { list_all is_in_range (all_rows lent.now) ≡ true }
     requires admitted { list_all (admits params.now) (all_rows lent.now) ≡ true }
     ensures { IfOk result (λ fault. fault ≡ range params.now (all_rows lent.now)) }
@@ -43,10 +43,10 @@ pub fn range_fault_of(
 }
 
 /// The margin of a book of lent rows, which the caller knows to be in range: from 0 to below 10^21 cents. Each row is
-/// admitted, and one of a batch. Want of memory is the only error.
+/// admitted, and one of a batch, and there is one factor of a qualifier at most. Want of memory is the only error.
 pub fn margin_of(alloc: Global, params: &Params, lent: &[LentRows]) -> Result<Breakdown, AllocError>
     requires in_range { range params.now (all_rows lent.now) ≡ None }
-    requires built { list_all is_built_row (all_rows lent.now) ≡ true }
+    requires once { repeats same_name (flat_map factor_names (all_rows lent.now)) ≡ false }
     requires amounts { list_all is_in_range (all_rows lent.now) ≡ true }
     requires admitted { list_all (admits params.now) (all_rows lent.now) ≡ true }
     ensures value { IfOk result (λ b. b ≡ simm params.now (all_rows lent.now)) }
@@ -55,7 +55,7 @@ pub fn margin_of(alloc: Global, params: &Params, lent: &[LentRows]) -> Result<Br
 {
     let factors = net(alloc, lent)?;
     range_bounds(params);
-    margin_in_range(alloc, params, &factors)
+    margin_in_range(alloc, params, &factors, lent)
 }
 
 // More rows than a book may have.

@@ -4,11 +4,11 @@ ghost use Rattle.simm_kinds.specs.declared.row.TradeRows.{TradeRows as Trade};
 ghost use Rattle.simm_kinds.specs.Batch.{rows_of};
 ghost use Rattle.simm_kinds.specs.Order.{same_name};
 ghost use Rattle.simm_kinds.specs.Repeats.{repeats};
-ghost use Rattle.bucket_cache.specs.Lent.{all_rows};
+ghost use Rattle.class_combine.specs.Lent.{all_rows};
 ghost use Rattle.bucket_cache.specs.Live.{put_trade, put_trades};
 ghost use Rattle.bucket_cache.specs.Entries.{trades_of, lent_lists, row_lists, Follows};
 
-use crate::lent::LentRows;
+use class_combine::LentRows;
 use indexmap::IndexMap;
 use simm_kinds::{CrifRow, Listed, Name, TradeRows};
 use std::alloc::{AllocError, Global};
@@ -44,6 +44,19 @@ pub fn lend_after<'a>(
     let mut lent = lend_current(alloc, current, batch.len())?;
     for trade in batch {
         put_lent(&mut lent, current, trade)?;
+    }
+    Ok(lent)
+}
+
+/// The rows of the trades of a batch that is a book of its own, in their order.
+pub fn lend_batch(alloc: Global, batch: &[TradeRows]) -> Result<Vec<LentRows<'_>>, AllocError>
+    ensures { IfOk result (λ lent. lent_lists lent.items ≡ row_lists batch.now) }
+{
+    let mut lent = Vec::with_capacity(alloc, batch.len())?;
+    for trade in batch {
+        lent.push(LentRows {
+            rows: trade.rows.as_slice(),
+        })?;
     }
     Ok(lent)
 }

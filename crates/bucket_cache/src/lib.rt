@@ -7,7 +7,6 @@ mod booking;
 mod changing;
 mod fault;
 mod lending;
-mod lent;
 mod live;
 mod place;
 

@@ -1,7 +1,7 @@
 use Rattle.std.proofs.Common.{◌∙◌, sym, ap, pos}
 use Rattle.simm_rules.specs.declared.values.RangeKind.TheVariants as range_kind
 use Rattle.simm_rules.specs.Range.{above}
-use Rattle.bucket_cache.specs.Lent.{all_rows}
+use Rattle.class_combine.specs.Lent.{all_rows}
 use Rattle.bucket_cache.proofs.Ranges.{range_rows}
 use Rattle.bucket_cache.proofs.booking.range_fault_of.Goals as goal
 

@@ -2,15 +2,14 @@ use Rattle.std.proofs.Common.{◌≡◌, ◌∙◌, List, length, Option, Result
 use Rattle.std.specs.List.{list_all}
 use Rattle.simm_kinds.specs.declared.row.CrifRow.{CrifRow}
 use Rattle.simm_kinds.specs.Batch.{rows_of, is_in_range}
-use Rattle.simm_kinds.specs.Built.{is_built_row}
 use Rattle.simm_rules.specs.declared.values.RangeFault.{RangeFault}
 use Rattle.simm_rules.specs.Params.{Params}
 use Rattle.simm_rules.specs.Admits.{admits}
 use Rattle.simm_rules.specs.Range.{range}
-use Rattle.bucket_cache.specs.Lent.{all_rows}
+use Rattle.class_combine.specs.Lent.{all_rows}
 use Rattle.bucket_cache.specs.Live.{Live, put_trades, first_unadmitted}
 use Rattle.bucket_cache.specs.Entries.{trades_of}
-use Rattle.bucket_cache.proofs.Lives.{batch_facts, few_in_batch, few_after, built_after, amounts_after, admitted_after}
+use Rattle.bucket_cache.proofs.Lives.{batch_facts, few_in_batch, few_after, amounts_after, admitted_after}
 use Rattle.bucket_cache.proofs.live.LiveMargin.fault_after.Goals as goal
 
 same_fault : {E : Type 0} (p q : Params) (xs ys : List CrifRow) (r : Result (Option RangeFault) E) → p ≡ q → xs ≡ ys → IfOk r (λ f. f ≡ range p xs) → IfOk r (λ f. f ≡ range q ys)
@@ -26,11 +25,6 @@ lend_after-requires-clause-once c = (batch_facts c.args.trades.now c.requires.ba
 pub range_fault_of-requires-clause-few : goal.range_fault_of-requires-clause-few
 range_fault_of-requires-clause-few c =
     omega (arith, ap length (ap all_rows c.as_slice.ensures.value ∙ c.in_ok-lent.ensures), few_after c.self.inside.params c.args.trades.now (trades_of c.self.inside.trades.entries) c.requires.batch c.self.invariant)
-
-pub range_fault_of-requires-clause-built : goal.range_fault_of-requires-clause-built
-range_fault_of-requires-clause-built c =
-    ap (list_all is_built_row) (ap all_rows c.as_slice.ensures.value ∙ c.in_ok-lent.ensures)
-    ∙ built_after c.self.inside.params c.args.trades.now (trades_of c.self.inside.trades.entries) c.requires.batch c.self.invariant
 
 pub range_fault_of-requires-clause-amounts : goal.range_fault_of-requires-clause-amounts
 range_fault_of-requires-clause-amounts c =

@@ -1,16 +1,18 @@
 use Rattle.std.proofs.Common.{◌≡◌, ◌∙◌, List, Result, Ok, Err, IfOk, ap}
 use Rattle.simm_kinds.specs.declared.row.CrifRow.{CrifRow}
-use Rattle.simm_kinds.specs.Batch.{rows_of, is_in_range}
-use Rattle.simm_kinds.specs.Built.{is_built_row}
-use Rattle.std.specs.List.{list_all}
+use Rattle.simm_kinds.specs.Batch.{rows_of, factor_names, is_in_range}
+use Rattle.simm_kinds.specs.Order.{same_name}
+use Rattle.simm_kinds.specs.Repeats.{repeats}
+use Rattle.std.specs.List.{flat_map, list_all}
 use Rattle.simm_rules.specs.declared.values.Breakdown.{Breakdown}
 use Rattle.simm_rules.specs.Params.{Params}
 use Rattle.simm_rules.specs.Admits.{admits}
 use Rattle.simm_rules.specs.Range.{range}
 use Rattle.simm_rules.specs.Simm.{simm}
-use Rattle.bucket_cache.specs.Lent.{all_rows}
+use Rattle.class_combine.specs.Lent.{all_rows}
 use Rattle.bucket_cache.specs.Live.{Live}
 use Rattle.bucket_cache.specs.Entries.{trades_of}
+use Rattle.bucket_cache.proofs.Lives.{live_once}
 use Rattle.bucket_cache.proofs.Puts.{lent_rows}
 use Rattle.bucket_cache.proofs.live.LiveMargin.margin.Goals as goal
 
@@ -22,9 +24,10 @@ pub margin_of-requires-clause-in_range : goal.margin_of-requires-clause-in_range
 margin_of-requires-clause-in_range c =
     ap (range c.self.inside.params) (ap all_rows c.as_slice.ensures.value ∙ lent_rows c.in_ok-lent.lent.items (trades_of c.self.inside.trades.entries) c.in_ok-lent.ensures) ∙ c.self.invariant.in_range
 
-pub margin_of-requires-clause-built : goal.margin_of-requires-clause-built
-margin_of-requires-clause-built c =
-    ap (list_all is_built_row) (ap all_rows c.as_slice.ensures.value ∙ lent_rows c.in_ok-lent.lent.items (trades_of c.self.inside.trades.entries) c.in_ok-lent.ensures) ∙ c.self.invariant.built
+pub margin_of-requires-clause-once : goal.margin_of-requires-clause-once
+margin_of-requires-clause-once c =
+    ap (λ rows. repeats same_name (flat_map factor_names rows)) (ap all_rows c.as_slice.ensures.value ∙ lent_rows c.in_ok-lent.lent.items (trades_of c.self.inside.trades.entries) c.in_ok-lent.ensures)
+    ∙ live_once c.self.inside.params (trades_of c.self.inside.trades.entries) c.self.invariant
 
 pub margin_of-requires-clause-amounts : goal.margin_of-requires-clause-amounts
 margin_of-requires-clause-amounts c =
