@@ -3,4 +3,3 @@ pub mod Repeated
 pub mod Variants
 pub mod Orders
 pub mod Rows
-pub mod BuiltRows

@@ -9,7 +9,6 @@ use Rattle.simm_kinds.specs.declared.fault.MakeFault.{MakeFault}
 use Rattle.simm_kinds.specs.declared.fault.MakeFault.TheVariants as fault
 pub use Rattle.simm_kinds.specs.Repeats.{repeats}
 use Rattle.simm_kinds.specs.Order.{same_name, same_product}
-use Rattle.simm_kinds.specs.Built.{is_built_row}
 
 -- all rows of the trades, trade after trade
 abbrev pub rows_of : List TradeRows → List CrifRow
@@ -71,7 +70,6 @@ batch_fault trades =
     else if list_any is_misplaced trades then Some fault.Place
     else if list_any (λ t. length t.rows == 0) trades then Some fault.EmptyTrade
     else if not (list_all is_in_range (rows_of trades)) then Some fault.Amount
-    else if not (list_all is_built_row (rows_of trades)) then Some fault.Unbuilt
     else None
 
 abbrev pub IsBatch : List TradeRows → Type 0

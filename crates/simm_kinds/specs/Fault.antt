@@ -17,5 +17,4 @@ make_fault_number batch.TooManyRows = Some 3
 make_fault_number batch.Place = Some 4
 make_fault_number batch.EmptyTrade = Some 5
 make_fault_number batch.Amount = Some 6
-make_fault_number batch.Unbuilt = Some 7
 make_fault_number batch.Memory = None

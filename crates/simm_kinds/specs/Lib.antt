@@ -11,5 +11,4 @@ pub mod Tenors
 pub mod Factors
 pub mod Order
 pub mod Repeats
-pub mod Built
 pub mod Batch

@@ -1,8 +1,5 @@
-ghost use Rattle.std.specs.Prelude.{◌≡◌, List, true};
-ghost use Rattle.std.specs.List.{list_all};
-ghost use Rattle.simm_kinds.specs.declared.row.TradeRows.{TradeRows as Trade};
-ghost use Rattle.simm_kinds.specs.Built.{is_built_row};
-ghost use Rattle.simm_kinds.specs.Batch.{IsBatch, MakesBatch, rows_of};
+ghost use Rattle.std.specs.Prelude.{◌≡◌};
+ghost use Rattle.simm_kinds.specs.Batch.{IsBatch, MakesBatch};
 
 use crate::batch_faults::first_fault;
 use crate::{Listed, MakeFault, TradeRows};
@@ -11,9 +8,7 @@ use std::marker::Model;
 
 /// The rows of one file, by trade: 1 to 100,000 rows, trades with different names and at least one row each,
 /// parameters of add-ons under the empty name alone, at most one multiplier of a product class and one factor of a
-/// qualifier, and each amount in its range. Until every margin is built, each row is a sensitivity of delta or of
-/// base correlation.
-/// Contracts see the list of trades.
+/// qualifier, and each amount in its range. Contracts see the list of trades.
 #[derive(Debug, Drop)]
 pub struct Batch {
     trades: Listed<TradeRows>,
@@ -55,13 +50,7 @@ impl Batch {
     pub fn trades(&self) -> &[TradeRows]
         ensures value { result.now ≡ self.now }
         ensures batch { IsBatch self.now }
-        ensures built { list_all is_built_row (rows_of self.now) ≡ true }
     {
         self.trades.as_slice()
     }
 }
-
-/// Does nothing: each row of a batch is built.
-pub fn batches_are_built()
-    ensures { (trades : List Trade) → IsBatch trades → list_all is_built_row (rows_of trades) ≡ true }
-{}

@@ -3,7 +3,6 @@ ghost use Rattle.std.specs.Prelude.{◌≡◌, ◌&&◌, ◌||◌, ◌==◌, len
 ghost use Rattle.std.specs.List.{flat_map, list_any, list_all};
 ghost use Rattle.simm_kinds.specs.Order.{same_name, same_product};
 ghost use Rattle.simm_kinds.specs.Repeats.{repeats};
-ghost use Rattle.simm_kinds.specs.Built.{is_built_row};
 ghost use Rattle.simm_kinds.specs.Batch.{rows_of, is_param, factor_names, multiplied, has_repeats, is_misplaced, is_amount, is_in_range, batch_fault};
 
 use crate::repeats::repeats;
@@ -38,9 +37,6 @@ pub fn first_fault(alloc: Global, trades: &[TradeRows]) -> Result<Option<MakeFau
     }
     if !are_in_range(trades) {
         return Ok(Some(MakeFault::Amount));
-    }
-    if !are_built(trades) {
-        return Ok(Some(MakeFault::Unbuilt));
     }
     Ok(None)
 }
@@ -175,19 +171,6 @@ fn has_rows_in_range(trade: &TradeRows) -> bool
 {
     let rows = trade.rows.as_slice();
     rows.iter().all(|row| is_in_range(row))
-}
-
-fn are_built(trades: &[TradeRows]) -> bool
-    ensures { result ≡ list_all is_built_row (rows_of trades.now) }
-{
-    trades.iter().all(|trade| has_built_rows(trade))
-}
-
-fn has_built_rows(trade: &TradeRows) -> bool
-    ensures { result ≡ list_all is_built_row trade.now.rows }
-{
-    let rows = trade.rows.as_slice();
-    rows.iter().all(|row| row.is_built())
 }
 
 fn is_param(row: &CrifRow) -> bool

@@ -1,6 +1,5 @@
 ghost use Rattle.std.specs.Prelude.{◌≡◌, IfOk};
 ghost use Rattle.simm_kinds.specs.Factors.{kind_of, class_of, side_of, bucket_of, bucket_id_of};
-ghost use Rattle.simm_kinds.specs.Built.{is_built};
 
 use crate::{
     Bucket, BucketId, BucketNumber, CreditTenor, Currency, CurrencyPair, FullName, Name, RiskClass,
@@ -190,30 +189,6 @@ impl Factor {
                 BucketId::Number(*bucket)
             }
             Factor::BaseCorr { .. } | Factor::Fx { .. } | Factor::FxVol { .. } => BucketId::Single,
-        }
-    }
-
-    /// Whether the margin of sensitivities to the factor is built: of all but volatilities.
-    pub fn is_built(&self) -> bool
-        ensures { result ≡ is_built self.now }
-    {
-        match self {
-            Factor::IrCurve { .. }
-            | Factor::Inflation { .. }
-            | Factor::XccyBasis { .. }
-            | Factor::CreditQ { .. }
-            | Factor::CreditNonQ { .. }
-            | Factor::BaseCorr { .. }
-            | Factor::Equity { .. }
-            | Factor::Commodity { .. }
-            | Factor::Fx { .. } => true,
-            Factor::IrVol { .. }
-            | Factor::InflationVol { .. }
-            | Factor::CreditVol { .. }
-            | Factor::CreditVolNonQ { .. }
-            | Factor::EquityVol { .. }
-            | Factor::CommodityVol { .. }
-            | Factor::FxVol { .. } => false,
         }
     }
 

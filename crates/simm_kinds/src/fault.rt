@@ -53,8 +53,6 @@ pub enum MakeFault {
     EmptyTrade,
     /// An amount is out of its risk type's range.
     Amount,
-    /// A row is no sensitivity of delta or base correlation. It stands until every margin is built.
-    Unbuilt,
     /// There is no memory for the tests.
     Memory,
 }
@@ -71,7 +69,6 @@ impl MakeFault {
             MakeFault::Place => Some(4),
             MakeFault::EmptyTrade => Some(5),
             MakeFault::Amount => Some(6),
-            MakeFault::Unbuilt => Some(7),
             MakeFault::Memory => None,
         }
     }

@@ -20,7 +20,7 @@ mod repeats;
 mod row;
 mod words;
 
-pub use batch::{Batch, batches_are_built};
+pub use batch::Batch;
 pub use bucket::Bucket;
 pub use bucket_number::BucketNumber;
 pub use credit_tenor::CreditTenor;

@@ -1,5 +1,4 @@
 ghost use Rattle.std.specs.Prelude.{◌≡◌, IfOk};
-ghost use Rattle.simm_kinds.specs.Built.{is_built_row};
 
 use crate::{FactorKey, FullName, Listed, Name, ProductClass};
 use mh_units::{Cents, Rate4};
@@ -40,19 +39,6 @@ pub struct TradeRows {
 }
 
 impl CrifRow {
-    /// Whether the margin that the row has a part in is built: a sensitivity to a built factor, and no add-on.
-    pub fn is_built(&self) -> bool
-        ensures { result ≡ is_built_row self.now }
-    {
-        match self {
-            CrifRow::Sensitivity { key, .. } => key.factor.is_built(),
-            CrifRow::Notional { .. }
-            | CrifRow::FixedAmount(_)
-            | CrifRow::NotionalFactor { .. }
-            | CrifRow::Multiplier { .. } => false,
-        }
-    }
-
     /// An equal row. The only error is want of memory.
     pub fn copy(&self, alloc: Global) -> Result<CrifRow, AllocError>
         ensures { IfOk result (λ copy. copy ≡ self.now) }
