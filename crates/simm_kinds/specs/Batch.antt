@@ -46,8 +46,11 @@ has_repeats trades =
     || repeats same_product (flat_map multiplied (rows_of trades))
 
 -- parameters stand in the trade without a name, and nothing else stands there
+abbrev pub is_astray : List ℕ → CrifRow → Bool
+is_astray trade r = not (is_param r) && (length trade == 0) || is_param r && not (length trade == 0)
+
 abbrev pub is_misplaced : TradeRows → Bool
-is_misplaced t = list_any (λ r. not (is_param r) && (length t.trade == 0) || is_param r && not (length t.trade == 0)) t.rows
+is_misplaced t = list_any (λ r. is_astray t.trade r) t.rows
 
 -- at most 10^15 in size
 abbrev pub is_amount : ℤ → Bool
