@@ -4,6 +4,8 @@ pub mod Gathered
 pub mod FieldsAt
 pub mod NotedRows
 pub mod Binds
-pub mod Known
+pub mod Onces
+pub mod Placed
+pub mod GoodRows
 pub mod Batches
 pub mod Runs

@@ -3,7 +3,6 @@ pub mod Faults
 pub mod Records
 pub mod Columns
 pub mod Fields
-pub mod Known
 pub mod Factor
 pub mod Row
 pub mod Repeated

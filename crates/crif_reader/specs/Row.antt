@@ -17,7 +17,6 @@ use Rattle.crif_reader.specs.declared.fault.RowFault.TheVariants as fault
 use Rattle.crif_reader.specs.Reads.{◌>>=◌}
 use Rattle.crif_reader.specs.Fields.{Texts, texts_of, are_text}
 use Rattle.crif_reader.specs.Factor.{factor_of, full_name_of, name_of}
-use Rattle.crif_reader.specs.Known.{is_known}
 
 -- a row, and the trade that it belongs to: parameters of add-ons belong to the trade without a name
 pub record Entry : Type 0 where
@@ -134,12 +133,9 @@ is_present_value kind.AddOnFixedAmount = false
 is_present_value kind.ProductClassMultiplier = false
 is_present_value kind.Pv = true
 
--- a present value is passed over, and a type that is not read is refused
+-- a present value is passed over
 abbrev pub kept_as : RiskType → Texts → Result (Option Entry) RowFault
-kept_as kind t =
-    if is_present_value kind then Ok None
-    else if is_known kind then (entry_of kind t >>= λ entry. Ok (Some entry))
-    else Err fault.RiskType
+kept_as kind t = if is_present_value kind then Ok None else (entry_of kind t >>= λ entry. Ok (Some entry))
 
 unfoldable pub typed_of : Texts → Result (Option Entry) RowFault
 typed_of t = do

@@ -12,7 +12,7 @@ pub enum RowFault {
     FieldCount,
     /// A field that is read, or may be, is not UTF-8.
     NotUtf8,
-    /// The risk type is unknown. Until every margin is built, those of delta and base correlation, and present values, are known.
+    /// The risk type is unknown.
     RiskType,
     /// The trade's name is empty or no name.
     Trade,

@@ -93,7 +93,9 @@ fn read_rows(
 /// Reads a CRIF file: a header and 1 to 100,000 records, in comma- or tab-separated text with or without quotes, as csv reads
 /// them. The first line decides which of the two parts the fields. Columns stand in any order and are named in any case; those
 /// that are not read are passed over, and so are present values and records of the schedule. Each other record is a row of the
-/// trade that it names, and rows of one trade stand together, under the place of its first row. Amounts are in USD cents.
+/// trade that it names, and rows of one trade stand together, under the place of its first row. Amounts are in USD cents, rates in
+/// ten-thousandths. Parameters of add-ons belong to no trade: they stand in that without a name, at most one factor of a qualifier
+/// and one multiplier of a product class.
 ///
 /// The fault is the first in reading order; `Memory` may come at any text.
 pub fn read_batch(alloc: Global, bytes: &[u8]) -> Result<ReadBatch, CrifFault>

@@ -4,7 +4,6 @@ ghost use Rattle.csv.specs.Records.{fields_of};
 ghost use Rattle.simm_kinds.specs.Words.{is_word};
 ghost use Rattle.crif_reader.specs.Reads.{GivesRow};
 ghost use Rattle.crif_reader.specs.Fields.{texts};
-ghost use Rattle.crif_reader.specs.Known.{is_known};
 ghost use Rattle.crif_reader.specs.Row.{trade_of, product_of, amount_text, amount_of, rate_of, sensitivity_of, notional_of, fixed_amount_of, notional_factor_of, multiplier_of, entry_of, is_present_value, typed_of, model_of, text_row_of, row_of};
 
 use crate::RowFault;
@@ -172,24 +171,6 @@ fn entry_of(alloc: Global, kind: RiskType, fields: &Fields) -> Result<Entry, Row
     }
 }
 
-/// Until every margin is built, the types of delta and base correlation are read.
-fn is_known(kind: RiskType) -> bool
-    ensures { result ≡ is_known kind }
-{
-    matches!(
-        kind,
-        RiskType::IrCurve
-            | RiskType::Inflation
-            | RiskType::XccyBasis
-            | RiskType::CreditQ
-            | RiskType::CreditNonQ
-            | RiskType::BaseCorr
-            | RiskType::Equity
-            | RiskType::Commodity
-            | RiskType::Fx
-    )
-}
-
 fn is_present_value(kind: RiskType) -> bool
     ensures { result ≡ is_present_value kind }
 {
@@ -204,9 +185,6 @@ fn typed_of(alloc: Global, fields: &Fields) -> Result<Option<Entry>, RowStop>
     let kind = RiskType::read(fields.risk_type).ok_or(RowFault::RiskType)?;
     if is_present_value(kind) {
         return Ok(None);
-    }
-    if !is_known(kind) {
-        return Err(RowStop::Fault(RowFault::RiskType));
     }
     let entry = entry_of(alloc, kind, fields)?;
     Ok(Some(entry))
