@@ -1,3 +1,4 @@
+pub mod All
 pub mod RecordsLeft
 pub mod Places
 pub mod Gathered

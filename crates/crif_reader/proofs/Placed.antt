@@ -12,6 +12,7 @@ use Rattle.simm_kinds.specs.Batch.{rows_of, repeats, factor_names, multiplied, i
 use Rattle.simm_kinds.specs.Order.{same_name}
 use Rattle.crif_reader.specs.Row.{Entry}
 use Rattle.crif_reader.specs.Growth.{with_entry}
+use Rattle.crif_reader.proofs.All.{all_more}
 use Rattle.crif_reader.proofs.Places.{longer, same_name-equal}
 
 -- a row that may stand in a batch, in a trade of this name
@@ -26,14 +27,10 @@ pub record IsGoodTrade (t : TradeRows) : Type 0 where
   pub some : 0 < length t.rows
   pub rows : AllByRecursion (IsGoodRow t.trade) t.rows
 
-pub all_append : {A : Type 0} (P : A → Type 0) (xs ys : List A) → AllByRecursion P xs → AllByRecursion P ys → AllByRecursion P (xs ++ ys)
-all_append P [] ys h k = k
-all_append P (x ∷ xs) ys h k = (h.0, all_append P xs ys h.1 k)
-
 -- ---- one more row
 
 good_longer : (t : TradeRows) (e : Entry) → IsGoodTrade t → IsGoodRow t.trade e.row → IsGoodTrade (longer t e)
-good_longer t e h k = record { some = omega (arith, length-append t.rows (e.row ∷ []), h.some); rows = all_append (IsGoodRow t.trade) t.rows (e.row ∷ []) h.rows (k, tt) }
+good_longer t e h k = record { some = omega (arith, length-append t.rows (e.row ∷ []), h.some); rows = all_more (IsGoodRow t.trade) t.rows e.row h.rows k }
 
 pub good-with_entry : (ts : List TradeRows) (e : Entry) → AllByRecursion IsGoodTrade ts → IsGoodEntry e → AllByRecursion IsGoodTrade (with_entry ts e)
 good-with_entry [] e h k = (record { some = omega arith; rows = (k, tt) }, tt)

@@ -1,16 +1,15 @@
 -- No row repeats a parameter that stands before it, where none of the rows does.
-use Rattle.std.proofs.Common.{◌≡◌, ◌==◌, ℕ, eq-eqb, inl, inr, Bool, false, List, [], ◌∷◌, ◌++◌, refl, sym, ap, ◌∙◌}
+use Rattle.std.proofs.Common.{◌≡◌, Bool, false, List, [], ◌∷◌, ◌++◌, refl, sym, ap, ◌∙◌}
 use Rattle.std.specs.List.{flat_map, list_any}
-use Rattle.std.proofs.lemmas.Bool.{cases_Bool, eqb-true, eqb-false, ne_eqb, or_from, or_parts}
+use Rattle.std.proofs.lemmas.Bool.{or_from, or_parts}
 use Rattle.std.proofs.lemmas.Grind.{flat_map-append}
 use Rattle.std.proofs.lemmas.List.Folds.{list_any-append}
-use Rattle.simm_kinds.specs.declared.kinds.ProductClass.{ProductClass}
 use Rattle.simm_kinds.specs.declared.row.CrifRow.{CrifRow}
 use Rattle.simm_kinds.specs.declared.row.CrifRow.TheVariants as row
 use Rattle.simm_kinds.specs.Batch.{factor_names, multiplied, repeats}
-use Rattle.simm_kinds.specs.Order.{product_place, same_name, same_product}
+use Rattle.simm_kinds.specs.Order.{same_name, same_product}
 use Rattle.crif_reader.specs.Repeated.{is_repeated}
-use Rattle.crif_reader.proofs.Places.{same_name_comm}
+use Rattle.crif_reader.proofs.Onces.{IsOnce, same_names, same_products}
 
 -- an item is none of those before it, where no item stands twice
 pub unseen : {A : Type 0} (same : A → A → Bool) → ((x y : A) → same x y ≡ same y x) → (before : List A) (item : A) (after : List A) → repeats same (before ++ item ∷ after) ≡ false → list_any (same item) before ≡ false
@@ -21,27 +20,13 @@ unseen same turned (x ∷ xs) item after once =
     let apart = or_parts (same x item) (list_any (same x) after) later.1 in
     or_from _ _ (turned item x ∙ apart.0) (unseen same turned xs item after parts.1)
 
-number_turned : (m n : ℕ) → (m == n) ≡ (n == m)
-number_turned m n = elim (cases_Bool (m == n)) [
-  | inl same ↦ same ∙ sym (eq-eqb n m (sym (eqb-true m n same)))
-  | inr apart ↦ apart ∙ sym (ne_eqb n m (λ e. eqb-false m n apart (sym e)))
-]
-
-product_turned : (a b : ProductClass) → same_product a b ≡ same_product b a
-product_turned a b = number_turned (product_place a) (product_place b)
-
--- no two factors of one qualifier, and no two multipliers of one product class
-pub record IsOnce (rows : List CrifRow) : Type 0 where
-  pub factors : repeats same_name (flat_map factor_names rows) ≡ false
-  pub multipliers : repeats same_product (flat_map multiplied rows) ≡ false
-
 pub first_of_kind : (before : List CrifRow) (r : CrifRow) (after : List CrifRow) → IsOnce (before ++ r ∷ after) → is_repeated before r ≡ false
 first_of_kind before (row.Sensitivity key amount) after once = refl
 first_of_kind before (row.Notional qualifier amount) after once = refl
 first_of_kind before (row.FixedAmount amount) after once = refl
 first_of_kind before (row.NotionalFactor qualifier factor) after once =
     let parts = flat_map-append factor_names before (row.NotionalFactor qualifier factor ∷ after) in
-    unseen same_name same_name_comm (flat_map factor_names before) qualifier (flat_map factor_names after) (ap (repeats same_name) (sym parts) ∙ once.factors)
+    unseen same_name same_names.symm (flat_map factor_names before) qualifier (flat_map factor_names after) (ap (repeats same_name) (sym parts) ∙ once.factors)
 first_of_kind before (row.Multiplier class factor) after once =
     let parts = flat_map-append multiplied before (row.Multiplier class factor ∷ after) in
-    unseen same_product product_turned (flat_map multiplied before) class (flat_map multiplied after) (ap (repeats same_product) (sym parts) ∙ once.multipliers)
+    unseen same_product same_products.symm (flat_map multiplied before) class (flat_map multiplied after) (ap (repeats same_product) (sym parts) ∙ once.multipliers)

@@ -1,4 +1,3 @@
-pub mod All
 pub mod TabRecords
 pub mod Numerals
 pub mod Plain

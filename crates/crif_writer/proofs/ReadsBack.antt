@@ -1,37 +1,33 @@
 -- The text of a batch reads back as just this batch.
-use Rattle.std.proofs.Common.{◌≡◌, ◌==◌, not, ◌&&◌, ◌||◌, nat_lt, ℕ, ◌+◌, ◌≤◌, ◌≢◌, Bool, true, false, cond, List, [], ◌∷◌, ◌++◌, length, map, Option, Some, None, Result, Ok, Err, IfOk, refl, sym, ap, ◌∙◌, subst, arith, append_assoc, length-append}
+use Rattle.std.proofs.Common.{◌≡◌, ◌==◌, not, ◌||◌, nat_lt, ℕ, ◌+◌, ◌≤◌, ◌≢◌, Bool, true, false, cond, List, [], ◌∷◌, ◌++◌, length, map, Option, Some, None, Result, Ok, Err, IfOk, refl, sym, ap, ◌∙◌, subst, arith, append_assoc, length-append}
 use Rattle.std.specs.List.{flat_map, list_any, list_all, AllByRecursion}
 use Rattle.std.proofs.lemmas.Bool.{and_parts, ltb-false, ne_eqb, eqb-false, not-false, eqb-true, or_parts}
 use Rattle.std.proofs.lemmas.List.{append-nil, map-append, nil_from_length}
 use Rattle.std.proofs.lemmas.List.Folds.{list_all-append}
 use Rattle.csv.specs.Reading.{strip_bom}
 use Rattle.csv.specs.Writing.{escaped, fields_text, is_blank, row_text}
-use Rattle.simm_kinds.specs.declared.factor.Factor.{Factor}
-use Rattle.simm_kinds.specs.declared.factor.Factor.TheVariants as factor
 use Rattle.simm_kinds.specs.declared.fault.MakeFault.{MakeFault}
 use Rattle.simm_kinds.specs.declared.fault.MakeFault.TheVariants as fault
 use Rattle.simm_kinds.specs.declared.row.CrifRow.{CrifRow}
 use Rattle.simm_kinds.specs.declared.row.CrifRow.TheVariants as row
 use Rattle.simm_kinds.specs.declared.row.TradeRows.{TradeRows}
-use Rattle.simm_kinds.specs.Batch.{IsBatch, rows_of, repeats, has_repeats, factor_names, multiplied, is_param, is_misplaced, is_in_range}
-use Rattle.simm_kinds.specs.Built.{is_built, is_built_row}
-use Rattle.simm_kinds.specs.Factors.{kind_of}
+use Rattle.simm_kinds.specs.Batch.{IsBatch, rows_of, repeats, has_repeats, factor_names, multiplied, is_astray, is_misplaced, is_in_range}
 use Rattle.simm_kinds.specs.NameText.{IsName, is_full_name}
 use Rattle.simm_kinds.specs.Order.{same_name, same_product}
-use Rattle.crif_reader.specs.Known.{is_known}
 use Rattle.crif_reader.specs.Records.{records_of, delimiter_of}
 use Rattle.crif_reader.specs.Repeated.{rows_in}
 use Rattle.crif_reader.specs.Row.{Entry, row_of}
 use Rattle.crif_reader.specs.Trades.{gathered}
 use Rattle.crif_reader.specs.Grammar.{at_record, kept_of, none_kept, crif_of, crif_of_records}
 use Rattle.crif_reader.specs.Grammar.{rows_of as file_rows_of}
+use Rattle.crif_reader.proofs.Onces.{IsOnce}
 use Rattle.crif_reader.proofs.Runs.{run_more, taken_once, kept_at}
 use Rattle.crif_writer.specs.Rows.{row_fields, HasRowParts}
 use Rattle.crif_writer.specs.Text.{header_fields, trade_records, batch_text, records_text, tab_writer, HasTradeParts}
-use Rattle.crif_writer.proofs.FirstOfKind.{IsOnce, first_of_kind}
+use Rattle.crif_writer.proofs.FirstOfKind.{first_of_kind}
 use Rattle.crif_writer.proofs.Gathers.{entry, trade_entries, entries_of, HasRows, gathered_back}
-use Rattle.crif_writer.proofs.All.{all_append}
-use Rattle.crif_writer.proofs.RowReads.{IsPlaced, kind_in, row_reads}
+use Rattle.crif_reader.proofs.All.{all_append}
+use Rattle.crif_writer.proofs.RowReads.{IsPlaced, row_reads}
 use Rattle.crif_writer.proofs.TabRecords.{records_read, IsLong}
 use Rattle.crif_writer.proofs.Texts.{places, header_read}
 
@@ -45,7 +41,6 @@ record IsWhole (trades : List TradeRows) : Type 0 where
   place : list_any is_misplaced trades ≡ false
   rows : list_any (λ t. length t.rows == 0) trades ≡ false
   range : list_all is_in_range (rows_of trades) ≡ true
-  built : list_all is_built_row (rows_of trades) ≡ true
 
 no_fault : (b : Bool) (f : MakeFault) (rest : Option MakeFault) → cond b (Some f) rest ≡ None → (b ≡ false) × (rest ≡ None)
 no_fault true f rest e = cc
@@ -58,8 +53,7 @@ whole trades h =
     let p3 = no_fault (nat_lt 100000 (length (rows_of trades))) fault.TooManyRows _ p2.1 in
     let p4 = no_fault (list_any is_misplaced trades) fault.Place _ p3.1 in
     let p5 = no_fault (list_any (λ t. length t.rows == 0) trades) fault.EmptyTrade _ p4.1 in
-    let p6 = no_fault (not (list_all is_in_range (rows_of trades))) fault.Amount _ p5.1 in
-    let p7 = no_fault (not (list_all is_built_row (rows_of trades))) fault.Unbuilt None p6.1 in
+    let p6 = no_fault (not (list_all is_in_range (rows_of trades))) fault.Amount None p5.1 in
     let r1 = or_parts (repeats same_name (map (λ t. t.trade) trades) || repeats same_name (flat_map factor_names (rows_of trades))) (repeats same_product (flat_map multiplied (rows_of trades))) p2.0 in
     let r2 = or_parts (repeats same_name (map (λ t. t.trade) trades)) (repeats same_name (flat_map factor_names (rows_of trades))) r1.0 in
     record {
@@ -70,41 +64,14 @@ whole trades h =
       place = p4.0;
       rows = p5.0;
       range = not-false _ p6.0;
-      built = not-false _ p7.0;
     }
-
--- the risk type of a row that is built is known
-known_factor : (f : Factor) → is_built f ≡ true → is_known (kind_of f) ≡ true
-known_factor (factor.IrCurve c n s) h = cc
-known_factor (factor.Inflation c) h = cc
-known_factor (factor.XccyBasis c) h = cc
-known_factor (factor.IrVol c n) h = cc
-known_factor (factor.InflationVol c n) h = cc
-known_factor (factor.CreditQ i b n l) h = cc
-known_factor (factor.CreditVol i b n l) h = cc
-known_factor (factor.CreditNonQ i b n l) h = cc
-known_factor (factor.CreditVolNonQ i b n l) h = cc
-known_factor (factor.BaseCorr i) h = cc
-known_factor (factor.Equity i b) h = cc
-known_factor (factor.EquityVol i b n) h = cc
-known_factor (factor.Commodity c b) h = cc
-known_factor (factor.CommodityVol c b n) h = cc
-known_factor (factor.Fx c) h = cc
-known_factor (factor.FxVol p n) h = cc
-
-known_row : (r : CrifRow) → is_built_row r ≡ true → is_known (kind_in r) ≡ true
-known_row (row.Sensitivity key amount) h = known_factor key.factor h
-known_row (row.Notional qualifier amount) h = cc
-known_row (row.FixedAmount amount) h = cc
-known_row (row.NotionalFactor qualifier factor) h = cc
-known_row (row.Multiplier product factor) h = cc
 
 -- ---- its rows
 
 full : (trade : List ℕ) → IsName trade → (length trade == 0) ≡ false → is_full_name trade ≡ true
 full trade name some = rw (some, name) refl
 
-placed : (trade : List ℕ) (r : CrifRow) → IsName trade → (not (is_param r) && (length trade == 0) || is_param r && not (length trade == 0)) ≡ false → IsPlaced trade r
+placed : (trade : List ℕ) (r : CrifRow) → IsName trade → is_astray trade r ≡ false → IsPlaced trade r
 placed trade (row.Sensitivity key amount) name h = full trade name (or_parts (length trade == 0) false h).0
 placed trade (row.Notional qualifier amount) name h = full trade name (or_parts (length trade == 0) false h).0
 placed trade (row.FixedAmount amount) name h = nil_from_length trade (eqb-true (length trade) 0 (not-false _ h))
@@ -119,23 +86,20 @@ abbrev Reads : Entry → Type 0
 Reads e = row_of places (record_of e) ≡ Ok (Some e)
 
 rows_read : (trade : List ℕ) → IsName trade → (rows : List CrifRow) → AllByRecursion HasRowParts rows
-    → list_any (λ r. not (is_param r) && (length trade == 0) || is_param r && not (length trade == 0)) rows ≡ false
-    → list_all is_in_range rows ≡ true → list_all is_built_row rows ≡ true → AllByRecursion Reads (map (entry trade) rows)
-rows_read trade name [] parts place range built = tt
-rows_read trade name (r ∷ rs) parts place range built =
-    let at = or_parts (not (is_param r) && (length trade == 0) || is_param r && not (length trade == 0)) (list_any (λ r. not (is_param r) && (length trade == 0) || is_param r && not (length trade == 0)) rs) place in
+    → list_any (λ r. is_astray trade r) rows ≡ false → list_all is_in_range rows ≡ true → AllByRecursion Reads (map (entry trade) rows)
+rows_read trade name [] parts place range = tt
+rows_read trade name (r ∷ rs) parts place range =
+    let at = or_parts (is_astray trade r) (list_any (λ r. is_astray trade r) rs) place in
     let within = and_parts (is_in_range r) (list_all is_in_range rs) range in
-    let made = and_parts (is_built_row r) (list_all is_built_row rs) built in
-    (row_reads trade r name (record { parts = parts.0; range = within.0; place = placed trade r name at.0 }) (known_row r made.0), rows_read trade name rs parts.1 at.1 within.1 made.1)
+    (row_reads trade r name (record { parts = parts.0; range = within.0; place = placed trade r name at.0 }), rows_read trade name rs parts.1 at.1 within.1)
 
-trades_read : (trades : List TradeRows) → AllByRecursion HasTradeParts trades → list_any is_misplaced trades ≡ false → list_all is_in_range (rows_of trades) ≡ true → list_all is_built_row (rows_of trades) ≡ true
+trades_read : (trades : List TradeRows) → AllByRecursion HasTradeParts trades → list_any is_misplaced trades ≡ false → list_all is_in_range (rows_of trades) ≡ true
     → AllByRecursion Reads (entries_of trades)
-trades_read [] parts place range built = tt
-trades_read (t ∷ ts) parts place range built =
+trades_read [] parts place range = tt
+trades_read (t ∷ ts) parts place range =
     let at = or_parts (is_misplaced t) (list_any is_misplaced ts) place in
     let within = and_parts (list_all is_in_range t.rows) (list_all is_in_range (rows_of ts)) (sym (list_all-append is_in_range t.rows (rows_of ts)) ∙ range) in
-    let made = and_parts (list_all is_built_row t.rows) (list_all is_built_row (rows_of ts)) (sym (list_all-append is_built_row t.rows (rows_of ts)) ∙ built) in
-    all_append Reads (trade_entries t) (entries_of ts) (rows_read t.trade parts.0.name t.rows parts.0.rows at.0 within.0 made.0) (trades_read ts parts.1 at.1 within.1 made.1)
+    all_append Reads (trade_entries t) (entries_of ts) (rows_read t.trade parts.0.name t.rows parts.0.rows at.0 within.0) (trades_read ts parts.1 at.1 within.1)
 
 all_have_rows : (trades : List TradeRows) → list_any (λ t. length t.rows == 0) trades ≡ false → AllByRecursion HasRows trades
 all_have_rows [] h = tt
@@ -235,7 +199,7 @@ reads_back trades batch parts =
     let some = some_rows trades is.some rows in
     let few = ltb-false 100000 (length (rows_of trades)) is.few in
     let once : IsOnce (rows_in entries) = subst IsOnce (sym (rows_back trades)) is.once in
-    let kept = kept_all [] entries 2 (trades_read trades parts is.place is.range is.built) once (omega arith) in
+    let kept = kept_all [] entries 2 (trades_read trades parts is.place is.range) once (omega arith) in
     let long = subst (AllByRecursion IsLong) (records_back trades) (long_records entries) in
     ap crif_of_records (records_are records long)
     ∙ columns_then records

@@ -1,4 +1,4 @@
--- A written row reads back as that row, whatever its risk type: the list of the types that are known is apart.
+-- A written row reads back as that row, whatever its risk type.
 use Rattle.std.proofs.Common.{◌≡◌, ◌==◌, ◌&&◌, nat_le, nat_lt, ℕ, suc, ◌+◌, ◌-◌, ◌*◌, ◌/◌, ◌%◌, ◌<◌, ◌≤◌, ◌^◌, Bool, true, false, cond, List, [], ◌∷◌, ◌++◌, length, length-append, inl, inr, ℤ, pos, negsuc, unsigned_abs, int_le, Some, None, ok_or, Ok, refl, sym, ap, ◌∙◌, arith, codes}
 use Rattle.std.specs.List.{list_all}
 use Rattle.std.specs.Char.{to_ascii_lowercase}
@@ -41,7 +41,6 @@ use Rattle.crif_reader.specs.declared.fault.RowFault.{RowFault}
 use Rattle.crif_reader.specs.declared.fault.RowFault.TheVariants as fault
 use Rattle.crif_reader.specs.Fields.{Texts}
 use Rattle.crif_reader.specs.Factor.{factor_of, name_of, full_name_of, ir_curve_of, ir_vol_of, inflation_vol_of, credit_point_of, equity_of, equity_vol_of, commodity_of, commodity_vol_of, fx_vol_of}
-use Rattle.crif_reader.specs.Known.{is_known}
 use Rattle.crif_reader.specs.Row.{Entry, row_of, text_row_of, model_of, typed_of, entry_of, sensitivity_of, notional_of, fixed_amount_of, notional_factor_of, multiplier_of, is_present_value, amount_text, amount_of, rate_of, trade_of, product_of}
 use Rattle.crif_writer.specs.Amounts.{rate_text}
 use Rattle.crif_writer.specs.Parts.{qualifier_text, bucket_field, label1_text, label2_text, pair_text, IsBucket, IsQualified, IsBucketed, IsLabelled, HasParts}
@@ -338,7 +337,7 @@ sensitivity_reads k t trade product factor amount e1 e2 e3 e4 = rw (e1, e2, e3, 
 product_text_reads : (p : ProductClass) (f : RowFault) → ok_or (product_named (product_word p)) f ≡ Ok p
 product_text_reads p f = rw (product_reads p) refl
 
--- a written row gives just that row, in its trade
+-- its texts give just that row, in its trade
 pub entry_reads : (trade : List ℕ) (r : CrifRow) → IsSound trade r → entry_of (kind_in r) (row_texts trade r) ≡ Ok (record { trade = trade; row = r })
 unfolding notional_of fixed_amount_of notional_factor_of multiplier_of
 entry_reads trade (row.Sensitivity key amount) s =
@@ -501,9 +500,9 @@ kind_in_reads trade (row.FixedAmount amount) = refl
 kind_in_reads trade (row.NotionalFactor qualifier factor) = refl
 kind_in_reads trade (row.Multiplier product factor) = refl
 
-typed_reads : (t : Texts) (k : RiskType) (e : Entry) → kind_named t.risk_type ≡ Some k → is_present_value k ≡ false → is_known k ≡ true → entry_of k t ≡ Ok e → typed_of t ≡ Ok (Some e)
+typed_reads : (t : Texts) (k : RiskType) (e : Entry) → kind_named t.risk_type ≡ Some k → is_present_value k ≡ false → entry_of k t ≡ Ok e → typed_of t ≡ Ok (Some e)
 unfolding typed_of
-typed_reads t k e e1 e2 e3 e4 = rw (e1, e2, e3, e4) refl
+typed_reads t k e e1 e2 e3 = rw (e1, e2, e3) refl
 
 model_reads : (t : Texts) → t.im_model ≡ [] → model_of t ≡ typed_of t
 model_reads t e = rw e refl
@@ -511,9 +510,9 @@ model_reads t e = rw e refl
 text_row_reads : (t : Texts) → ArePlain t → row_of places (fields_in t) ≡ typed_of t
 text_row_reads t plain = ap text_row_of (texts_read t plain) ∙ rw (text_read t plain) (model_reads t plain.no_model)
 
--- a written row of a known type gives just that row, in its trade
-pub row_reads : (trade : List ℕ) (r : CrifRow) → IsName trade → IsSound trade r → is_known (kind_in r) ≡ true → row_of places (row_fields trade r) ≡ Ok (Some (record { trade = trade; row = r }))
-row_reads trade r name s known =
+-- a written row gives just that row, in its trade
+pub row_reads : (trade : List ℕ) (r : CrifRow) → IsName trade → IsSound trade r → row_of places (row_fields trade r) ≡ Ok (Some (record { trade = trade; row = r }))
+row_reads trade r name s =
     ap (row_of places) (sym (row_texts_are trade r))
     ∙ text_row_reads (row_texts trade r) (plain_row trade r name s)
-    ∙ typed_reads (row_texts trade r) (kind_in r) (record { trade = trade; row = r }) (kind_in_reads trade r) (kept_in r) known (entry_reads trade r s)
+    ∙ typed_reads (row_texts trade r) (kind_in r) (record { trade = trade; row = r }) (kind_in_reads trade r) (kept_in r) (entry_reads trade r s)

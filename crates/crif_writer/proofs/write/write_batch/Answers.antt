@@ -5,7 +5,7 @@ use Rattle.std.proofs.lemmas.List.{append-nil, take_all}
 use Rattle.simm_kinds.proofs.Repeated.{take_next}
 use Rattle.crif_writer.specs.Text.{header_fields, trade_records, batch_text, HasWritten, HasTradeParts}
 use Rattle.crif_writer.proofs.ReadsBack.{text_reads_back}
-use Rattle.crif_writer.proofs.All.{all_more}
+use Rattle.crif_reader.proofs.All.{all_more}
 use Rattle.crif_writer.proofs.Writes.{after_nothing, after_records}
 use Rattle.crif_writer.proofs.write.write_batch.Goals as goal
 

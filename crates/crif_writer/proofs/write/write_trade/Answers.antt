@@ -3,7 +3,7 @@ use Rattle.std.proofs.lemmas.List.{map-append, take_all}
 use Rattle.simm_kinds.proofs.Repeated.{take_next}
 use Rattle.crif_writer.specs.Rows.{row_fields, HasRowParts}
 use Rattle.crif_writer.specs.Text.{WritesMore}
-use Rattle.crif_writer.proofs.All.{all_more}
+use Rattle.crif_reader.proofs.All.{all_more}
 use Rattle.crif_writer.proofs.Writes.{writes_none, writes_then}
 use Rattle.crif_writer.proofs.write.write_trade.Goals as goal
 
