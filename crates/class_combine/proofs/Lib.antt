@@ -1,4 +1,8 @@
 pub mod Products
 pub mod Totals
-pub mod FixedSums
+pub mod Lending
+pub mod Adding
+pub mod InRange
+pub mod Keyed
+pub mod Shares
 pub mod Multiplying

@@ -1,5 +1,5 @@
 -- The multiplier of a product class, row by row.
-use Rattle.std.proofs.Common.{◌≡◌, ℕ, ◌^◌, ◌*◌, ◌≤◌, List, ◌∷◌, Bool, true, false, drop, refl, sym, subst, ◌∙◌, ℤ, pos, negsuc, ◌+ℤ◌, ◌-ℤ◌, ◌*ℤ◌, ◌≤ℤ◌, unsigned_abs, FitsSigned, arith, lit≤}
+use Rattle.std.proofs.Common.{◌≡◌, ◌^◌, ◌*◌, ◌≤◌, List, ◌∷◌, Bool, true, false, refl, sym, subst, ◌∙◌, ℤ, pos, negsuc, ◌+ℤ◌, ◌-ℤ◌, ◌*ℤ◌, ◌≤ℤ◌, unsigned_abs, FitsSigned, arith, lit≤}
 use Rattle.std.specs.List.{list_all}
 use Rattle.std.specs.Option.{unwrap_or}
 use Rattle.std.specs.Int.{w128}
@@ -29,9 +29,10 @@ first_of product (row.Multiplier of factor) rows = at (same_product of product) 
     at true e = rw e refl
     at false e = rw e refl
 
-pub record Searched (product : ProductClass) (rows : List CrifRow) (i : ℕ) : Type 0 where
-  pub value : multiplier_of (drop i rows) product ≡ multiplier_of rows product
-  pub ranged : list_all is_in_range (drop i rows) ≡ true
+-- no row before those that are left gives the product class a multiplier
+pub record Searched (product : ProductClass) (rows left : List CrifRow) : Type 0 where
+  pub value : multiplier_of left product ≡ multiplier_of rows product
+  pub ranged : list_all is_in_range left ≡ true
 
 -- ---- what a multiplier adds
 
@@ -43,16 +44,16 @@ not_negative (negsuc a) b h g = absurd h.le
 over_size : (f : ℤ) → IsMultiplier f → unsigned_abs (f -ℤ pos 10000) ≤ 90000
 over_size f h = omega (arith, ints, h.low, h.high)
 
-margin_size : (m : ℤ) → IsProductMargin m → unsigned_abs m ≤ 10 ^ 17
+margin_size : (m : ℤ) → IsProductMargin m → unsigned_abs m ≤ 12 * 10 ^ 16
 margin_size m h = omega (arith, ints, h.low, h.size)
 
-pub over_margin : (f m : ℤ) → IsMultiplier f → IsProductMargin m → unsigned_abs ((f -ℤ pos 10000) *ℤ m) ≤ 90000 * 10 ^ 17
-over_margin f m h g = product_size (f -ℤ pos 10000) m 90000 (10 ^ 17) (over_size f h) (margin_size m g)
+pub over_margin : (f m : ℤ) → IsMultiplier f → IsProductMargin m → unsigned_abs ((f -ℤ pos 10000) *ℤ m) ≤ 90000 * (12 * 10 ^ 16)
+over_margin f m h g = product_size (f -ℤ pos 10000) m 90000 (12 * 10 ^ 16) (over_size f h) (margin_size m g)
 
-up_range : (a : ℤ) → pos 0 ≤ℤ a → unsigned_abs a ≤ 90000 * 10 ^ 17 → IsMultiplied (up a (pos 10000))
+up_range : (a : ℤ) → pos 0 ≤ℤ a → unsigned_abs a ≤ 90000 * (12 * 10 ^ 16) → IsMultiplied (up a (pos 10000))
 up_range a h g =
     let rule = up_is a (pos 10000) (omega (arith, ints)) in
-    record { low = omega (arith, ints, rule.enough); size = rule.least (pos (9 * 10 ^ 17)) (omega (arith, ints, g)) }
+    record { low = omega (arith, ints, rule.enough); size = rule.least (pos (108 * 10 ^ 16)) (omega (arith, ints, g)) }
 
 pub multiplied_range : (f m : ℤ) → IsMultiplier f → IsProductMargin m → IsMultiplied (up ((f -ℤ pos 10000) *ℤ m) (pos 10000))
 multiplied_range f m h g =
@@ -60,7 +61,7 @@ multiplied_range f m h g =
 
 -- ---- all four
 
-part_size : (a : ℤ) → IsMultiplied a → unsigned_abs a ≤ 9 * 10 ^ 17
+part_size : (a : ℤ) → IsMultiplied a → unsigned_abs a ≤ 108 * 10 ^ 16
 part_size a h = omega (arith, ints, h.low, h.size)
 
 pub record FourOf (a b c d : ℤ) : Type 0 where
@@ -74,14 +75,14 @@ in_order a b c d = omega (arith, ints)
 low_of : (a b c d : ℤ) → pos 0 ≤ℤ a → pos 0 ≤ℤ b → pos 0 ≤ℤ c → pos 0 ≤ℤ d → pos 0 ≤ℤ (a +ℤ b +ℤ c +ℤ d)
 low_of a b c d h g k l = omega (arith, ints)
 
-most_of : (z : ℤ) → unsigned_abs z ≤ 36 * 10 ^ 17 → z ≤ℤ pos (3 * 10 ^ 20)
+most_of : (z : ℤ) → unsigned_abs z ≤ 432 * 10 ^ 16 → z ≤ℤ pos (3 * 10 ^ 20)
 most_of z h = omega (arith, ints, h)
 
 pub four_of : (a b c d : ℤ) → IsMultiplied a → IsMultiplied b → IsMultiplied c → IsMultiplied d → FourOf a b c d
 four_of a b c d ma mb mc md =
-    let two = added a a b (9 * 10 ^ 17) (9 * 10 ^ 17) refl (part_size a ma) (part_size b mb) (lit≤ tt) in
-    let three = added (plus a b) (a +ℤ b) c (18 * 10 ^ 17) (9 * 10 ^ 17) two.value two.size (part_size c mc) (lit≤ tt) in
-    let four = added (plus (plus a b) c) (a +ℤ b +ℤ c) d (27 * 10 ^ 17) (9 * 10 ^ 17) three.value three.size (part_size d md) (lit≤ tt) in
+    let two = added a a b (108 * 10 ^ 16) (108 * 10 ^ 16) refl (part_size a ma) (part_size b mb) (lit≤ tt) in
+    let three = added (plus a b) (a +ℤ b) c (216 * 10 ^ 16) (108 * 10 ^ 16) two.value two.size (part_size c mc) (lit≤ tt) in
+    let four = added (plus (plus a b) c) (a +ℤ b +ℤ c) d (324 * 10 ^ 16) (108 * 10 ^ 16) three.value three.size (part_size d md) (lit≤ tt) in
     let whole = a +ℤ b +ℤ c +ℤ d in
     let range : IsAddOn whole = record { low = low_of a b c d ma.low mb.low mc.low md.low; size = most_of whole four.size } in
     record { last = four.fits; value = four.answer ∙ in_order a b c d; range = subst IsAddOn (sym four.answer) range }

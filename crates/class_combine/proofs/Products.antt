@@ -13,21 +13,21 @@ passed z = to_z w128 (of_z w128 z)
 
 -- ---- one product
 
-margin_size : (a : ℤ) → IsClassMargin a → unsigned_abs a ≤ 16 * 10 ^ 15
+margin_size : (a : ℤ) → IsClassMargin a → unsigned_abs a ≤ 2 * 10 ^ 16
 margin_size a h = omega (arith, ints, h.low, h.size)
 
 pub record PairOf (c a b : ℤ) : Type 0 where
   pub first : FitsSigned w128 (passed c *ℤ passed a)
   pub second : FitsSigned w128 (passed (passed c *ℤ passed a) *ℤ passed b)
   pub value : passed (passed (passed c *ℤ passed a) *ℤ passed b) ≡ c *ℤ a *ℤ b
-  pub size : unsigned_abs (passed (passed (passed c *ℤ passed a) *ℤ passed b)) ≤ 10000 * (16 * 10 ^ 15 * (16 * 10 ^ 15))
+  pub size : unsigned_abs (passed (passed (passed c *ℤ passed a) *ℤ passed b)) ≤ 10000 * (2 * 10 ^ 16 * (2 * 10 ^ 16))
 
 pub pair_of : (c a b : ℤ) → unsigned_abs c ≤ 10000 → IsClassMargin a → IsClassMargin b → PairOf c a b
 pair_of c a b h ma mb =
     let sa = margin_size a ma in
     let sb = margin_size b mb in
-    let first_size : unsigned_abs (c *ℤ a) ≤ 10000 * (16 * 10 ^ 15) = product_size c a 10000 (16 * 10 ^ 15) h sa in
-    let second_size : unsigned_abs (c *ℤ a *ℤ b) ≤ 10000 * (16 * 10 ^ 15) * (16 * 10 ^ 15) = product_size (c *ℤ a) b (10000 * (16 * 10 ^ 15)) (16 * 10 ^ 15) first_size sb in
+    let first_size : unsigned_abs (c *ℤ a) ≤ 10000 * (2 * 10 ^ 16) = product_size c a 10000 (2 * 10 ^ 16) h sa in
+    let second_size : unsigned_abs (c *ℤ a *ℤ b) ≤ 10000 * (2 * 10 ^ 16) * (2 * 10 ^ 16) = product_size (c *ℤ a) b (10000 * (2 * 10 ^ 16)) (2 * 10 ^ 16) first_size sb in
     let c_is = same128 c (fits_signed_from_abs w128 c (omega (arith, h))) in
     let a_is = same128 a (fits_signed_from_abs w128 a (omega (arith, sa))) in
     let b_is = same128 b (fits_signed_from_abs w128 b (omega (arith, sb))) in
@@ -40,7 +40,7 @@ pair_of c a b h ma mb =
       first = subst (FitsSigned w128) (sym first_is) fits_first;
       second = subst (FitsSigned w128) (sym second_is) fits_second;
       value = value_is;
-      size = subst (λ z. unsigned_abs z ≤ 10000 * (16 * 10 ^ 15 * (16 * 10 ^ 15))) (sym value_is) (omega (arith, second_size));
+      size = subst (λ z. unsigned_abs z ≤ 10000 * (2 * 10 ^ 16 * (2 * 10 ^ 16))) (sym value_is) (omega (arith, second_size));
     }
 
 pub same_product : (c d a b x y : ℤ) → c ≡ d → a ≡ b → x ≡ y → c *ℤ a *ℤ x ≡ d *ℤ b *ℤ y
@@ -58,7 +58,7 @@ pub record Added (x a b : ℤ) (most : ℕ) : Type 0 where
   pub answer : passed (plus x b) ≡ a +ℤ b
   pub size : unsigned_abs (a +ℤ b) ≤ most
 
-pub added : (x a b : ℤ) (i j : ℕ) → x ≡ a → unsigned_abs a ≤ i → unsigned_abs b ≤ j → i + j ≤ 10 ^ 38 → Added x a b (i + j)
+pub added : (x a b : ℤ) (i j : ℕ) → x ≡ a → unsigned_abs a ≤ i → unsigned_abs b ≤ j → i + j ≤ 17 * 10 ^ 37 → Added x a b (i + j)
 added x a b i j e h g most =
     let size : unsigned_abs (a +ℤ b) ≤ i + j = omega (arith, unsigned_abs-add a b) in
     let fits = fits_signed_from_abs w128 (a +ℤ b) (omega arith) in
@@ -78,7 +78,7 @@ pub record SixOf (most : ℕ) (a b c d e f : ℤ) : Type 0 where
 in_order : (a b c d e f : ℤ) → a +ℤ b +ℤ c +ℤ d +ℤ e +ℤ f ≡ a +ℤ (b +ℤ (c +ℤ (d +ℤ (e +ℤ (f +ℤ pos 0)))))
 in_order a b c d e f = omega (arith, ints)
 
-pub six_of : (most : ℕ) (a b c d e f : ℤ) → 6 * most ≤ 10 ^ 38 → unsigned_abs a ≤ most → unsigned_abs b ≤ most → unsigned_abs c ≤ most → unsigned_abs d ≤ most → unsigned_abs e ≤ most → unsigned_abs f ≤ most → SixOf most a b c d e f
+pub six_of : (most : ℕ) (a b c d e f : ℤ) → 6 * most ≤ 17 * 10 ^ 37 → unsigned_abs a ≤ most → unsigned_abs b ≤ most → unsigned_abs c ≤ most → unsigned_abs d ≤ most → unsigned_abs e ≤ most → unsigned_abs f ≤ most → SixOf most a b c d e f
 six_of most a b c d e f fits ha hb hc hd he hf =
     let two = added a a b most most refl ha hb (omega arith) in
     let three = added (plus a b) (a +ℤ b) c (2 * most) most two.value (omega (arith, two.size)) hc (omega arith) in
@@ -109,7 +109,7 @@ pub root_abs : (z : ℤ) → pos 0 ≤ℤ z → root (pos (unsigned_abs z)) ≡ 
 root_abs (pos n) h = refl
 root_abs (negsuc n) h = absurd h.le
 
-pub root_within : (q : ℤ) → unsigned_abs q ≤ 10000 * (96 * 10 ^ 15 * (96 * 10 ^ 15)) → root (up q (pos 10000)) ≤ℤ pos (96 * 10 ^ 15)
+pub root_within : (q : ℤ) → unsigned_abs q ≤ 10000 * (12 * 10 ^ 16 * (12 * 10 ^ 16)) → root (up q (pos 10000)) ≤ℤ pos (12 * 10 ^ 16)
 root_within q h =
-    let quotient : up q (pos 10000) ≤ℤ pos (96 * 10 ^ 15 * (96 * 10 ^ 15)) = (up_is q (pos 10000) (omega (arith, ints))).least (pos (96 * 10 ^ 15 * (96 * 10 ^ 15))) (omega (arith, ints, h)) in
-    (root_is (up q (pos 10000))).least (pos (96 * 10 ^ 15)) (omega (arith, ints)) (omega (arith, ints, quotient))
+    let quotient : up q (pos 10000) ≤ℤ pos (12 * 10 ^ 16 * (12 * 10 ^ 16)) = (up_is q (pos 10000) (omega (arith, ints))).least (pos (12 * 10 ^ 16 * (12 * 10 ^ 16))) (omega (arith, ints, h)) in
+    (root_is (up q (pos 10000))).least (pos (12 * 10 ^ 16)) (omega (arith, ints)) (omega (arith, ints, quotient))

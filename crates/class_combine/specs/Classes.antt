@@ -26,7 +26,7 @@ joined_in p m = joined p (λ class. (class_in m class).0)
 -- the margin of a risk class, in cents
 pub record IsClassMargin (margin : ℤ) : Type 0 where
   pub low : pos 0 ≤ℤ margin
-  pub size : margin ≤ℤ pos (16 * 10 ^ 15)
+  pub size : margin ≤ℤ pos (2 * 10 ^ 16)
 
 abbrev pub AreClassMargins : ClassMargins → Type 0
 AreClassMargins m = (class : RiskClass) → IsClassMargin (class_in m class).0
@@ -34,4 +34,4 @@ AreClassMargins m = (class : RiskClass) → IsClassMargin (class_in m class).0
 -- the margin of a product class, in cents
 pub record IsProductMargin (margin : ℤ) : Type 0 where
   pub low : pos 0 ≤ℤ margin
-  pub size : margin ≤ℤ pos (10 ^ 17)
+  pub size : margin ≤ℤ pos (12 * 10 ^ 16)

@@ -1,3 +1,5 @@
+pub mod Lent
 pub mod Classes
 pub mod Whole
 pub mod Multipliers
+pub mod Notionals

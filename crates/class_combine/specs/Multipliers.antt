@@ -40,4 +40,4 @@ pub record IsMultiplier (factor : ℤ) : Type 0 where
 -- what a multiplier adds, in cents
 pub record IsMultiplied (amount : ℤ) : Type 0 where
   pub low : pos 0 ≤ℤ amount
-  pub size : amount ≤ℤ pos (9 * 10 ^ 17)
+  pub size : amount ≤ℤ pos (108 * 10 ^ 16)

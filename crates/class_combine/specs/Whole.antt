@@ -1,17 +1,19 @@
--- A whole margin, by the margins of the risk classes in each product class and the add-ons.
+-- A whole margin, by the margins of the risk classes in each product class, of the product classes and the add-ons.
+-- (ISDA SIMM methodology, structure: the margins of product classes add up; additional margins.)
 use Rattle.std.specs.Prelude.{◌*◌, ◌^◌, ℤ, pos, ◌+ℤ◌, ◌≤ℤ◌, ◌<ℤ◌}
 use Rattle.simm_kinds.specs.declared.kinds.ProductClass.{ProductClass}
 use Rattle.simm_kinds.specs.declared.kinds.ProductClass.TheVariants as product
 use Rattle.simm_rules.specs.declared.values.ClassMargins.{ClassMargins}
-use Rattle.simm_rules.specs.declared.values.ProductMargin.{ProductMargin}
 use Rattle.simm_rules.specs.declared.values.Breakdown.{Breakdown}
 use Rattle.simm_rules.specs.Params.{Params}
 use Rattle.simm_rules.specs.Parts.{cents}
 use Rattle.simm_rules.specs.Sums.{total_by}
 use Rattle.simm_rules.specs.Simm.{products}
 use Rattle.class_combine.specs.declared.whole.ProductClasses.{ProductClasses}
-use Rattle.class_combine.specs.declared.whole.AddOns.{AddOns}
+use Rattle.class_combine.specs.declared.additional.AddOns.{AddOns}
+use Rattle.class_combine.specs.declared.multipliers.ProductAmounts.{ProductAmounts}
 use Rattle.class_combine.specs.Classes.{joined_in, AreClassMargins}
+use Rattle.class_combine.specs.Multipliers.{amount_in}
 
 abbrev pub classes_in : ProductClasses → ProductClass → ClassMargins
 classes_in m product.RatesFX = m.rates_fx
@@ -19,21 +21,26 @@ classes_in m product.Credit = m.credit
 classes_in m product.Equity = m.equity
 classes_in m product.Commodity = m.commodity
 
--- the part of a product class that has these margins of its risk classes
-abbrev pub joined_part : Params → ClassMargins → ProductMargin
-joined_part p m = record { margin = cents (joined_in p m); classes = m }
+-- the margins of the product classes: those of their risk classes together
+abbrev pub margins_of : Params → ProductClasses → ProductAmounts
+margins_of p m = record {
+  rates_fx = cents (joined_in p m.rates_fx);
+  credit = cents (joined_in p m.credit);
+  equity = cents (joined_in p m.equity);
+  commodity = cents (joined_in p m.commodity);
+}
 
--- each product class's margin is its risk classes' together, and the total is the sum of these and of the add-ons
-abbrev pub breakdown_of : Params → ProductClasses → AddOns → Breakdown
-breakdown_of p m a = record {
-  rates_fx = joined_part p m.rates_fx;
-  credit = joined_part p m.credit;
-  equity = joined_part p m.equity;
-  commodity = joined_part p m.commodity;
+-- the product classes with their risk classes, and the total: the sum of the product classes and of the add-ons
+abbrev pub breakdown_of : ProductClasses → ProductAmounts → AddOns → Breakdown
+breakdown_of c m a = record {
+  rates_fx = record { margin = m.rates_fx; classes = c.rates_fx };
+  credit = record { margin = m.credit; classes = c.credit };
+  equity = record { margin = m.equity; classes = c.equity };
+  commodity = record { margin = m.commodity; classes = c.commodity };
   fixed = a.fixed;
   notional = a.notional;
   multiplier = a.multiplier;
-  total = cents (total_by (λ product. joined_in p (classes_in m product)) products +ℤ a.fixed.0 +ℤ a.notional.0 +ℤ a.multiplier.0);
+  total = cents (total_by (λ product. (amount_in m product).0) products +ℤ a.fixed.0 +ℤ a.notional.0 +ℤ a.multiplier.0);
 }
 
 abbrev pub AreProductClasses : ProductClasses → Type 0

@@ -15,7 +15,7 @@ pub fn product_margin(params: &Params, classes: &ClassMargins) -> Cents
     requires { AreClassMargins classes.now }
     ensures value { result.0 ≡ joined params.now (λ class. (class_in classes.now class).0) }
     ensures low { pos 0 ≤ℤ result.0 }
-    ensures size { result.0 ≤ℤ pos (10 ^ 17) }
+    ensures size { result.0 ≤ℤ pos (12 * 10 ^ 16) }
 {
     let square = div_up(pairs(params, classes), 10_000);
     if square <= 0 {
@@ -29,7 +29,7 @@ pub fn product_margin(params: &Params, classes: &ClassMargins) -> Cents
 fn pairs(params: &Params, classes: &ClassMargins) -> i128
     requires { AreClassMargins classes.now }
     ensures value { result ≡ total_by_pairs (class_pair params.now classes.now) each_class }
-    ensures size { unsigned_abs result ≤ 10000 * (96 * 10 ^ 15 * (96 * 10 ^ 15)) }
+    ensures size { unsigned_abs result ≤ 10000 * (12 * 10 ^ 16 * (12 * 10 ^ 16)) }
 {
     pairs_with(params, classes, RiskClass::IR)
         + pairs_with(params, classes, RiskClass::CreditQ)
@@ -43,7 +43,7 @@ fn pairs(params: &Params, classes: &ClassMargins) -> i128
 fn pairs_with(params: &Params, classes: &ClassMargins, class: RiskClass) -> i128
     requires { AreClassMargins classes.now }
     ensures value { result ≡ total_by (class_pair params.now classes.now class) each_class }
-    ensures size { unsigned_abs result ≤ 6 * (10000 * (16 * 10 ^ 15 * (16 * 10 ^ 15))) }
+    ensures size { unsigned_abs result ≤ 6 * (10000 * (2 * 10 ^ 16 * (2 * 10 ^ 16))) }
 {
     pair(params, classes, class, RiskClass::IR)
         + pair(params, classes, class, RiskClass::CreditQ)
@@ -57,7 +57,7 @@ fn pairs_with(params: &Params, classes: &ClassMargins, class: RiskClass) -> i128
 fn pair(params: &Params, classes: &ClassMargins, a: RiskClass, b: RiskClass) -> i128
     requires { AreClassMargins classes.now }
     ensures value { result ≡ class_pair params.now classes.now a b }
-    ensures size { unsigned_abs result ≤ 10000 * (16 * 10 ^ 15 * (16 * 10 ^ 15)) }
+    ensures size { unsigned_abs result ≤ 10000 * (2 * 10 ^ 16 * (2 * 10 ^ 16)) }
 {
     let correlation = params.psi(a, b);
     i128::from(correlation.0) * margin_of(classes, a).0 * margin_of(classes, b).0

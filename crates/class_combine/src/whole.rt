@@ -1,7 +1,9 @@
 ghost use Rattle.std.specs.Prelude.{◌≡◌};
-ghost use Rattle.class_combine.specs.Classes.{AreClassMargins, IsProductMargin};
-ghost use Rattle.class_combine.specs.Whole.{joined_part, breakdown_of, AreProductClasses, AreAddOns, IsTotal};
+ghost use Rattle.class_combine.specs.Multipliers.{AreProductMargins};
+ghost use Rattle.class_combine.specs.Whole.{margins_of, breakdown_of, AreProductClasses, AreAddOns, IsTotal};
 
+use crate::additional::AddOns;
+use crate::multipliers::ProductAmounts;
 use crate::product::product_margin;
 use mh_units::Cents;
 use simm_params::Params;
@@ -20,35 +22,34 @@ pub struct ProductClasses {
     pub commodity: ClassMargins,
 }
 
-/// The additional margins of a book.
-#[derive(Clone, Copy, Debug, PartialEq, Eq)]
-pub struct AddOns {
-    /// Of fixed amounts.
-    pub fixed: Cents,
-    /// Of notional factors.
-    pub notional: Cents,
-    /// Of product class multipliers.
-    pub multiplier: Cents,
+/// The margins of the product classes that have these margins of their risk classes.
+pub fn product_margins(params: &Params, classes: &ProductClasses) -> ProductAmounts
+    requires { AreProductClasses classes.now }
+    ensures value { result ≡ margins_of params.now classes.now }
+    ensures range { AreProductMargins result }
+{
+    ProductAmounts {
+        rates_fx: product_margin(params, &classes.rates_fx),
+        credit: product_margin(params, &classes.credit),
+        equity: product_margin(params, &classes.equity),
+        commodity: product_margin(params, &classes.commodity),
+    }
 }
 
-/// The margin of a book whose product classes have these margins of their risk classes, with these add-ons.
-pub fn breakdown(params: &Params, classes: &ProductClasses, add_ons: &AddOns) -> Breakdown
-    requires classes { AreProductClasses classes.now }
+/// The margin of a book of these margins of its risk classes and of its product classes, with these add-ons.
+pub fn breakdown(classes: &ProductClasses, margins: &ProductAmounts, add_ons: &AddOns) -> Breakdown
+    requires margins { AreProductMargins margins.now }
     requires add_ons { AreAddOns add_ons.now }
-    ensures value { result ≡ breakdown_of params.now classes.now add_ons.now }
+    ensures value { result ≡ breakdown_of classes.now margins.now add_ons.now }
     ensures total { IsTotal result.total.0 }
 {
-    let rates_fx = joined_part(params, &classes.rates_fx);
-    let credit = joined_part(params, &classes.credit);
-    let equity = joined_part(params, &classes.equity);
-    let commodity = joined_part(params, &classes.commodity);
-    let products = rates_fx.margin.0 + credit.margin.0 + equity.margin.0 + commodity.margin.0;
+    let products = margins.rates_fx.0 + margins.credit.0 + margins.equity.0 + margins.commodity.0;
     let total = products + add_ons.fixed.0 + add_ons.notional.0 + add_ons.multiplier.0;
     Breakdown {
-        rates_fx,
-        credit,
-        equity,
-        commodity,
+        rates_fx: part(margins.rates_fx, classes.rates_fx),
+        credit: part(margins.credit, classes.credit),
+        equity: part(margins.equity, classes.equity),
+        commodity: part(margins.commodity, classes.commodity),
         fixed: add_ons.fixed,
         notional: add_ons.notional,
         multiplier: add_ons.multiplier,
@@ -56,14 +57,9 @@ pub fn breakdown(params: &Params, classes: &ProductClasses, add_ons: &AddOns) ->
     }
 }
 
-// The part of a product class that has these margins of its risk classes.
-fn joined_part(params: &Params, classes: &ClassMargins) -> ProductMargin
-    requires { AreClassMargins classes.now }
-    ensures value { result ≡ joined_part params.now classes.now }
-    ensures margin { IsProductMargin result.margin.0 }
+// The part of a product class.
+fn part(margin: Cents, classes: ClassMargins) -> ProductMargin
+    ensures { result ≡ record { margin = margin; classes = classes } }
 {
-    ProductMargin {
-        margin: product_margin(params, classes),
-        classes: *classes,
-    }
+    ProductMargin { margin, classes }
 }

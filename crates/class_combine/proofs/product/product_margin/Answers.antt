@@ -19,5 +19,5 @@ returns-else-square-le0-clause-size c =
     let fits_square : FitsSigned w128 c.div_up-square.result = fits_signed_from_abs w128 c.div_up-square.result (omega (arith, c.div_up-square.ensures.size, c.pairs.ensures.size, ap unsigned_abs (same128 c.pairs.result fits))) in
     let root_is : pos c.least_root.result ≡ root (up c.pairs.result (pos 10000)) =
     c.least_root.ensures.value ∙ ap (λ z. root (pos (unsigned_abs z))) (same128 c.div_up-square.result fits_square) ∙ root_abs c.div_up-square.result (omega (arith, ints)) ∙ ap root quotient in
-    let bound : pos c.least_root.result ≤ℤ pos (96 * 10 ^ 15) = subst (λ z. z ≤ℤ pos (96 * 10 ^ 15)) (sym root_is) (root_within c.pairs.result c.pairs.ensures.size) in
+    let bound : pos c.least_root.result ≤ℤ pos (12 * 10 ^ 16) = subst (λ z. z ≤ℤ pos (12 * 10 ^ 16)) (sym root_is) (root_within c.pairs.result c.pairs.ensures.size) in
     omega (arith, ints, bound)

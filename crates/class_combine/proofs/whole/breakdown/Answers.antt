@@ -1,9 +1,9 @@
-use Rattle.std.proofs.Common.{◌≡◌, ◌∙◌, ap, ℤ, pos, ◌+ℤ◌}
+use Rattle.std.proofs.Common.{◌≡◌, ℤ}
 use Rattle.simm_kinds.specs.declared.kinds.ProductClass.TheVariants as product
 use Rattle.simm_rules.specs.declared.values.ProductMargin.{ProductMargin}
 use Rattle.simm_rules.specs.declared.values.Breakdown.{Breakdown}
 use Rattle.simm_rules.specs.Parts.{cents}
-use Rattle.class_combine.specs.declared.whole.AddOns.{AddOns}
+use Rattle.class_combine.specs.declared.additional.AddOns.{AddOns}
 use Rattle.class_combine.proofs.Totals.{total_of}
 use Rattle.class_combine.proofs.whole.breakdown.Goals as goal
 
@@ -20,55 +20,71 @@ written_out o a b c d t = record {
   total = cents t;
 }
 
--- its total from the product classes' margins
-abbrev summed : AddOns → ProductMargin → ProductMargin → ProductMargin → ProductMargin → ℤ
-summed o a b c d = a.margin.0 +ℤ (b.margin.0 +ℤ (c.margin.0 +ℤ (d.margin.0 +ℤ pos 0))) +ℤ o.fixed.0 +ℤ o.notional.0 +ℤ o.multiplier.0
+written : (o : AddOns) (a b c d u v w x : ProductMargin) (s t : ℤ) → a ≡ u → b ≡ v → c ≡ w → d ≡ x → s ≡ t → written_out o a b c d s ≡ written_out o u v w x t
+written o a b c d u v w x s t p q r l e = λ i. written_out o (p i) (q i) (r i) (l i) (e i)
 
-written : (o : AddOns) (a b c d u v w x : ProductMargin) (t : ℤ) → t ≡ summed o a b c d → a ≡ u → b ≡ v → c ≡ w → d ≡ x → written_out o a b c d t ≡ written_out o u v w x (summed o u v w x)
-written o a b c d u v w x t e p q r s =
-    ap (written_out o a b c d) e ∙ (λ i. written_out o (p i) (q i) (r i) (s i) (summed o (p i) (q i) (r i) (s i)))
+pub overflow_add-products : goal.overflow_add-products
+overflow_add-products c =
+    let m = c.args.margins.now in
+    let o = c.args.add_ons.now in
+    let are = c.requires.margins in
+    (total_of m.rates_fx.0 m.credit.0 m.equity.0 m.commodity.0 o.fixed.0 o.notional.0 o.multiplier.0
+    (are product.RatesFX) (are product.Credit) (are product.Equity) (are product.Commodity) c.requires.add_ons.fixed c.requires.add_ons.notional c.requires.add_ons.multiplier).two
 
-pub joined_part-rates_fx-requires : goal.joined_part-rates_fx-requires
-joined_part-rates_fx-requires c = c.requires.classes product.RatesFX
+pub overflow_add-products-2 : goal.overflow_add-products-2
+overflow_add-products-2 c =
+    let m = c.args.margins.now in
+    let o = c.args.add_ons.now in
+    let are = c.requires.margins in
+    (total_of m.rates_fx.0 m.credit.0 m.equity.0 m.commodity.0 o.fixed.0 o.notional.0 o.multiplier.0
+    (are product.RatesFX) (are product.Credit) (are product.Equity) (are product.Commodity) c.requires.add_ons.fixed c.requires.add_ons.notional c.requires.add_ons.multiplier).three
 
-pub joined_part-credit-requires : goal.joined_part-credit-requires
-joined_part-credit-requires c = c.requires.classes product.Credit
-
-pub joined_part-equity-requires : goal.joined_part-equity-requires
-joined_part-equity-requires c = c.requires.classes product.Equity
-
-pub joined_part-commodity-requires : goal.joined_part-commodity-requires
-joined_part-commodity-requires c = c.requires.classes product.Commodity
+pub overflow_add-products-3 : goal.overflow_add-products-3
+overflow_add-products-3 c =
+    let m = c.args.margins.now in
+    let o = c.args.add_ons.now in
+    let are = c.requires.margins in
+    (total_of m.rates_fx.0 m.credit.0 m.equity.0 m.commodity.0 o.fixed.0 o.notional.0 o.multiplier.0
+    (are product.RatesFX) (are product.Credit) (are product.Equity) (are product.Commodity) c.requires.add_ons.fixed c.requires.add_ons.notional c.requires.add_ons.multiplier).four
 
 pub overflow_add-total : goal.overflow_add-total
 overflow_add-total c =
+    let m = c.args.margins.now in
     let o = c.args.add_ons.now in
-    (total_of c.joined_part-rates_fx.result.margin.0 c.joined_part-credit.result.margin.0 c.joined_part-equity.result.margin.0 c.joined_part-commodity.result.margin.0 o.fixed.0 o.notional.0 o.multiplier.0
-    c.joined_part-rates_fx.ensures.margin c.joined_part-credit.ensures.margin c.joined_part-equity.ensures.margin c.joined_part-commodity.ensures.margin c.requires.add_ons.fixed c.requires.add_ons.notional c.requires.add_ons.multiplier).first
+    let are = c.requires.margins in
+    (total_of m.rates_fx.0 m.credit.0 m.equity.0 m.commodity.0 o.fixed.0 o.notional.0 o.multiplier.0
+    (are product.RatesFX) (are product.Credit) (are product.Equity) (are product.Commodity) c.requires.add_ons.fixed c.requires.add_ons.notional c.requires.add_ons.multiplier).five
 
 pub overflow_add-total-2 : goal.overflow_add-total-2
 overflow_add-total-2 c =
+    let m = c.args.margins.now in
     let o = c.args.add_ons.now in
-    (total_of c.joined_part-rates_fx.result.margin.0 c.joined_part-credit.result.margin.0 c.joined_part-equity.result.margin.0 c.joined_part-commodity.result.margin.0 o.fixed.0 o.notional.0 o.multiplier.0
-    c.joined_part-rates_fx.ensures.margin c.joined_part-credit.ensures.margin c.joined_part-equity.ensures.margin c.joined_part-commodity.ensures.margin c.requires.add_ons.fixed c.requires.add_ons.notional c.requires.add_ons.multiplier).second
+    let are = c.requires.margins in
+    (total_of m.rates_fx.0 m.credit.0 m.equity.0 m.commodity.0 o.fixed.0 o.notional.0 o.multiplier.0
+    (are product.RatesFX) (are product.Credit) (are product.Equity) (are product.Commodity) c.requires.add_ons.fixed c.requires.add_ons.notional c.requires.add_ons.multiplier).six
 
 pub overflow_add-total-3 : goal.overflow_add-total-3
 overflow_add-total-3 c =
+    let m = c.args.margins.now in
     let o = c.args.add_ons.now in
-    (total_of c.joined_part-rates_fx.result.margin.0 c.joined_part-credit.result.margin.0 c.joined_part-equity.result.margin.0 c.joined_part-commodity.result.margin.0 o.fixed.0 o.notional.0 o.multiplier.0
-    c.joined_part-rates_fx.ensures.margin c.joined_part-credit.ensures.margin c.joined_part-equity.ensures.margin c.joined_part-commodity.ensures.margin c.requires.add_ons.fixed c.requires.add_ons.notional c.requires.add_ons.multiplier).third
+    let are = c.requires.margins in
+    (total_of m.rates_fx.0 m.credit.0 m.equity.0 m.commodity.0 o.fixed.0 o.notional.0 o.multiplier.0
+    (are product.RatesFX) (are product.Credit) (are product.Equity) (are product.Commodity) c.requires.add_ons.fixed c.requires.add_ons.notional c.requires.add_ons.multiplier).all
 
 pub returns-clause-value : goal.returns-clause-value
 returns-clause-value c =
+    let m = c.args.margins.now in
     let o = c.args.add_ons.now in
+    let are = c.requires.margins in
     let sum =
-    total_of c.joined_part-rates_fx.result.margin.0 c.joined_part-credit.result.margin.0 c.joined_part-equity.result.margin.0 c.joined_part-commodity.result.margin.0 o.fixed.0 o.notional.0 o.multiplier.0
-    c.joined_part-rates_fx.ensures.margin c.joined_part-credit.ensures.margin c.joined_part-equity.ensures.margin c.joined_part-commodity.ensures.margin c.requires.add_ons.fixed c.requires.add_ons.notional c.requires.add_ons.multiplier in
-    written o c.joined_part-rates_fx.result c.joined_part-credit.result c.joined_part-equity.result c.joined_part-commodity.result _ _ _ _ _ sum.value
-    c.joined_part-rates_fx.ensures.value c.joined_part-credit.ensures.value c.joined_part-equity.ensures.value c.joined_part-commodity.ensures.value
+    total_of m.rates_fx.0 m.credit.0 m.equity.0 m.commodity.0 o.fixed.0 o.notional.0 o.multiplier.0
+    (are product.RatesFX) (are product.Credit) (are product.Equity) (are product.Commodity) c.requires.add_ons.fixed c.requires.add_ons.notional c.requires.add_ons.multiplier in
+    written o _ _ _ _ _ _ _ _ _ _ c.part.ensures c.part-2.ensures c.part-3.ensures c.part-4.ensures sum.value
 
 pub returns-clause-total : goal.returns-clause-total
 returns-clause-total c =
+    let m = c.args.margins.now in
     let o = c.args.add_ons.now in
-    (total_of c.joined_part-rates_fx.result.margin.0 c.joined_part-credit.result.margin.0 c.joined_part-equity.result.margin.0 c.joined_part-commodity.result.margin.0 o.fixed.0 o.notional.0 o.multiplier.0
-    c.joined_part-rates_fx.ensures.margin c.joined_part-credit.ensures.margin c.joined_part-equity.ensures.margin c.joined_part-commodity.ensures.margin c.requires.add_ons.fixed c.requires.add_ons.notional c.requires.add_ons.multiplier).total
+    let are = c.requires.margins in
+    (total_of m.rates_fx.0 m.credit.0 m.equity.0 m.commodity.0 o.fixed.0 o.notional.0 o.multiplier.0
+    (are product.RatesFX) (are product.Credit) (are product.Equity) (are product.Commodity) c.requires.add_ons.fixed c.requires.add_ons.notional c.requires.add_ons.multiplier).total

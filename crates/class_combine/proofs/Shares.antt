@@ -1,0 +1,171 @@
+-- What factors add for the notionals of their qualifiers, and that all of them add no more than the notionals, since no two
+-- factors are of one qualifier.
+use Rattle.std.proofs.Common.{◌≡◌, ℕ, zero, suc, ◌+◌, ◌*◌, ◌^◌, ◌<◌, ◌≤◌, List, [], ◌∷◌, ◌++◌, map, length, get_or, drop, Bool, true, false, cond, filter, ℤ, pos, negsuc, ◌+ℤ◌, ◌*ℤ◌, ◌≤ℤ◌, unsigned_abs, FitsSigned, to_z, of_z, refl, sym, ap, ◌∙◌, subst, arith}
+use Rattle.std.specs.Int.{w64, w128}
+use Rattle.std.specs.List.{flat_map, list_any, list_all, AllByRecursion}
+use Rattle.std.proofs.lemmas.Bool.{or_parts}
+use Rattle.std.proofs.lemmas.Int.{ints, fits_signed_from_abs, to_z_pos}
+use Rattle.std.proofs.lemmas.List.{map-append, drop_more}
+use Rattle.mh_units.specs.Rounding.{up}
+use Rattle.mh_units.proofs.Integers.{same64, same128, mul-le_ℤ, product_size}
+use Rattle.mh_units.proofs.Roundings.{up_is, up_size}
+use Rattle.simm_kinds.specs.declared.row.CrifRow.{CrifRow}
+use Rattle.simm_kinds.specs.declared.row.CrifRow.TheVariants as row
+use Rattle.simm_kinds.specs.Batch.{is_in_range, factor_names}
+use Rattle.simm_kinds.specs.Order.{same_name}
+use Rattle.simm_kinds.specs.Repeats.{repeats}
+use Rattle.simm_rules.specs.Risks.{Amount}
+use Rattle.simm_rules.specs.Sums.{total_by}
+use Rattle.simm_rules.specs.AddOns.{notional, notional_factor, notional_of, notional_add_on}
+use Rattle.class_combine.specs.declared.notional.LentFactor.{LentFactor}
+use Rattle.class_combine.specs.Notionals.{factor_of, factors_of, share_of, IsFactor}
+use Rattle.class_combine.proofs.Adding.{AreLow, totals_le, total-add}
+use Rattle.class_combine.proofs.InRange.{size_of, notionals_small, notional_low, factors_each}
+use Rattle.class_combine.proofs.Keyed.{same_name-equal}
+use Rattle.class_combine.proofs.Products.{passed}
+
+-- ---- one share
+
+factor_size : (a : ℤ) → IsFactor a → unsigned_abs a ≤ 1000000
+factor_size a h = omega (arith, ints, h.low, h.high)
+
+-- a share is no more than the notional
+share_most : (a n : ℤ) → IsFactor a → pos 0 ≤ℤ n → up (a *ℤ n) (pos 1000000) ≤ℤ n
+share_most (pos a) (pos n) h low =
+    (up_is (pos a *ℤ pos n) (pos 1000000) (omega (arith, ints))).least (pos n)
+    (let most : (pos a *ℤ pos n) ≤ℤ (pos 1000000 *ℤ pos n) = mul-le_ℤ (pos a) (pos 1000000) n h.high in omega (arith, ints, most))
+share_most (pos a) (negsuc n) h low = absurd low.le
+share_most (negsuc a) n h low = absurd (h.low).le
+
+share_low : (a n : ℤ) → IsFactor a → pos 0 ≤ℤ n → pos 0 ≤ℤ up (a *ℤ n) (pos 1000000)
+share_low (pos a) (pos n) h low = omega (arith, ints, (up_is (pos a *ℤ pos n) (pos 1000000) (omega (arith, ints))).enough)
+share_low (pos a) (negsuc n) h low = absurd low.le
+share_low (negsuc a) n h low = absurd (h.low).le
+
+-- a share as the code builds it, of a factor a and a notional m that are passed on as f and n
+pub record Share (a f : ℤ) (m n : ℕ) : Type 0 where
+  pub cast : FitsSigned w128 (pos n)
+  pub fits : FitsSigned w128 (passed f *ℤ to_z w128 n)
+  pub value : passed (up (passed (passed f *ℤ to_z w128 n)) (pos 1000000)) ≡ up (a *ℤ pos m) (pos 1000000)
+
+pub share : (a f : ℤ) (m n : ℕ) → IsFactor a → m ≤ 2 * 10 ^ 20 → f ≡ to_z w64 (of_z w64 a) → n ≡ m → Share a f m n
+share a f m n h most is there =
+    let small : n ≤ 2 * 10 ^ 20 = subst (λ k. k ≤ 2 * 10 ^ 20) (sym there) most in
+    let f_is : f ≡ a = is ∙ same64 a (fits_signed_from_abs w64 a (omega (arith, factor_size a h))) in
+    let n_is : to_z w128 n ≡ pos n = to_z_pos w128 n (omega (arith, small)) in
+    let product_is : passed f *ℤ to_z w128 n ≡ a *ℤ pos n =
+    ap (λ z. passed z *ℤ to_z w128 n) f_is ∙ ap (λ z. z *ℤ to_z w128 n) (same128 a (fits_signed_from_abs w128 a (omega (arith, factor_size a h)))) ∙ ap (λ z. a *ℤ z) n_is in
+    let size : unsigned_abs (a *ℤ pos n) ≤ 1000000 * (2 * 10 ^ 20) = product_size a (pos n) 1000000 (2 * 10 ^ 20) (factor_size a h) small in
+    let fits = fits_signed_from_abs w128 (a *ℤ pos n) (omega (arith, size)) in
+    let quotient = fits_signed_from_abs w128 (up (a *ℤ pos n) (pos 1000000)) (omega (arith, size, up_size (a *ℤ pos n) (pos 1000000) (omega (arith, ints)))) in
+    record {
+      cast = fits_signed_from_abs w128 (pos n) (omega (arith, small));
+      fits = subst (FitsSigned w128) (sym product_is) fits;
+      value = ap (λ z. passed (up (passed z) (pos 1000000))) product_is ∙ ap (λ z. passed (up z (pos 1000000))) (same128 (a *ℤ pos n) fits) ∙ same128 (up (a *ℤ pos n) (pos 1000000)) quotient ∙ ap (λ k. up (a *ℤ pos k) (pos 1000000)) there;
+    }
+
+-- ---- each qualifier once
+
+-- the size of a notional, for its own qualifier
+abbrev hit : Amount (List ℕ) → List ℕ → ℤ
+hit a name = cond (same_name a.of name) (size_of a) (pos 0)
+
+hits_none : (a : Amount (List ℕ)) (names : List (List ℕ)) → list_any (same_name a.of) names ≡ false → total_by (hit a) names ≡ pos 0
+hits_none a [] h = refl
+hits_none a (name ∷ names) h =
+    let parts = or_parts (same_name a.of name) (list_any (same_name a.of) names) h in
+    ap (λ t. cond t (size_of a) (pos 0) +ℤ total_by (hit a) names) parts.0 ∙ ap (λ z. pos 0 +ℤ z) (hits_none a names parts.1)
+
+hits_once : (a : Amount (List ℕ)) (names : List (List ℕ)) → repeats same_name names ≡ false → total_by (hit a) names ≤ℤ size_of a
+hits_once a [] h = omega (arith, ints)
+hits_once a (name ∷ names) h =
+    let parts = or_parts (list_any (same_name name) names) (repeats same_name names) h in
+    by (same_name a.of name) refl parts.0 (hits_once a names parts.1)
+  where
+    by : (t : Bool) → same_name a.of name ≡ t → list_any (same_name name) names ≡ false → total_by (hit a) names ≤ℤ size_of a → (cond t (size_of a) (pos 0) +ℤ total_by (hit a) names) ≤ℤ size_of a
+    by true e others rest =
+        omega (arith, ints, hits_none a names (ap (λ n. list_any (same_name n) names) (same_name-equal a.of name e) ∙ others))
+    by false e others rest = omega (arith, ints, rest)
+
+kept_next : (a : Amount (List ℕ)) (amounts : List (Amount (List ℕ))) (name : List ℕ) → total_by size_of (filter (λ b. same_name b.of name) (a ∷ amounts)) ≡ hit a name +ℤ total_by size_of (filter (λ b. same_name b.of name) amounts)
+kept_next a amounts name = by (same_name a.of name)
+  where
+    by : (t : Bool) → total_by size_of (cond t (a ∷ filter (λ b. same_name b.of name) amounts) (filter (λ b. same_name b.of name) amounts)) ≡ cond t (size_of a) (pos 0) +ℤ total_by size_of (filter (λ b. same_name b.of name) amounts)
+    by true = refl
+    by false = omega (arith, ints)
+
+module _ {A : Type 0} where
+  total-same : (f g : A → ℤ) → ((x : A) → f x ≡ g x) → (xs : List A) → total_by f xs ≡ total_by g xs
+  total-same f g same [] = refl
+  total-same f g same (x ∷ xs) = ap (λ z. z +ℤ total_by f xs) (same x) ∙ ap (λ z. g x +ℤ z) (total-same f g same xs)
+
+  total-zero : (xs : List A) → total_by (λ x. pos 0) xs ≡ pos 0
+  total-zero [] = refl
+  total-zero (x ∷ xs) = ap (λ z. pos 0 +ℤ z) (total-zero xs)
+
+-- the notionals of different qualifiers are different notionals
+apart_sizes : (names : List (List ℕ)) → repeats same_name names ≡ false → (amounts : List (Amount (List ℕ))) → total_by (λ name. total_by size_of (filter (λ a. same_name a.of name) amounts)) names ≤ℤ total_by size_of amounts
+apart_sizes names once [] = omega (arith, ints, total-zero names)
+apart_sizes names once (a ∷ amounts) =
+    let rest : List ℕ → ℤ = λ name. total_by size_of (filter (λ b. same_name b.of name) amounts) in
+    omega (
+      arith,
+      ints,
+      total-same (λ name. total_by size_of (filter (λ b. same_name b.of name) (a ∷ amounts))) (λ name. hit a name +ℤ rest name) (kept_next a amounts) names,
+      total-add (hit a) rest names,
+      hits_once a names once,
+      apart_sizes names once amounts,
+    )
+
+-- ---- all shares of a book
+
+total-map : {A B : Type 0} (f : B → ℤ) (g : A → B) (xs : List A) → total_by (λ x. f (g x)) xs ≡ total_by f (map g xs)
+total-map f g [] = refl
+total-map f g (x ∷ xs) = ap (λ z. f (g x) +ℤ z) (total-map f g xs)
+
+row_names : (r : CrifRow) → map (λ (a : Amount (List ℕ)). a.of) (notional_factor r) ≡ factor_names r
+row_names (row.Sensitivity key amount) = refl
+row_names (row.Notional qualifier amount) = refl
+row_names (row.FixedAmount amount) = refl
+row_names (row.NotionalFactor qualifier factor) = refl
+row_names (row.Multiplier product factor) = refl
+
+names_of_factors : (rows : List CrifRow) → map (λ (a : Amount (List ℕ)). a.of) (flat_map notional_factor rows) ≡ flat_map factor_names rows
+names_of_factors [] = refl
+names_of_factors (r ∷ rows) =
+    map-append (λ (a : Amount (List ℕ)). a.of) (notional_factor r) (flat_map notional_factor rows) ∙ ap (λ ns. ns ++ map (λ (a : Amount (List ℕ)). a.of) (flat_map notional_factor rows)) (row_names r) ∙ ap (λ ns. factor_names r ++ ns) (names_of_factors rows)
+
+module _ (rows : List CrifRow) where
+  shares_le : (factors : List (Amount (List ℕ))) → AllByRecursion (λ f. IsFactor f.amount) factors → AllByRecursion (λ f. share_of (notional_of rows) f ≤ℤ notional_of rows f.of) factors
+  shares_le [] h = tt
+  shares_le (f ∷ factors) h = (share_most f.amount (notional_of rows f.of) h.0 (notional_low rows f.of), shares_le factors h.1)
+
+  shares_low : (factors : List (Amount (List ℕ))) → AllByRecursion (λ f. IsFactor f.amount) factors → AreLow (share_of (notional_of rows)) factors
+  shares_low [] h = tt
+  shares_low (f ∷ factors) h = (share_low f.amount (notional_of rows f.of) h.0 (notional_low rows f.of), shares_low factors h.1)
+
+  pub shares_each : list_all is_in_range rows ≡ true → AreLow (share_of (notional_of rows)) (flat_map notional_factor rows)
+  shares_each amounts = shares_low (flat_map notional_factor rows) (factors_each rows amounts)
+
+  -- no more than all notionals
+  pub add_on_small : length rows ≤ 200000 → list_all is_in_range rows ≡ true → repeats same_name (flat_map factor_names rows) ≡ false → notional_add_on rows ≤ℤ pos (2 * 10 ^ 20)
+  add_on_small few amounts once =
+      let factors = flat_map notional_factor rows in
+      omega (
+        arith,
+        ints,
+        totals_le (share_of (notional_of rows)) (λ f. notional_of rows f.of) factors (shares_le factors (factors_each rows amounts)),
+        total-map (notional_of rows) (λ (a : Amount (List ℕ)). a.of) factors ∙ ap (total_by (notional_of rows)) (names_of_factors rows),
+        apart_sizes (flat_map factor_names rows) once (flat_map notional rows),
+        notionals_small rows few amounts,
+      )
+
+-- ---- the factors as they are lent
+
+pub next_factor : (factors : List LentFactor) (i : ℕ) (f : LentFactor) → i < length factors → f ≡ get_or factors i f → factors_of (drop i factors) ≡ factor_of f ∷ factors_of (drop (i + 1) factors)
+next_factor factors i f within is = ap factors_of (drop_more factors i f within) ∙ ap (λ x. factor_of x ∷ factors_of (drop (i + 1) factors)) (sym is)
+
+pub factor_at : (factors : List LentFactor) (i : ℕ) (f : LentFactor) → i < length factors → f ≡ get_or factors i f → AllByRecursion (λ a. IsFactor a.amount) (factors_of factors) → IsFactor f.factor.0
+factor_at [] i f within is all = absurd (omega arith)
+factor_at (g ∷ factors) zero f within is all = subst (λ (x : LentFactor). IsFactor x.factor.0) (sym is) all.0
+factor_at (g ∷ factors) (suc i) f within is all = factor_at factors i f (omega arith) is all.1
