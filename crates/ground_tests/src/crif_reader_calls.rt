@@ -3,8 +3,8 @@ use mh_units::{Cents, NumeralFault};
 use simm_kinds::CrifRow;
 use std::alloc::Global;
 
-/// Tab-separated, with a byte order mark, columns in another order and case, a column that isn't read, quotes, and records that
-/// are passed over.
+/// Tab-separated, with a byte order mark, columns in another order and case, a column that isn't read, quotes, records that are
+/// passed over, and a parameter, whose trade and qualifier aren't read.
 const LINES: &[u8] =
     b"\xEF\xBB\xBFtrade_id\tIM Model\tRisk Type\tPRODUCTCLASS\tqualifier\tBucket\tLabel1\tLabel2\tnote\tAmount\tAmount_Currency\tAmountUSD\r\n\
 A\tSIMM\trisk_fx\tFX\teur\t\t\t\t\"a\ttab\"\t9\tEUR\t1\n\
@@ -12,14 +12,19 @@ B\tSIMM\tRisk_FX\tRates\t USD \t\t\t\t\t2\tusd\n\
 A\tschedule\tNotional\t\t\t\t\t\t\t7\tUSD\t7\n\
 \n\
 A\t\tPV\t\t\t\t\t\t\t7\tUSD\t7\n\
+Z\t\tparam_addonfixedamount\t\tX\t\t\t\t\t\t\t1.5\n\
 A\t\tRisk_FX\tCredit\tJPY\t\t\t\t\t\t\t-3.5";
 
 /// The place of a trade, its name, and the amounts of its first and its last row.
-const TRADES: [(usize, &str, i128, i128); 2] = [(0, "A", 100, -350), (1, "B", 200, 200)];
+const TRADES: [(usize, &str, i128, i128); 3] = [
+    (0, "A", 100, -350),
+    (1, "B", 200, 200),
+    (2, "", 150, 150),
+];
 
 fn amount_of(row: &CrifRow) -> Option<Cents> {
     match row {
-        CrifRow::Sensitivity { amount, .. } => Some(*amount),
+        CrifRow::Sensitivity { amount, .. } | CrifRow::FixedAmount(amount) => Some(*amount),
         _ => None,
     }
 }
@@ -45,17 +50,27 @@ const HEADER: &str =
 const EMPTY: [&str; 2] = ["", "T,FX,PV\n"];
 
 /// What follows the header, and the fault of its first record.
-const FAULTS: [(&str, RowFault); 15] = [
+const FAULTS: [(&str, RowFault); 23] = [
     ("T,FX,Risk_FX,EUR,,,,1,USD,1,more\n", RowFault::FieldCount),
     (",,Risk_None,,,,,,,\n", RowFault::RiskType),
-    (",,Risk_EquityVol,,,,,,,\n", RowFault::RiskType),
-    (",,Param_AddOnFixedAmount,,,,,,,\n", RowFault::RiskType),
     (" ,,Risk_FX,,,,,,,\n", RowFault::Trade),
+    (",,Notional,X,,,,,,1\n", RowFault::Trade),
     ("T,Rate,Risk_FX,,,,,,,\n", RowFault::ProductClass),
     ("T,FX,Risk_FX,EURO,,,,,,\n", RowFault::Qualifier),
+    ("T,FX,Risk_FXVol,EUREUR,,1y\n", RowFault::Qualifier),
+    (",,Param_AddOnNotionalFactor,,,,,1\n", RowFault::Qualifier),
+    (
+        ",,Param_ProductClassMultiplier,Cash,,,,1\n",
+        RowFault::Qualifier,
+    ),
     ("T,Equity,Risk_Equity,,0\n", RowFault::Qualifier),
     ("T,Equity,Risk_Equity,X,0\n", RowFault::Bucket),
+    (
+        "T,Commodity,Risk_CommodityVol,X,Residual,1y\n",
+        RowFault::Bucket,
+    ),
     ("T,FX,Risk_IRCurve,EUR,,4y\n", RowFault::Label1),
+    ("T,Credit,Risk_CreditVol,X,1,2w\n", RowFault::Label1),
     ("T,FX,Risk_IRCurve,EUR,,5y,OI\n", RowFault::Label2),
     ("T,FX,Risk_FX,EUR\n", RowFault::Amount(NumeralFault::Empty)),
     (
@@ -69,6 +84,22 @@ const FAULTS: [(&str, RowFault); 15] = [
     (
         "T,FX,Risk_FX,EUR,,,,1,USD,1e99\n",
         RowFault::Amount(NumeralFault::TooLarge),
+    ),
+    (
+        ",,Param_AddOnFixedAmount,,,,,,USD,-0.01\n",
+        RowFault::ParamRange(-1),
+    ),
+    (
+        ",,Param_AddOnNotionalFactor,X,,,,100.0001\n",
+        RowFault::ParamRange(1_000_001),
+    ),
+    (
+        ",,Param_ProductClassMultiplier,FX,,,,0.9999\n",
+        RowFault::ParamRange(9_999),
+    ),
+    (
+        ",,Param_ProductClassMultiplier,FX,,,,,USD,1\n",
+        RowFault::Amount(NumeralFault::Empty),
     ),
 ];
 
@@ -90,6 +121,35 @@ fn a_row_is_needed(rt: HostRuntime) {
 fn the_first_fault_is_told(rt: HostRuntime) {
     for (rows, fault) in FAULTS {
         assert!(rt; fault_of(rt.alloc(), rows) == Some(CrifFault::Row { number: 2, fault }));
+    }
+}
+
+/// Two parameters behind the header, and whether the second repeats the first.
+const PARAMETER_PAIRS: [(&str, bool); 4] = [
+    (
+        ",,Param_ProductClassMultiplier,Rates,,,,2\n,,Param_ProductClassMultiplier,fx,,,,3\n",
+        true,
+    ),
+    (
+        ",,Param_AddOnNotionalFactor,X,,,,1\n,,Param_AddOnNotionalFactor,X,,,,1\n",
+        true,
+    ),
+    (
+        ",,Param_AddOnNotionalFactor,X,,,,1\n,,Param_AddOnNotionalFactor,x,,,,1\n",
+        false,
+    ),
+    (
+        ",,Param_AddOnFixedAmount,,,,,,,1\n,,Param_AddOnFixedAmount,,,,,,,1\n",
+        false,
+    ),
+];
+
+#[test]
+fn a_parameter_stands_once(rt: HostRuntime) {
+    let fault = RowFault::DuplicateParam;
+    for (rows, is_repeated) in PARAMETER_PAIRS {
+        let told = fault_of(rt.alloc(), rows);
+        assert!(rt; told == is_repeated.then_some(CrifFault::Row { number: 3, fault }));
     }
 }
 

@@ -30,18 +30,31 @@ fn a_written_batch_reads_back(rt: HostRuntime) {
     assert!(rt; again.as_slice() == TEXT);
 }
 
-/// A row of each risk type that is read, as it is written.
+/// A row of each risk type, as it is written.
 const EVERY_TYPE: &[u8] =
     b"TradeID\tProductClass\tRiskType\tQualifier\tBucket\tLabel1\tLabel2\tAmount\tAmountCurrency\tAmountUSD\n\
 T1\tRatesFX\tRisk_IRCurve\tEUR\t\t1y\tLibor3m\t1.00\tUSD\t1.00\n\
 T1\tRatesFX\tRisk_Inflation\tEUR\t\t\t\t-2.00\tUSD\t-2.00\n\
 T1\tRatesFX\tRisk_XCcyBasis\tEUR\t\t\t\t3.00\tUSD\t3.00\n\
+T1\tRatesFX\tRisk_IRVol\tEUR\t\t2w\t\t3.10\tUSD\t3.10\n\
+T1\tRatesFX\tRisk_InflationVol\tEUR\t\t30y\t\t3.20\tUSD\t3.20\n\
 T1\tCredit\tRisk_CreditQ\tISIN:X\t1\t5y\tEUR\t4.00\tUSD\t4.00\n\
+T1\tCredit\tRisk_CreditVol\tISIN:X\tResidual\t1y\tISIN:X\t4.10\tUSD\t4.10\n\
 T1\tCredit\tRisk_CreditNonQ\tRMBS A\tResidual\t10y\t\t5.00\tUSD\t5.00\n\
+T1\tCredit\tRisk_CreditVolNonQ\tRMBS A\t2\t3y\t\t5.10\tUSD\t5.10\n\
 T1\tCredit\tRisk_BaseCorr\tCDX IG\t\t\t\t6.00\tUSD\t6.00\n\
+\t\tParam_ProductClassMultiplier\tRatesFX\t\t\t\t1.5000\tUSD\t\n\
+\t\tParam_AddOnNotionalFactor\tExotics\t\t\t\t0.0025\tUSD\t\n\
+\t\tParam_AddOnFixedAmount\t\t\t\t\t0.50\tUSD\t0.50\n\
+\t\tParam_AddOnFixedAmount\t\t\t\t\t0.50\tUSD\t0.50\n\
 T2\tEquity\tRisk_Equity\tISIN:A\tResidual\t\t\t7.00\tUSD\t7.00\n\
+T2\tEquity\tRisk_EquityVol\tISIN:A\t12\t6m\t\t7.10\tUSD\t7.10\n\
 T2\tCommodity\tRisk_Commodity\tCrude\t64\t\t\t8.00\tUSD\t8.00\n\
-T2\tRatesFX\tRisk_FX\tEUR\t\t\t\t9.00\tUSD\t9.00\n";
+T2\tCommodity\tRisk_CommodityVol\tCrude\t1\t20y\t\t8.10\tUSD\t8.10\n\
+T2\tRatesFX\tRisk_FX\tEUR\t\t\t\t9.00\tUSD\t9.00\n\
+T2\tRatesFX\tRisk_FXVol\tEURUSD\t\t5y\t\t9.10\tUSD\t9.10\n\
+T2\t\tNotional\tExotics\t\t\t\t-9.20\tUSD\t-9.20\n\
+T2\t\tNotional\t\t\t\t\t9.30\tUSD\t9.30\n";
 
 #[test]
 fn a_batch_of_every_type_is_written_as_it_is_read(rt: HostRuntime) {

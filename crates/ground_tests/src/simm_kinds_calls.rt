@@ -294,7 +294,6 @@ fn each_factor_has_its_class_side_and_bucket(rt: HostRuntime) {
         let factor = factor_of(&rt, kind).expect(&rt, "a factor");
         assert!(rt; factor.kind() == kind && factor.class() == class && factor.side() == side);
         assert!(rt; bucket_number(factor.bucket()) == number);
-        assert!(rt; factor.is_built() == (side != Side::Volatility));
     }
 }
 
@@ -408,17 +407,17 @@ fn add_on_row(rt: &(impl Abort + AllocGlobal), add_on: AddOn) -> CrifRow {
 }
 
 /// The second trade of a batch: its name, its two rows, and why the batch is refused.
-const ADD_ONS: [(&str, [AddOn; 2], MakeFault); 13] = [
+const ADD_ONS: [(&str, [AddOn; 2], Option<MakeFault>); 14] = [
     (
         "T2",
         [AddOn::Notional("", 1), AddOn::Notional("X", -1)],
-        MakeFault::Unbuilt,
+        None,
     ),
-    ("", [AddOn::Fixed(1), AddOn::Fixed(1)], MakeFault::Unbuilt),
+    ("", [AddOn::Fixed(0), AddOn::Fixed(0)], None),
     (
         "",
         [AddOn::Factor("X", 0), AddOn::Factor("Y", 1_000_000)],
-        MakeFault::Unbuilt,
+        None,
     ),
     (
         "",
@@ -426,12 +425,12 @@ const ADD_ONS: [(&str, [AddOn; 2], MakeFault); 13] = [
             AddOn::Multiplier(ProductClass::Credit, 10_000),
             AddOn::Multiplier(ProductClass::Equity, 100_000),
         ],
-        MakeFault::Unbuilt,
+        None,
     ),
     (
         "",
         [AddOn::Factor("X", 0), AddOn::Factor("X", 1)],
-        MakeFault::Same,
+        Some(MakeFault::Same),
     ),
     (
         "",
@@ -439,24 +438,40 @@ const ADD_ONS: [(&str, [AddOn; 2], MakeFault); 13] = [
             AddOn::Multiplier(ProductClass::Credit, 10_000),
             AddOn::Multiplier(ProductClass::Credit, 20_000),
         ],
-        MakeFault::Same,
+        Some(MakeFault::Same),
     ),
-    ("T2", [AddOn::Fixed(1), AddOn::Fixed(1)], MakeFault::Place),
+    (
+        "T2",
+        [AddOn::Fixed(1), AddOn::Fixed(1)],
+        Some(MakeFault::Place),
+    ),
     (
         "",
         [AddOn::Fixed(1), AddOn::Notional("X", 1)],
-        MakeFault::Place,
+        Some(MakeFault::Place),
     ),
-    ("", [AddOn::Fixed(0), AddOn::Fixed(-1)], MakeFault::Amount),
+    (
+        "T2",
+        [
+            AddOn::Notional("X", 1),
+            AddOn::Notional("X", 1_000_000_000_000_001),
+        ],
+        Some(MakeFault::Amount),
+    ),
+    (
+        "",
+        [AddOn::Fixed(0), AddOn::Fixed(-1)],
+        Some(MakeFault::Amount),
+    ),
     (
         "",
         [AddOn::Fixed(0), AddOn::Factor("X", -1)],
-        MakeFault::Amount,
+        Some(MakeFault::Amount),
     ),
     (
         "",
         [AddOn::Fixed(0), AddOn::Factor("X", 1_000_001)],
-        MakeFault::Amount,
+        Some(MakeFault::Amount),
     ),
     (
         "",
@@ -464,7 +479,7 @@ const ADD_ONS: [(&str, [AddOn; 2], MakeFault); 13] = [
             AddOn::Fixed(0),
             AddOn::Multiplier(ProductClass::Credit, 9_999),
         ],
-        MakeFault::Amount,
+        Some(MakeFault::Amount),
     ),
     (
         "",
@@ -472,25 +487,25 @@ const ADD_ONS: [(&str, [AddOn; 2], MakeFault); 13] = [
             AddOn::Fixed(0),
             AddOn::Multiplier(ProductClass::Credit, 100_001),
         ],
-        MakeFault::Amount,
+        Some(MakeFault::Amount),
     ),
 ];
 
 #[test]
-fn add_ons_are_no_batch_yet(rt: HostRuntime) {
+fn add_ons_are_taken_into_a_batch(rt: HostRuntime) {
     for (text, add_ons, fault) in ADD_ONS {
         let mut other = trade(&rt, text, "EUR", 1, 0);
         for add_on in add_ons {
             let row = add_on_row(&rt, add_on);
             other.rows.push(row).ok().expect(&rt, "memory");
         }
-        assert_eq!(rt; batch_with(&rt, other).err(), Some(fault));
+        assert_eq!(rt; batch_with(&rt, other).err(), fault);
     }
 }
 
 #[test]
-fn volatilities_are_no_batch_yet(rt: HostRuntime) {
-    for (kind, _, side, _) in FACTORS {
+fn each_factor_is_taken_into_a_batch(rt: HostRuntime) {
+    for (kind, _, _, _) in FACTORS {
         let factor = factor_of(&rt, kind).expect(&rt, "a factor");
         let product = ProductClass::Credit;
         let key = FactorKey { product, factor };
@@ -498,11 +513,7 @@ fn volatilities_are_no_batch_yet(rt: HostRuntime) {
         let mut other = trade(&rt, "T2", "EUR", 1, 0);
         let row = CrifRow::Sensitivity { key, amount };
         other.rows.push(row).ok().expect(&rt, "memory");
-        let fault = batch_with(&rt, other).err();
-        assert_eq!(rt;
-            fault,
-            (side == Side::Volatility).then_some(MakeFault::Unbuilt)
-        );
+        assert_eq!(rt; batch_with(&rt, other).err(), None);
     }
 }
 
@@ -516,14 +527,13 @@ fn a_batch_has_its_trades(rt: HostRuntime) {
     assert!(rt; other.trade.bytes() == b"T2".as_slice() && other.rows.len() == 2);
 }
 
-const MAKE_FAULTS: [(MakeFault, Option<u8>); 8] = [
+const MAKE_FAULTS: [(MakeFault, Option<u8>); 7] = [
     (MakeFault::Empty, Some(1)),
     (MakeFault::Same, Some(2)),
     (MakeFault::TooManyRows, Some(3)),
     (MakeFault::Place, Some(4)),
     (MakeFault::EmptyTrade, Some(5)),
     (MakeFault::Amount, Some(6)),
-    (MakeFault::Unbuilt, Some(7)),
     (MakeFault::Memory, None),
 ];
 
