@@ -1,9 +1,11 @@
 -- What the range of a book says of the buckets of its classes.
-use Rattle.std.proofs.Common.{◌≡◌, ◌^◌, ℕ, ◌*◌, ◌≤◌, List, [], ◌∷◌, map, length, Some, not, ap, ℤ, pos, negsuc, ◌*ℤ◌, ◌≤ℤ◌, unsigned_abs, arith}
+use Rattle.std.proofs.Common.{◌≡◌, ◌^◌, ℕ, ◌+◌, ◌*◌, ◌≤◌, List, [], ◌∷◌, map, length, Some, not, refl, sym, ap, ◌∙◌, subst, ℤ, pos, negsuc, ◌+ℤ◌, ◌*ℤ◌, ◌≤ℤ◌, unsigned_abs, arith}
 use Rattle.std.specs.List.{AllByRecursion}
-use Rattle.std.proofs.lemmas.Int.{ints}
+use Rattle.std.proofs.lemmas.Int.{ints, unsigned_abs-mul}
 use Rattle.std.proofs.lemmas.List.{length-map}
 use Rattle.std.proofs.lemmas.List.Elements.{recursion_from_All}
+use Rattle.mh_units.specs.Rounding.{away}
+use Rattle.mh_units.proofs.Integers.{add-mul_ℤ}
 use Rattle.simm_kinds.specs.declared.kinds.ProductClass.{ProductClass}
 use Rattle.simm_kinds.specs.declared.kinds.RiskClass.TheVariants as class
 use Rattle.simm_kinds.specs.declared.bucket.Bucket.{Bucket}
@@ -15,7 +17,7 @@ use Rattle.simm_rules.specs.Params.{Params, CreditBucket, PricedBucket}
 use Rattle.simm_rules.specs.Sums.{total_by}
 use Rattle.simm_rules.specs.Net.{Sensitivity, sensitivities, in_product}
 use Rattle.simm_rules.specs.Risks.{CreditClass, Qualifying, Non_qualifying, PricedClass, Equities, Commodities, Amount, select}
-use Rattle.simm_rules.specs.BaseCorrelation.{as_index}
+use Rattle.simm_rules.specs.BaseCorrelation.{as_index, weighted_index, base_value}
 use Rattle.simm_rules.specs.Bucket.{Weighted}
 use Rattle.simm_rules.specs.Credit.{as_credit, credit_params}
 use Rattle.simm_rules.specs.ForeignExchange.{as_currency, is_own_currency, fx_weight}
@@ -42,6 +44,7 @@ use Rattle.name_delta.proofs.CreditPoints.{issuer_amount, points_nets}
 use Rattle.name_delta.proofs.Indices.{indices_at}
 use Rattle.name_delta.proofs.Lists.{each_weaker}
 use Rattle.name_delta.proofs.Names.{names_nets}
+use Rattle.name_delta.proofs.Sizes.{away_size_close}
 use Rattle.name_delta.proofs.Shrinking.{SizesAreNetted, nets_shrink, filter_shrinks}
 use Rattle.class_delta.proofs.Lists.{filter-length, select-length}
 
@@ -68,6 +71,28 @@ gross_low (f ∷ fs) = omega (arith, ints, gross_low fs)
 
 pub value_most : {A : Type 0} (weight : A → ℤ) (amounts : List (Amount A)) (value : BucketMargin) → IsInRange weight amounts → IsSized weight amounts value → pos 0 ≤ℤ value.gross → value.k ≤ℤ pos (4 * 10 ^ 15)
 value_most weight amounts value range its low = omega (arith, ints, its.gross, its.margin, its.not_negative, range.small, range.few)
+
+-- base correlation has no concentration: each weighted value is less than a cent off
+index_close : (w : ℕ) (x : ℤ) → unsigned_abs (away (pos w *ℤ x) (pos 10000)) * 10000 ≤ unsigned_abs x * w + 10000
+index_close w x = omega (arith, away_size_close (pos w *ℤ x) 10000 (omega arith), unsigned_abs-mul (pos w) x)
+
+indices_gross : (w : ℤ) (amounts : List (Amount (List ℕ))) → pos 0 ≤ℤ w → (total_by (λ a. pos (unsigned_abs (away (w *ℤ a.amount) (pos 10000)))) amounts *ℤ pos 10000) ≤ℤ (size_by (λ index. w) amounts +ℤ pos (length amounts * 10000))
+indices_gross w [] low = omega (arith, ints)
+indices_gross (pos w) (a ∷ amounts) low =
+    let rest : ℤ = total_by (λ b. pos (unsigned_abs (away (pos w *ℤ b.amount) (pos 10000)))) amounts in
+    omega (arith, ints, index_close w a.amount, indices_gross (pos w) amounts low, add-mul_ℤ (pos (unsigned_abs (away (pos w *ℤ a.amount) (pos 10000)))) rest (pos 10000))
+indices_gross (negsuc w) (a ∷ amounts) low = absurd low.le
+
+weighed_gross : (p : Params) (amounts : List (Amount (List ℕ))) → total_by (λ k. pos (unsigned_abs k.w)) (map (weighted_index p) amounts) ≡ total_by (λ a. pos (unsigned_abs (away (p.base_weight *ℤ a.amount) (pos 10000)))) amounts
+weighed_gross p [] = refl
+weighed_gross p (a ∷ amounts) = ap (λ z. pos (unsigned_abs (away (p.base_weight *ℤ a.amount) (pos 10000))) +ℤ z) (weighed_gross p amounts)
+
+pub base_most : (p : Params) (amounts : List (Amount (List ℕ))) (value : BucketMargin) → pos 0 ≤ℤ p.base_weight → IsInRange (index_weight p) amounts → IsSized (index_weight p) amounts value → value ≡ base_value p amounts → value.k ≤ℤ pos (10 ^ 14)
+base_most p amounts value low range its is =
+    let gross : value.gross ≡ total_by (λ a. pos (unsigned_abs (away (p.base_weight *ℤ a.amount) (pos 10000)))) amounts = ap (λ (v : BucketMargin). v.gross) is ∙ weighed_gross p amounts in
+    let not_negative : pos 0 ≤ℤ value.gross = subst (λ (v : BucketMargin). pos 0 ≤ℤ v.gross) (sym is) (gross_low (map (weighted_index p) amounts)) in
+    let scaled : value.gross *ℤ pos 10000 ≡ total_by (λ a. pos (unsigned_abs (away (p.base_weight *ℤ a.amount) (pos 10000)))) amounts *ℤ pos 10000 = ap (λ z. z *ℤ pos 10000) gross in
+    omega (arith, ints, scaled, not_negative, indices_gross p.base_weight amounts low, its.margin, its.not_negative, range.small, range.few)
 
 -- ---- a class of which the file lists buckets
 

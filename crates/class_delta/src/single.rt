@@ -26,7 +26,7 @@ pub fn base_correlation<L: Ledger>(
     requires { IsMarginable params.now factors.now }
     ensures value { IfOk result (λ m. m.0 ≡ base_margin params.now (nets_in product factors.now)) }
     ensures low { IfOk result (λ m. pos 0 ≤ℤ m.0) }
-    ensures size { IfOk result (λ m. m.0 ≤ℤ pos (4 * 10 ^ 15)) }
+    ensures size { IfOk result (λ m. m.0 ≤ℤ pos (10 ^ 14)) }
 {
     params.facts();
     factors_are_netted();
