@@ -1,4 +1,2 @@
-pub mod BuiltRows
-pub mod Nothing
-pub mod DeltaAlone
+pub mod Parts
 pub mod Whole

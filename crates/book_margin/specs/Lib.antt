@@ -1,1 +1,1 @@
-pub mod Delta
+pub mod Classes
