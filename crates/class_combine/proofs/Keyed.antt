@@ -28,7 +28,7 @@ pub same_name-equal : (a b : List ℕ) → same_name a b ≡ true → a ≡ b
 same_name-equal a b h = tells_apart exact_bytes a b h
 
 -- the test of a map's keys
-key_test : (a b : List ℕ) → pointwise ◌==◌ a b ≡ same_name a b
+pub key_test : (a b : List ℕ) → pointwise ◌==◌ a b ≡ same_name a b
 key_test a b =
     one_answer (pointwise ◌==◌ a b) (same_name a b) (bytes_decides a b) (λ h. same_name-equal a b h, λ e. ap (same_name a) (sym e) ∙ same_name-refl a)
 
