@@ -20,7 +20,7 @@ use Rattle.crif_reader.specs.Trades.{gathered, trade_names}
 use Rattle.crif_reader.specs.Grammar.{Kept, Crif, none_kept, with_taken, at_record, kept_of, taken_of}
 use Rattle.crif_reader.specs.Grammar.{rows_of as file_rows_of}
 use Rattle.crif_reader.proofs.Gathered.{gathered-push, trade_in, repeats-trade_names}
-use Rattle.crif_reader.proofs.Binds.{bind_ok, same_ok, either, mapped_ok}
+use Rattle.crif_reader.proofs.Binds.{bind_ok, same_ok, same_some, either, mapped_ok}
 use Rattle.crif_reader.proofs.Onces.{IsOnce, once_more}
 use Rattle.crif_reader.proofs.Placed.{IsGoodRow, IsGoodEntry, IsGoodTrade, IsOfParams, good-with_entry, count-with_entry, parts-with_entry, names_of_params, products_of_params}
 use Rattle.crif_reader.proofs.GoodRows.{good_row}
@@ -115,9 +115,6 @@ read_once before (Ok (Some entry)) e h =
       | inl again ↦ cc (again.1)
       | inr first ↦ (first.1, subst (λ (x : Entry). is_repeated (rows_in before) x.row ≡ false) (same_some entry e (same_ok (Some entry) (Some e) first.1)) first.0)
     ]
-  where
-    same_some : (x y : Entry) → Some x ≡ Some y → x ≡ y
-    same_some x y p = cc
 
 good_taken : (kept : Kept) (taken : Option Entry) → IsGood kept.entries → ((e : Entry) → taken ≡ Some e → IsGoodEntry e × (is_repeated (rows_in kept.entries) e.row ≡ false)) → IsGood (with_taken kept taken).entries
 good_taken kept None good k = good

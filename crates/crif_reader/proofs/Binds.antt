@@ -1,5 +1,5 @@
 -- What a chain of reads that ends well read on its way.
-use Rattle.std.proofs.Common.{◌≡◌, Bool, true, false, cond, ◌⊎◌, inl, inr, Result, Ok, Err, refl, ap}
+use Rattle.std.proofs.Common.{◌≡◌, Bool, true, false, cond, ◌⊎◌, inl, inr, Some, None, Result, Ok, Err, refl, ap}
 use Rattle.std.specs.Result.{result_map_both}
 use Rattle.crif_reader.specs.Reads.{◌>>=◌}
 
@@ -21,3 +21,10 @@ ok_if false x d y e = cc
 pub mapped_ok : {A E D : Type 0} (g : E → D) (r : Result A E) (x : A) → result_map_both (λ y. y) g r ≡ Ok x → r ≡ Ok x
 mapped_ok g (Ok y) x e = ap (λ z. Ok z) (same_ok y x e)
 mapped_ok g (Err d) x e = cc
+
+pub same_some : {A : Type 0} (x y : A) → Some x ≡ Some y → x ≡ y
+same_some x y e = cc
+
+pub some_if : {A : Type 0} (b : Bool) (x y : A) → Some x ≡ cond b (Some y) None → (b ≡ true) × (x ≡ y)
+some_if true x y e = (refl, same_some x y e)
+some_if false x y e = cc

@@ -1,6 +1,9 @@
 -- What a record gives is a row in its place, with its amount in its range.
-use Rattle.std.proofs.Common.{◌≡◌, ◌==◌, ℕ, ◌≤◌, ◌^◌, Bool, true, false, not, ◌&&◌, cond, ltb, ℤ, pos, int_le, unsigned_abs, List, length, Some, None, ok_or, inl, inr, Result, Ok, Err, zero, suc, refl, ap, subst, ◌∙◌, codes}
+use Rattle.std.proofs.Common.{◌≡◌, ◌==◌, ℕ, ◌≤◌, ◌^◌, Bool, true, false, not, ◌&&◌, cond, ltb, ℤ, pos, int_le, unsigned_abs, [], List, length, Option, Some, None, is_none, ok_or, inl, inr, Result, Ok, Err, zero, suc, refl, ap, subst, ◌∙◌, codes}
 use Rattle.std.specs.Result.{result_map_both}
+use Rattle.std.specs.Str.{is_utf8}
+use Rattle.std.proofs.lemmas.Str.{is_utf8-from_IsUtf8, IsUtf8-from_ascii}
+use Rattle.std.proofs.lemmas.Str.Ascii.{IsAscii-nil}
 use Rattle.std.proofs.lemmas.Bool.{and_parts, ltb-false, le-leb, not-true}
 use Rattle.mh_units.specs.declared.quantities.Cents.{Cents}
 use Rattle.mh_units.specs.declared.numeral.NumeralFault.{NumeralFault}
@@ -13,13 +16,14 @@ use Rattle.simm_kinds.specs.declared.kinds.RiskType.TheVariants as kind
 use Rattle.simm_kinds.specs.Batch.{is_amount}
 use Rattle.simm_kinds.specs.Kinds.{kind_named, product_named}
 use Rattle.simm_kinds.specs.Words.{is_word}
-use Rattle.simm_kinds.specs.NameText.{is_full_name}
+use Rattle.simm_kinds.specs.NameText.{IsName, is_full_name, name_fault}
+use Rattle.simm_kinds.specs.declared.fault.NameFault.{NameFault}
 use Rattle.crif_reader.specs.declared.columns.Columns.{Columns}
 use Rattle.crif_reader.specs.declared.fault.RowFault.TheVariants as fault
 use Rattle.crif_reader.specs.Fields.{Texts, texts_of, are_text}
 use Rattle.crif_reader.specs.Factor.{factor_of, full_name_of, name_of}
 use Rattle.crif_reader.specs.Row.{Entry, row_of, text_row_of, model_of, typed_of, entry_of, sensitivity_of, notional_of, fixed_amount_of, notional_factor_of, multiplier_of, if_within, is_present_value, trade_of, product_of, amount_of, rate_of, amount_text}
-use Rattle.crif_reader.proofs.Binds.{bind_ok, same_ok, either, ok_if, mapped_ok}
+use Rattle.crif_reader.proofs.Binds.{bind_ok, same_ok, same_some, either, ok_if, mapped_ok}
 use Rattle.crif_reader.proofs.Placed.{IsGoodEntry}
 
 -- ---- amounts
@@ -58,11 +62,21 @@ amount_fits t amount e =
 
 -- ---- rows
 
+trade_tests : (text trade : List ℕ) → full_name_of fault.Trade text ≡ Ok trade → (not (length trade == 0) ≡ true) × (is_none (name_fault trade) ≡ true)
+trade_tests text trade e = let parts = ok_if (is_full_name text) text fault.Trade trade e in rw (← parts.1) (and_parts _ _ parts.0)
+
 trade_named : (text trade : List ℕ) → full_name_of fault.Trade text ≡ Ok trade → (length trade == 0) ≡ false
-trade_named text trade e =
-    let parts = ok_if (is_full_name text) text fault.Trade trade e in
-    let tests = and_parts _ _ parts.0 in
-    rw (← parts.1) (not-true (length text == 0) tests.0)
+trade_named text trade e = not-true (length trade == 0) (trade_tests text trade e).0
+
+trade_is_name : (text trade : List ℕ) → full_name_of fault.Trade text ≡ Ok trade → IsName trade
+trade_is_name text trade e = none_is (name_fault trade) (trade_tests text trade e).1
+  where
+    none_is : (o : Option NameFault) → is_none o ≡ true → o ≡ None
+    none_is None h = refl
+    none_is (Some f) h = cc
+
+no_name : IsName []
+no_name = let text : is_utf8 [] ≡ true = is_utf8-from_IsUtf8 [] (IsUtf8-from_ascii [] IsAscii-nil) in rw text refl
 
 good_sensitivity : (k : RiskType) (t : Texts) (e : Entry) → sensitivity_of k t ≡ Ok e → IsGoodEntry e
 unfolding sensitivity_of
@@ -71,7 +85,7 @@ good_sensitivity k t e h =
     bind_ok _ (product_of t) e h1 (λ product is_product h2.
     bind_ok _ (factor_of k t) e h2 (λ f is_factor h3.
     bind_ok _ (amount_of t) e h3 (λ amount is_amount h4.
-    subst IsGoodEntry (same_ok _ e h4) (record { place = rw (trade_named t.trade_id trade is_trade) refl; range = amount_fits t amount is_amount })))))
+    subst IsGoodEntry (same_ok _ e h4) (record { place = rw (trade_named t.trade_id trade is_trade) refl; range = amount_fits t amount is_amount; name = trade_is_name t.trade_id trade is_trade })))))
 
 good_notional : (t : Texts) (e : Entry) → notional_of t ≡ Ok e → IsGoodEntry e
 unfolding notional_of
@@ -79,14 +93,14 @@ good_notional t e h =
     bind_ok _ (trade_of t) e h (λ trade is_trade h1.
     bind_ok _ (name_of fault.Qualifier t.qualifier) e h1 (λ qualifier is_qualifier h2.
     bind_ok _ (amount_of t) e h2 (λ amount is_amount h3.
-    subst IsGoodEntry (same_ok _ e h3) (record { place = rw (trade_named t.trade_id trade is_trade) refl; range = amount_fits t amount is_amount }))))
+    subst IsGoodEntry (same_ok _ e h3) (record { place = rw (trade_named t.trade_id trade is_trade) refl; range = amount_fits t amount is_amount; name = trade_is_name t.trade_id trade is_trade }))))
 
 good_fixed_amount : (t : Texts) (e : Entry) → fixed_amount_of t ≡ Ok e → IsGoodEntry e
 unfolding fixed_amount_of
 good_fixed_amount t e h =
     bind_ok _ (amount_of t) e h (λ amount is_amount h1.
     let least = ok_if (int_le (pos 0) amount.0) _ (fault.ParamRange amount.0) e h1 in
-    subst IsGoodEntry least.1 (record { place = refl; range = rw (least.0, amount_fits t amount is_amount) refl }))
+    subst IsGoodEntry least.1 (record { place = refl; range = rw (least.0, amount_fits t amount is_amount) refl; name = no_name }))
 
 -- what gives an entry within two bounds is within them
 within : (least most value : ℤ) (entry e : Entry) → if_within least most value entry ≡ Ok e → ((int_le least value && int_le value most) ≡ true) × (entry ≡ e)
@@ -98,7 +112,7 @@ good_notional_factor t e h =
     bind_ok _ (full_name_of fault.Qualifier t.qualifier) e h (λ qualifier is_qualifier h1.
     bind_ok _ (rate_of t) e h1 (λ factor is_factor h2.
     let range = within (pos 0) (pos 1000000) factor.0 _ e h2 in
-    subst IsGoodEntry range.1 (record { place = refl; range = range.0 })))
+    subst IsGoodEntry range.1 (record { place = refl; range = range.0; name = no_name })))
 
 good_multiplier : (t : Texts) (e : Entry) → multiplier_of t ≡ Ok e → IsGoodEntry e
 unfolding multiplier_of
@@ -106,7 +120,7 @@ good_multiplier t e h =
     bind_ok _ (ok_or (product_named t.qualifier) fault.Qualifier) e h (λ product is_product h1.
     bind_ok _ (rate_of t) e h1 (λ factor is_factor h2.
     let range = within (pos 10000) (pos 100000) factor.0 _ e h2 in
-    subst IsGoodEntry range.1 (record { place = refl; range = range.0 })))
+    subst IsGoodEntry range.1 (record { place = refl; range = range.0; name = no_name })))
 
 good_entry : (k : RiskType) (t : Texts) (e : Entry) → entry_of k t ≡ Ok e → IsGoodEntry e
 good_entry kind.IrCurve t e h = good_sensitivity kind.IrCurve t e h
@@ -141,9 +155,6 @@ good_typed t e h =
       | inl passed ↦ cc (passed.1)
       | inr other ↦ bind_ok _ (entry_of k t) (Some e) other.1 (λ entry is_entry h2. good_entry k t e (is_entry ∙ ap (λ x. Ok x) (same_some entry e (same_ok (Some entry) (Some e) h2))))
     ])
-  where
-    same_some : (x y : Entry) → Some x ≡ Some y → x ≡ y
-    same_some x y p = cc
 
 pub good_row : (columns : Columns) (fields : List (List ℕ)) (e : Entry) → row_of columns fields ≡ Ok (Some e) → IsGoodEntry e
 good_row columns fields e h =

@@ -3,6 +3,7 @@ pub mod RecordsLeft
 pub mod Places
 pub mod Gathered
 pub mod FieldsAt
+pub mod AsciiFields
 pub mod NotedRows
 pub mod Binds
 pub mod Onces

@@ -9,6 +9,7 @@ use Rattle.simm_kinds.specs.declared.row.CrifRow.{CrifRow}
 use Rattle.simm_kinds.specs.declared.row.CrifRow.TheVariants as row
 use Rattle.simm_kinds.specs.declared.row.TradeRows.{TradeRows}
 use Rattle.simm_kinds.specs.Batch.{rows_of, repeats, factor_names, multiplied, is_astray, is_in_range, is_param}
+use Rattle.simm_kinds.specs.NameText.{IsName}
 use Rattle.simm_kinds.specs.Order.{same_name}
 use Rattle.crif_reader.specs.Row.{Entry}
 use Rattle.crif_reader.specs.Growth.{with_entry}
@@ -19,6 +20,7 @@ use Rattle.crif_reader.proofs.Places.{longer, same_name-equal}
 pub record IsGoodRow (trade : List ℕ) (r : CrifRow) : Type 0 where
   pub place : is_astray trade r ≡ false
   pub range : is_in_range r ≡ true
+  pub name : IsName trade
 
 abbrev pub IsGoodEntry : Entry → Type 0
 IsGoodEntry e = IsGoodRow e.trade e.row

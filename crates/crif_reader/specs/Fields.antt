@@ -59,6 +59,10 @@ are_text t =
     && is_utf8 t.label1 && is_utf8 t.label2 && is_utf8 t.amount && is_utf8 t.amount_currency && is_utf8 t.amount_usd
     && is_utf8 t.im_model
 
+-- the texts, where they are
+abbrev pub if_text : Texts → Option Texts
+if_text t = if are_text t then Some t else None
+
 -- the texts that are lent
 abbrev pub texts : Fields → Texts
 texts f =

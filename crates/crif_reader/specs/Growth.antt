@@ -1,8 +1,10 @@
 -- Trades that grow row by row, and an index of their places.
-use Rattle.std.specs.Prelude.{◌≡◌, ℕ, suc, ◌-◌, List, [], ◌∷◌, ◌++◌, map, length, slice_get, Option, Some, None, option_map, if◌then◌else◌}
-use Rattle.std.specs.BTreeMap.{BTreeMap, get}
+use Rattle.std.specs.Prelude.{◌≡◌, ℕ, suc, List, [], ◌∷◌, ◌++◌, Bool, false, Option, Some, None, option_map, if◌then◌else◌}
+use Rattle.std.specs.BTreeMap.{get}
+use Rattle.simm_kinds.specs.declared.row.CrifRow.{CrifRow}
 use Rattle.simm_kinds.specs.declared.row.TradeRows.{TradeRows}
 use Rattle.simm_kinds.specs.Order.{name_cmp, same_name}
+use Rattle.crif_reader.specs.declared.gather.Gathering.{Gathering}
 use Rattle.crif_reader.specs.Row.{Entry}
 
 -- one more row: at the end of its trade, or as a new trade behind the others
@@ -17,12 +19,26 @@ abbrev pub place_of : List ℕ → List TradeRows → Option ℕ
 place_of name [] = None
 place_of name (t ∷ ts) = if same_name name t.trade then Some 0 else option_map (λ n. suc n) (place_of name ts)
 
--- the last trade is the first with its name
-abbrev pub IsLastFirst : List TradeRows → Type 0
-IsLastFirst trades =
-    (name : List ℕ) → slice_get (map (λ t. t.trade) trades) (length trades - 1) ≡ Some name → place_of name trades ≡ Some (length trades - 1)
+-- ---- the newest trade stands apart
+
+abbrev pub is_newest : Option (List ℕ) → List ℕ → Bool
+is_newest None name = false
+is_newest (Some newest) name = same_name name newest
+
+abbrev pub newest_of : Option (List ℕ) → List CrifRow → List TradeRows
+newest_of None rows = []
+newest_of (Some newest) rows = record { trade = newest; rows = rows } ∷ []
+
+-- behind the others
+abbrev pub grown : Gathering → List TradeRows
+grown g = g.trades.items ++ newest_of g.newest g.rows.items
+
+-- its name is that of no other, and with no such trade there are no rows
+abbrev pub IsApart : List TradeRows → Option (List ℕ) → List CrifRow → Type 0
+IsApart trades None rows = rows ≡ []
+IsApart trades (Some newest) rows = place_of newest trades ≡ None
 
 -- the map has the place of each trade under its name, and no other name
-pub record IsIndex (places : BTreeMap (List ℕ) ℕ) (trades : List TradeRows) : Type 0 where
-  pub found : (name : List ℕ) → get name_cmp places name ≡ place_of name trades
-  pub last : IsLastFirst trades
+pub record IsIndex (g : Gathering) : Type 0 where
+  pub found : (name : List ℕ) → get name_cmp g.places name ≡ place_of name (grown g)
+  pub apart : IsApart g.trades.items g.newest g.rows.items

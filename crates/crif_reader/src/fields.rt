@@ -1,8 +1,8 @@
 //! The fields of a record that are read.
-ghost use Rattle.std.specs.Prelude.{◌≡◌};
+ghost use Rattle.std.specs.Prelude.{◌≡◌, option_map};
 ghost use Rattle.std.specs.Str.{is_utf8};
 ghost use Rattle.csv.specs.Records.{fields_of};
-ghost use Rattle.crif_reader.specs.Fields.{trimmed, text_at, text_if, texts, texts_of, are_text};
+ghost use Rattle.crif_reader.specs.Fields.{trimmed, text_at, text_if, texts, texts_of, are_text, if_text};
 
 use crate::columns::Columns;
 use csv::ByteRecord;
@@ -54,8 +54,19 @@ fn text_if(fields: &ByteRecord, place: Option<usize>) -> &[u8]
 }
 
 impl<'a> Fields<'a> {
-    /// Lends the fields of a record that stand in the columns.
-    pub fn of(columns: &Columns, fields: &'a ByteRecord) -> Fields<'a>
+    /// Lends the fields of a record that stand in the columns, where each of them is UTF-8.
+    pub fn read(columns: &Columns, fields: &'a ByteRecord) -> Option<Fields<'a>>
+        ensures { option_map texts result ≡ if_text (texts_of columns.now (fields_of fields.now)) }
+    {
+        let texts = Fields::of(columns, fields);
+        if fields.as_slice().is_ascii() || texts.are_text() {
+            Some(texts)
+        } else {
+            None
+        }
+    }
+
+    fn of(columns: &Columns, fields: &'a ByteRecord) -> Fields<'a>
         ensures { texts result ≡ texts_of columns.now (fields_of fields.now) }
     {
         Fields {
@@ -74,7 +85,7 @@ impl<'a> Fields<'a> {
     }
 
     /// Whether each of them is UTF-8.
-    pub fn are_text(&self) -> bool
+    fn are_text(&self) -> bool
         ensures { result ≡ are_text (texts self.now) }
     {
         is_utf8(self.trade_id)

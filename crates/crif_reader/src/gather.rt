@@ -1,53 +1,133 @@
 //! Rows gathered by trade.
-ghost use Rattle.std.specs.Prelude.{◌≡◌, ◌∷◌, [], IfOk, OnOk};
-ghost use Rattle.crif_reader.specs.Growth.{with_entry, place_of, IsIndex};
+ghost use Rattle.std.specs.Prelude.{◌≡◌, ◌∷◌, [], ℕ, List, length, unwrap_or, Some, None, IfOk, OnOk, if◌then◌else◌};
+ghost use Rattle.std.specs.BTreeMap.{get};
+ghost use Rattle.simm_kinds.specs.NameText.{IsName};
+ghost use Rattle.simm_kinds.specs.Order.{name_cmp, same_name};
+ghost use Rattle.crif_reader.specs.Growth.{with_entry, grown, is_newest, IsApart, IsIndex};
 
 use crate::row::Entry;
 use simm_kinds::{CrifRow, Listed, Name, TradeRows};
 use std::alloc::{AllocError, Global};
 use std::collections::BTreeMap;
+use std::mem;
 
-/// A trade with one row.
-fn started_trade(alloc: Global, trade: Name, row: CrifRow) -> Result<TradeRows, AllocError>
-    ensures { IfOk result (λ t. t ≡ record { trade = trade; rows = row ∷ [] }) }
-{
-    let mut rows = Listed::with_capacity(alloc, 1)?;
-    rows.push(row)?;
-    Ok(TradeRows { trade, rows })
+/// A trade's rows are moved to a list of their size where they are at most so many; a longer list is kept as it is.
+const FEW: usize = 1000;
+
+/// The rows so far, by trade. The rows of a trade mostly stand together: those of the newest trade wait in a list with room for
+/// more, and only the name of another trade is looked up.
+#[derive(Drop)]
+pub struct Gathering {
+    trades: Vec<TradeRows>,
+    newest: Option<Name>,
+    rows: Vec<CrifRow>,
+    places: BTreeMap<Name, usize>,
 }
 
-/// The place of the trade with this name. The rows of a trade mostly stand together, so the last trade is asked first.
-fn trade_place(trades: &[TradeRows], places: &BTreeMap<Name, usize>, name: &Name) -> Option<usize>
-    requires { IsIndex places.now trades.now }
-    ensures { result ≡ place_of name.now trades.now }
-{
-    match trades.last() {
-        Some(last) if last.trade == *name => Some(trades.len() - 1),
-        _ => places.get(name).copied(),
-    }
-}
-
-/// Adds a row at the end of its trade, or with a new trade behind the others. `places` has the place of each trade. The name is
-/// copied for a new trade alone.
-pub fn add_entry(
+/// The place of the trade with this name; a new one is noted at the end of so many.
+fn place_or_end(
     alloc: Global,
-    trades: &mut Vec<TradeRows>,
     places: &mut BTreeMap<Name, usize>,
-    added: Entry,
-) -> Result<(), AllocError>
-    requires { IsIndex places.old trades.old.items }
-    ensures trades { OnOk result (trades.new.items ≡ with_entry trades.old.items (record { trade = added.trade; row = added.row })) }
-    ensures index { OnOk result (IsIndex places.new trades.new.items) }
+    trade: &[u8],
+    count: usize,
+) -> Result<usize, AllocError>
+    requires { IsName trade.now }
+    ensures place { IfOk result (λ place. place ≡ unwrap_or (get name_cmp places.old trade.now) count) }
+    ensures noted { IfOk result (λ place. (name : List ℕ) → get name_cmp places.new name ≡ (if same_name trade.now name then Some place else get name_cmp places.old name)) }
 {
-    let Entry { trade, row } = added;
-    match trade_place(trades.as_slice(), places, &trade) {
-        Some(place) => trades[place].rows.push(row)?,
-        None => {
-            let name = trade.copy(alloc)?;
-            let started = started_trade(alloc, trade, row)?;
-            places.insert(name, trades.len())?;
-            trades.push(started)?;
+    let name = Name::of_bytes(alloc, trade)?;
+    Ok(*places.entry(name)?.or_insert(count))
+}
+
+/// Takes the rows out.
+fn taken_rows(alloc: Global, rows: &mut Vec<CrifRow>) -> Result<Vec<CrifRow>, AllocError>
+    ensures taken { IfOk result (λ taken. taken.items ≡ rows.old.items) }
+    ensures left { OnOk result (rows.new.items ≡ []) }
+{
+    if rows.len() > FEW {
+        return Ok(mem::replace(rows, Vec::new(alloc)));
+    }
+    let mut taken = Vec::with_capacity(alloc, rows.len())?;
+    taken.append(rows)?;
+    Ok(taken)
+}
+
+impl Gathering {
+    /// No rows. It takes no memory.
+    pub fn new(alloc: Global) -> Gathering
+        ensures trades { grown result ≡ [] }
+        ensures index { IsIndex result }
+    {
+        Gathering {
+            trades: Vec::new(alloc),
+            newest: None,
+            rows: Vec::new(alloc),
+            places: BTreeMap::new(alloc),
         }
     }
-    Ok(())
+
+    /// Whether this is the name of the newest trade.
+    fn is_newest(&self, trade: &[u8]) -> bool
+        ensures { result ≡ is_newest self.now.newest trade.now }
+    {
+        match &self.newest {
+            Some(name) => name.bytes() == trade,
+            None => false,
+        }
+    }
+
+    /// How many trades there are.
+    fn count(&self) -> usize
+        ensures { result ≡ length (grown self.now) }
+    {
+        self.trades.len() + usize::from(self.newest.is_some())
+    }
+
+    /// Adds a row at the end of its trade, or with a new trade behind the others. The only error is want of memory.
+    pub fn add(&mut self, alloc: Global, added: Entry) -> Result<(), AllocError>
+        requires index { IsIndex self.old }
+        requires name { IsName added.trade.now }
+        ensures trades { OnOk result (grown self.new ≡ with_entry (grown self.old) (record { trade = added.entry.trade.now; row = added.entry.row })) }
+        ensures index { OnOk result (IsIndex self.new) }
+    {
+        let Entry { trade, row } = added;
+        if self.is_newest(trade) {
+            self.rows.push(row)?;
+            return Ok(());
+        }
+        let count = self.count();
+        let place = place_or_end(alloc, &mut self.places, trade, count)?;
+        if place == count {
+            self.finish(alloc)?;
+            self.newest = Some(Name::of_bytes(alloc, trade)?);
+            self.rows.push(row)?;
+        } else {
+            self.trades[place].rows.push(row)?;
+        }
+        Ok(())
+    }
+
+    /// Puts the newest trade behind the others.
+    fn finish(&mut self, alloc: Global) -> Result<(), AllocError>
+        requires { IsApart self.old.trades.items self.old.newest self.old.rows.items }
+        ensures trades { OnOk result (self.new.trades.items ≡ grown self.old) }
+        ensures newest { OnOk result (self.new.newest ≡ None) }
+        ensures rows { OnOk result (self.new.rows.items ≡ []) }
+        ensures places { self.new.places ≡ self.old.places }
+    {
+        if let Some(trade) = self.newest.take() {
+            let rows = Listed::from_vec(taken_rows(alloc, &mut self.rows)?);
+            self.trades.push(TradeRows { trade, rows })?;
+        }
+        Ok(())
+    }
+
+    /// The trades with their rows. The only error is want of memory.
+    pub fn into_trades(mut self, alloc: Global) -> Result<Vec<TradeRows>, AllocError>
+        requires { IsIndex self }
+        ensures { IfOk result (λ trades. trades.items ≡ grown self) }
+    {
+        self.finish(alloc)?;
+        Ok(self.trades)
+    }
 }

@@ -6,7 +6,7 @@ ghost use Rattle.crif_reader.specs.Row.{row_of};
 ghost use Rattle.crif_reader.specs.Grammar.{at_record, crif_of, rows_of};
 
 use crate::columns::{Columns, columns_of};
-use crate::gather::add_entry;
+use crate::gather::Gathering;
 use crate::params::Params;
 use crate::records::{next_record, open};
 use crate::row::{Entry, row_of};
@@ -15,7 +15,6 @@ use crate::{CrifFault, RowFault};
 use csv::{ByteRecord, Reader};
 use simm_kinds::{Batch, Listed, TradeRows};
 use std::alloc::Global;
-use std::collections::BTreeMap;
 
 /// The number of the first record that is one too many: the header is the first, and 100,000 may follow it.
 const TOO_MANY: u32 = 100_002;
@@ -35,13 +34,13 @@ struct Gathered {
 }
 
 /// The row of the record with this number, or `None` where it is passed over.
-fn read_row(
+fn read_row<'a>(
     alloc: Global,
     number: u32,
     columns: &Columns,
-    fields: &ByteRecord,
-) -> Result<Option<Entry>, CrifFault>
-    ensures { Gives (λ o. option_map (λ e. record { trade = e.trade; row = e.row }) o) result (at_record number (row_of columns.now (fields_of fields.now))) }
+    fields: &'a ByteRecord,
+) -> Result<Option<Entry<'a>>, CrifFault>
+    ensures { Gives (λ o. option_map (λ e. record { trade = e.trade.now; row = e.row }) o) result (at_record number (row_of columns.now (fields_of fields.now))) }
 {
     match row_of(alloc, columns, fields) {
         Ok(row) => Ok(row),
@@ -59,8 +58,7 @@ fn read_rows(
     requires { IsReading reader.old }
     ensures { Gives (λ g. record { trades = g.trades.items; passed_over = g.passed_over }) result (rows_of columns.now (records_left reader.old)) }
 {
-    let mut trades = Vec::new(alloc);
-    let mut places = BTreeMap::new(alloc);
+    let mut gathering = Gathering::new(alloc);
     let mut params = Params::new(alloc);
     let mut fields = ByteRecord::new(alloc);
     let mut number = 2u32;
@@ -69,18 +67,23 @@ fn read_rows(
         if number == TOO_MANY {
             return Err(CrifFault::TooManyRows);
         }
-        match read_row(alloc, number, columns, &fields)? {
+        let taken = match read_row(alloc, number, columns, &fields) {
+            Ok(taken) => taken,
+            Err(fault) => return Err(fault),
+        };
+        match taken {
             Some(entry) => {
                 if !params.note(alloc, &entry.row)? {
                     let fault = RowFault::DuplicateParam;
                     return Err(CrifFault::Row { number, fault });
                 }
-                add_entry(alloc, &mut trades, &mut places, entry)?;
+                gathering.add(alloc, entry)?;
             }
             None => passed_over += 1,
         }
         number += 1;
     }
+    let trades = gathering.into_trades(alloc)?;
     if trades.is_empty() {
         return Err(CrifFault::EmptyBatch);
     }

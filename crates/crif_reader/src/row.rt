@@ -4,7 +4,7 @@ ghost use Rattle.csv.specs.Records.{fields_of};
 ghost use Rattle.simm_kinds.specs.Words.{is_word};
 ghost use Rattle.crif_reader.specs.Reads.{GivesRow};
 ghost use Rattle.crif_reader.specs.Fields.{texts};
-ghost use Rattle.crif_reader.specs.Row.{trade_of, product_of, amount_text, amount_of, rate_of, sensitivity_of, notional_of, fixed_amount_of, notional_factor_of, multiplier_of, entry_of, is_present_value, typed_of, model_of, text_row_of, row_of};
+ghost use Rattle.crif_reader.specs.Row.{trade_of, product_of, amount_text, amount_of, rate_of, sensitivity_of, notional_of, fixed_amount_of, notional_factor_of, multiplier_of, entry_of, is_present_value, typed_of, model_of, row_of};
 
 use crate::RowFault;
 use crate::columns::Columns;
@@ -17,19 +17,19 @@ use mh_units::{Cents, Rate4, read_cents, read_rate4};
 use simm_kinds::{CrifRow, FactorKey, Name, ProductClass, RiskType};
 use std::alloc::Global;
 
-/// A row, and the name of the trade that it belongs to; it is empty for a parameter of an add-on.
+/// A row, and the name of the trade that it belongs to, which the record lends; it is empty for a parameter of an add-on.
 #[derive(Drop)]
-pub struct Entry {
-    pub trade: Name,
+pub struct Entry<'a> {
+    pub trade: &'a [u8],
     pub row: CrifRow,
 }
 
 /// The name of the row's trade: it isn't empty.
-fn trade_of(alloc: Global, fields: &Fields) -> Result<Name, RowStop>
-    ensures { GivesRow (λ n. n) result (trade_of (texts fields.now)) }
+fn trade_of<'a>(fields: &Fields<'a>) -> Result<&'a [u8], RowStop>
+    ensures { GivesRow (λ t. t.now) result (trade_of (texts fields.now)) }
 {
     if Name::is_full_name(fields.trade_id) {
-        Ok(Name::of_bytes(alloc, fields.trade_id)?)
+        Ok(fields.trade_id)
     } else {
         Err(RowStop::Fault(RowFault::Trade))
     }
@@ -71,10 +71,14 @@ fn rate_of(fields: &Fields) -> Result<Rate4, RowFault>
 }
 
 #[tactic(auto, unfolding(crate::specs::Row::sensitivity_of))]
-fn sensitivity_of(alloc: Global, kind: RiskType, fields: &Fields) -> Result<Entry, RowStop>
-    ensures { GivesRow (λ e. record { trade = e.trade; row = e.row }) result (sensitivity_of kind (texts fields.now)) }
+fn sensitivity_of<'a>(
+    alloc: Global,
+    kind: RiskType,
+    fields: &Fields<'a>,
+) -> Result<Entry<'a>, RowStop>
+    ensures { GivesRow (λ e. record { trade = e.trade.now; row = e.row }) result (sensitivity_of kind (texts fields.now)) }
 {
-    let trade = trade_of(alloc, fields)?;
+    let trade = trade_of(fields)?;
     let product = product_of(fields)?;
     let factor = factor_of(alloc, kind, fields)?;
     let amount = amount_of(fields)?;
@@ -86,10 +90,10 @@ fn sensitivity_of(alloc: Global, kind: RiskType, fields: &Fields) -> Result<Entr
 }
 
 #[tactic(auto, unfolding(crate::specs::Row::notional_of))]
-fn notional_of(alloc: Global, fields: &Fields) -> Result<Entry, RowStop>
-    ensures { GivesRow (λ e. record { trade = e.trade; row = e.row }) result (notional_of (texts fields.now)) }
+fn notional_of<'a>(alloc: Global, fields: &Fields<'a>) -> Result<Entry<'a>, RowStop>
+    ensures { GivesRow (λ e. record { trade = e.trade.now; row = e.row }) result (notional_of (texts fields.now)) }
 {
-    let trade = trade_of(alloc, fields)?;
+    let trade = trade_of(fields)?;
     let qualifier = read_name(alloc, RowFault::Qualifier, fields.qualifier)?;
     let amount = amount_of(fields)?;
     Ok(Entry {
@@ -99,22 +103,22 @@ fn notional_of(alloc: Global, fields: &Fields) -> Result<Entry, RowStop>
 }
 
 #[tactic(auto, unfolding(crate::specs::Row::fixed_amount_of))]
-fn fixed_amount_of(alloc: Global, fields: &Fields) -> Result<Entry, RowStop>
-    ensures { GivesRow (λ e. record { trade = e.trade; row = e.row }) result (fixed_amount_of (texts fields.now)) }
+fn fixed_amount_of<'a>(fields: &Fields<'a>) -> Result<Entry<'a>, RowStop>
+    ensures { GivesRow (λ e. record { trade = e.trade.now; row = e.row }) result (fixed_amount_of (texts fields.now)) }
 {
     let amount = amount_of(fields)?;
     if amount.0 < 0 {
         return Err(RowStop::Fault(RowFault::ParamRange(amount.0)));
     }
     Ok(Entry {
-        trade: Name::empty(alloc),
+        trade: &[],
         row: CrifRow::FixedAmount(amount),
     })
 }
 
 #[tactic(auto, unfolding(crate::specs::Row::notional_factor_of))]
-fn notional_factor_of(alloc: Global, fields: &Fields) -> Result<Entry, RowStop>
-    ensures { GivesRow (λ e. record { trade = e.trade; row = e.row }) result (notional_factor_of (texts fields.now)) }
+fn notional_factor_of<'a>(alloc: Global, fields: &Fields<'a>) -> Result<Entry<'a>, RowStop>
+    ensures { GivesRow (λ e. record { trade = e.trade.now; row = e.row }) result (notional_factor_of (texts fields.now)) }
 {
     let qualifier = read_full_name(alloc, RowFault::Qualifier, fields.qualifier)?;
     let factor = rate_of(fields)?;
@@ -122,14 +126,14 @@ fn notional_factor_of(alloc: Global, fields: &Fields) -> Result<Entry, RowStop>
         return Err(RowStop::Fault(RowFault::ParamRange(i128::from(factor.0))));
     }
     Ok(Entry {
-        trade: Name::empty(alloc),
+        trade: &[],
         row: CrifRow::NotionalFactor { qualifier, factor },
     })
 }
 
 #[tactic(auto, unfolding(crate::specs::Row::multiplier_of))]
-fn multiplier_of(alloc: Global, fields: &Fields) -> Result<Entry, RowStop>
-    ensures { GivesRow (λ e. record { trade = e.trade; row = e.row }) result (multiplier_of (texts fields.now)) }
+fn multiplier_of<'a>(fields: &Fields<'a>) -> Result<Entry<'a>, RowStop>
+    ensures { GivesRow (λ e. record { trade = e.trade.now; row = e.row }) result (multiplier_of (texts fields.now)) }
 {
     let product = ProductClass::read(fields.qualifier).ok_or(RowFault::Qualifier)?;
     let factor = rate_of(fields)?;
@@ -137,14 +141,14 @@ fn multiplier_of(alloc: Global, fields: &Fields) -> Result<Entry, RowStop>
         return Err(RowStop::Fault(RowFault::ParamRange(i128::from(factor.0))));
     }
     Ok(Entry {
-        trade: Name::empty(alloc),
+        trade: &[],
         row: CrifRow::Multiplier { product, factor },
     })
 }
 
 /// The row of a record of this risk type.
-fn entry_of(alloc: Global, kind: RiskType, fields: &Fields) -> Result<Entry, RowStop>
-    ensures { GivesRow (λ e. record { trade = e.trade; row = e.row }) result (entry_of kind (texts fields.now)) }
+fn entry_of<'a>(alloc: Global, kind: RiskType, fields: &Fields<'a>) -> Result<Entry<'a>, RowStop>
+    ensures { GivesRow (λ e. record { trade = e.trade.now; row = e.row }) result (entry_of kind (texts fields.now)) }
 {
     match kind {
         RiskType::IrCurve
@@ -165,8 +169,8 @@ fn entry_of(alloc: Global, kind: RiskType, fields: &Fields) -> Result<Entry, Row
         | RiskType::FxVol => sensitivity_of(alloc, kind, fields),
         RiskType::Notional => notional_of(alloc, fields),
         RiskType::AddOnNotionalFactor => notional_factor_of(alloc, fields),
-        RiskType::AddOnFixedAmount => fixed_amount_of(alloc, fields),
-        RiskType::ProductClassMultiplier => multiplier_of(alloc, fields),
+        RiskType::AddOnFixedAmount => fixed_amount_of(fields),
+        RiskType::ProductClassMultiplier => multiplier_of(fields),
         RiskType::Pv => Err(RowStop::Fault(RowFault::RiskType)),
     }
 }
@@ -179,23 +183,22 @@ fn is_present_value(kind: RiskType) -> bool
 
 /// The row of a record of the model, or `None` where it is passed over.
 #[tactic(auto, unfolding(crate::specs::Row::typed_of))]
-fn typed_of(alloc: Global, fields: &Fields) -> Result<Option<Entry>, RowStop>
-    ensures { GivesRow (λ o. option_map (λ e. record { trade = e.trade; row = e.row }) o) result (typed_of (texts fields.now)) }
+fn typed_of<'a>(alloc: Global, fields: &Fields<'a>) -> Result<Option<Entry<'a>>, RowStop>
+    ensures { GivesRow (λ o. option_map (λ e. record { trade = e.trade.now; row = e.row }) o) result (typed_of (texts fields.now)) }
 {
     let kind = RiskType::read(fields.risk_type).ok_or(RowFault::RiskType)?;
     if is_present_value(kind) {
         return Ok(None);
     }
-    let entry = entry_of(alloc, kind, fields)?;
-    Ok(Some(entry))
+    match entry_of(alloc, kind, fields) {
+        Ok(entry) => Ok(Some(entry)),
+        Err(stop) => Err(stop),
+    }
 }
 
-fn text_row_of(alloc: Global, fields: &Fields) -> Result<Option<Entry>, RowStop>
-    ensures { GivesRow (λ o. option_map (λ e. record { trade = e.trade; row = e.row }) o) result (text_row_of (texts fields.now)) }
+fn model_of<'a>(alloc: Global, fields: &Fields<'a>) -> Result<Option<Entry<'a>>, RowStop>
+    ensures { GivesRow (λ o. option_map (λ e. record { trade = e.trade.now; row = e.row }) o) result (model_of (texts fields.now)) }
 {
-    if !fields.are_text() {
-        return Err(RowStop::Fault(RowFault::NotUtf8));
-    }
     if is_word("Schedule", fields.im_model) {
         return Ok(None);
     }
@@ -203,15 +206,18 @@ fn text_row_of(alloc: Global, fields: &Fields) -> Result<Option<Entry>, RowStop>
 }
 
 /// The row of a record, or `None` where the record is passed over: a present value, or a record of the schedule.
-pub fn row_of(
+pub fn row_of<'a>(
     alloc: Global,
     columns: &Columns,
-    fields: &ByteRecord,
-) -> Result<Option<Entry>, RowStop>
-    ensures { GivesRow (λ o. option_map (λ e. record { trade = e.trade; row = e.row }) o) result (row_of columns.now (fields_of fields.now)) }
+    fields: &'a ByteRecord,
+) -> Result<Option<Entry<'a>>, RowStop>
+    ensures { GivesRow (λ o. option_map (λ e. record { trade = e.trade.now; row = e.row }) o) result (row_of columns.now (fields_of fields.now)) }
 {
     if fields.len() > columns.count {
         return Err(RowStop::Fault(RowFault::FieldCount));
     }
-    text_row_of(alloc, &Fields::of(columns, fields))
+    match Fields::read(columns, fields) {
+        Some(texts) => model_of(alloc, &texts),
+        None => Err(RowStop::Fault(RowFault::NotUtf8)),
+    }
 }

@@ -1,33 +1,41 @@
-use Rattle.std.proofs.Common.{◌∙◌, ◌≡◌, ◌≢◌, ◌∷◌, [], length, sym, arith, rules, vec_len}
-use Rattle.std.proofs.lemmas.Result.{err_from_is_err_and}
+use Rattle.std.proofs.Common.{◌∙◌, ◌≡◌, ◌≢◌, ◌∷◌, [], length, Some, Ok, sym, ap, arith, rules, vec_len}
 use Rattle.std.proofs.lemmas.Bool.{eqb-false, eqb-true, not-true, not-false}
 use Rattle.csv.specs.Records.{fields_of}
+use Rattle.crif_reader.specs.declared.fault.CrifFault.TheVariants.{Row}
+use Rattle.crif_reader.specs.Growth.{grown}
 use Rattle.crif_reader.specs.Records.{records_left}
+use Rattle.crif_reader.specs.Row.{row_of}
+use Rattle.crif_reader.proofs.Binds.{mapped_ok}
+use Rattle.crif_reader.proofs.GoodRows.{good_row}
 use Rattle.crif_reader.proofs.Runs.{way_starts, way_passes, way_takes, way_fails, way_repeats, way_too_long, way_ends, way_ends_empty}
-use Rattle.crif_reader.proofs.Places.{last_first-none}
 use Rattle.crif_reader.proofs.read.read_rows.Goals as goal
-use Rattle.crif_reader.proofs.read.read_rows.Goals.{in-Some+in_ok-note-in-Some+else-not-branch+in_ok-add_entry-in-Some, in-None}
+use Rattle.crif_reader.proofs.read.read_rows.Goals.{in-Some+in_ok-note-in-Some+else-not-branch+in_ok-add-in-Some, in-None}
 
 pub loop-fields-init : goal.loop-fields-init
 loop-fields-init c =
     record {
       reading = c.requires;
-      index = rw c.new-trades.ensures.items (record { found = λ name. search rules; last = last_first-none });
-      way = rw c.new-trades.ensures.items (way_starts c.args.columns.now (records_left c.args.reader.now) c.new-params.result c.new-params.ensures);
+      index = c.new-gathering.ensures.index;
+      way = rw c.new-gathering.ensures.trades (way_starts c.args.columns.now (records_left c.args.reader.now) c.new-params.result c.new-params.ensures);
       few = omega arith;
     }
 
 pub returns-then-number-eq-TOO_MANY : goal.returns-then-number-eq-TOO_MANY
 returns-then-number-eq-TOO_MANY c =
     let left : records_left c.loop-fields.reader ≡ fields_of c.next_record.new.taken ∷ records_left c.next_record.new.reader = rw c.if-branch.true at c.in_ok-next_record.ensures.record in
-    way_too_long _ _ c.loop-fields.number c.loop-fields.passed_over c.loop-fields.params c.loop-fields.trades.items _ _ (omega arith) (rw left at c.loop-fields.invariant.way)
+    way_too_long _ _ c.loop-fields.number c.loop-fields.passed_over c.loop-fields.params (grown c.loop-fields.gathering) _ _ (omega arith) (rw left at c.loop-fields.invariant.way)
 
-pub returns-in_err-entry : goal.returns-in_err-entry
-returns-in_err-entry c =
+pub returns-in-Err : goal.returns-in-Err
+returns-in-Err c =
     let left : records_left c.loop-fields.reader ≡ fields_of c.next_record.new.taken ∷ records_left c.next_record.new.reader = rw c.if-branch.true at c.in_ok-next_record.ensures.record in
     let few : c.loop-fields.number ≢ 100002 = omega arith in
-    let p = err_from_is_err_and c.from_residual-in_err-entry.result c.from_residual-in_err-entry.ensures.1 in
-    rw (p.1, p.2) (way_fails _ _ c.loop-fields.number c.loop-fields.passed_over c.loop-fields.params c.loop-fields.trades.items _ _ _ few c.in_err-entry.ensures (rw left at c.loop-fields.invariant.way))
+    way_fails _ _ c.loop-fields.number c.loop-fields.passed_over c.loop-fields.params (grown c.loop-fields.gathering) _ _ c.in-Err.fault few c.in-Err.ensures (rw left at c.loop-fields.invariant.way)
+
+pub add-requires-clause-name : goal.add-requires-clause-name
+add-requires-clause-name c =
+    let fields = fields_of c.next_record.new.taken in
+    let read = mapped_ok (λ d. Row c.loop-fields.number d) (row_of c.args.columns.now fields) _ (rw c.in-Some.is at c.in-Ok.ensures) in
+    (good_row c.args.columns.now fields (record { trade = c.in-Some.entry.trade.now; row = c.in-Some.entry.row }) read).name
 
 pub loop-fields-preserved : goal.loop-fields-preserved
 loop-fields-preserved c =
@@ -35,15 +43,15 @@ loop-fields-preserved c =
     let way = rw left at c.loop-fields.invariant.way in
     let few : c.loop-fields.number ≢ 100002 = omega arith in
     let reading = c.in_ok-next_record.ensures.reading c.if-branch.true in
-    elim c.match-branch-3.branch [
-      | in-Some+in_ok-note-in-Some+else-not-branch+in_ok-add_entry-in-Some w ↦
+    elim c.match-taken.branch [
+      | in-Some+in_ok-note-in-Some+else-not-branch+in_ok-add-in-Some w ↦
           let once = w.if-not-branch.false in
           record {
             reading = reading;
-            index = rw (w.trades-is, w.places-is) w.in_ok-add_entry-in-Some.ensures.index;
-            way = rw (w.trades-is, w.passed_over-is, w.params-is, w.in_ok-add_entry-in-Some.ensures.trades) (
-                way_takes _ _ c.loop-fields.number c.loop-fields.passed_over c.loop-fields.params w.note.new.self c.loop-fields.trades.items _ _ (record { trade = w.in-Some.entry.trade; row = w.in-Some.entry.row }) few
-                (rw w.in-Some.is at c.in_ok-entry.ensures)
+            index = rw w.gathering-is w.in_ok-add-in-Some.ensures.index;
+            way = rw (w.gathering-is, w.passed_over-is, w.params-is, w.in_ok-add-in-Some.ensures.trades) (
+                way_takes _ _ c.loop-fields.number c.loop-fields.passed_over c.loop-fields.params w.note.new.self (grown c.loop-fields.gathering) _ _ (record { trade = w.in-Some.entry.trade.now; row = w.in-Some.entry.row }) few
+                (rw w.in-Some.is at c.in-Ok.ensures)
                 (λ before noted. not-true _ (sym (w.in_ok-note-in-Some.ensures.once before noted) ∙ once))
                 (λ before noted. w.in_ok-note-in-Some.ensures.noted before noted once)
                 way
@@ -52,8 +60,8 @@ loop-fields-preserved c =
           }
       | in-None w ↦ record {
         reading = reading;
-        index = rw (w.trades-is, w.places-is) c.loop-fields.invariant.index;
-        way = rw (w.trades-is, w.passed_over-is, w.params-is) (way_passes _ _ c.loop-fields.number c.loop-fields.passed_over c.loop-fields.params c.loop-fields.trades.items _ _ few (rw w.in-None.is at c.in_ok-entry.ensures) way);
+        index = rw w.gathering-is c.loop-fields.invariant.index;
+        way = rw (w.gathering-is, w.passed_over-is, w.params-is) (way_passes _ _ c.loop-fields.number c.loop-fields.passed_over c.loop-fields.params (grown c.loop-fields.gathering) _ _ few (rw w.in-None.is at c.in-Ok.ensures) way);
         few = omega arith;
       }
     ]
@@ -62,21 +70,21 @@ pub returns-then-not-branch : goal.returns-then-not-branch
 returns-then-not-branch c =
     let left : records_left c.loop-fields.reader ≡ fields_of c.next_record.new.taken ∷ records_left c.next_record.new.reader = rw c.if-branch.true at c.in_ok-next_record.ensures.record in
     let few : c.loop-fields.number ≢ 100002 = omega arith in
-    way_repeats _ _ c.loop-fields.number c.loop-fields.passed_over c.loop-fields.params c.loop-fields.trades.items _ _ (record { trade = c.in-Some.entry.trade; row = c.in-Some.entry.row }) few
-    (rw c.in-Some.is at c.in_ok-entry.ensures)
+    way_repeats _ _ c.loop-fields.number c.loop-fields.passed_over c.loop-fields.params (grown c.loop-fields.gathering) _ _ (record { trade = c.in-Some.entry.trade.now; row = c.in-Some.entry.row }) few
+    (rw c.in-Some.is at c.in-Ok.ensures)
     (λ before noted. not-false _ (sym (c.in_ok-note-in-Some.ensures.once before noted) ∙ c.if-not-branch.true))
     (rw left at c.loop-fields.invariant.way)
 
 pub returns-then-is_empty : goal.returns-then-is_empty
 returns-then-is_empty c =
     let left : records_left c.loop-fields.reader ≡ [] = rw c.if-branch.false at c.in_ok-next_record.ensures.record in
-    let empty : vec_len c.loop-fields.trades ≡ 0 = eqb-true (vec_len c.loop-fields.trades) 0 (sym c.if-is_empty.ensures) in
-    let none : length c.loop-fields.trades.items ≡ 0 = omega (arith, c.loop-fields.trades.ok.0) in
-    way_ends_empty _ _ c.loop-fields.number c.loop-fields.passed_over c.loop-fields.params c.loop-fields.trades.items none (rw left at c.loop-fields.invariant.way)
+    let empty : vec_len c.in_ok-trades.trades ≡ 0 = eqb-true (vec_len c.in_ok-trades.trades) 0 (sym c.if-is_empty.ensures) in
+    let none : length c.in_ok-trades.trades.items ≡ 0 = omega (arith, c.in_ok-trades.trades.ok.0) in
+    way_ends_empty _ _ c.loop-fields.number c.loop-fields.passed_over c.loop-fields.params (grown c.loop-fields.gathering) (ap length (sym c.in_ok-trades.ensures) ∙ none) (rw left at c.loop-fields.invariant.way)
 
 pub returns : goal.returns
 returns c =
     let left : records_left c.loop-fields.reader ≡ [] = rw c.if-branch.false at c.in_ok-next_record.ensures.record in
-    let there : vec_len c.loop-fields.trades ≢ 0 = eqb-false (vec_len c.loop-fields.trades) 0 (sym c.if-is_empty.ensures) in
-    let some : length c.loop-fields.trades.items ≢ 0 = omega (arith, c.loop-fields.trades.ok.0) in
-    way_ends _ _ c.loop-fields.number c.loop-fields.passed_over c.loop-fields.params c.loop-fields.trades.items some (rw left at c.loop-fields.invariant.way)
+    let there : vec_len c.in_ok-trades.trades ≢ 0 = eqb-false (vec_len c.in_ok-trades.trades) 0 (sym c.if-is_empty.ensures) in
+    let some : length c.in_ok-trades.trades.items ≢ 0 = omega (arith, c.in_ok-trades.trades.ok.0) in
+    rw c.in_ok-trades.ensures (way_ends _ _ c.loop-fields.number c.loop-fields.passed_over c.loop-fields.params (grown c.loop-fields.gathering) (λ none. some (ap length c.in_ok-trades.ensures ∙ none)) (rw left at c.loop-fields.invariant.way))

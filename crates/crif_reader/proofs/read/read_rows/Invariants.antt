@@ -1,14 +1,14 @@
 use Rattle.std.proofs.Common.{◌≤◌, length}
 use Rattle.crif_reader.specs.Records.{records_left, IsReading}
-use Rattle.crif_reader.specs.Growth.{IsIndex}
+use Rattle.crif_reader.specs.Growth.{grown, IsIndex}
 use Rattle.crif_reader.proofs.Runs.{IsUnderWay}
 use Rattle.crif_reader.proofs.read.read_rows.Given as goal
 
 abbrev pub invariant-loop-fields : goal.invariant-loop-fields
 invariant-loop-fields l = record {
   reading : IsReading l.reader;
-  index : IsIndex l.places l.trades.items;
-  way : IsUnderWay l.columns (records_left l.fn.reader) l.number l.passed_over l.params l.trades.items (records_left l.reader);
+  index : IsIndex l.gathering;
+  way : IsUnderWay l.columns (records_left l.fn.reader) l.number l.passed_over l.params (grown l.gathering) (records_left l.reader);
   few : l.number ≤ 100002;
 }
 
