@@ -11,9 +11,9 @@ ghost use Rattle.simm_rules.specs.Simm.{simm};
 ghost use Rattle.factor_book.specs.Factors.{factors_of};
 ghost use Rattle.class_combine.specs.Lent.{all_rows};
 
-use class_combine::LentRows;
 use book_margin::margin_in_range;
 use book_range::{range_bounds, range_fault};
+use class_combine::LentRows;
 use factor_book::Factors;
 use simm_params::Params;
 use simm_rules::{Breakdown, RangeFault, RangeKind};
