@@ -9,11 +9,11 @@ use Rattle.simm_rules.specs.Net.{Sensitivity, net, keys_of}
 use Rattle.factor_book.specs.declared.place.Place.{Place}
 use Rattle.factor_book.specs.declared.holding.Holding.{Holding}
 use Rattle.factor_book.specs.Factors.{factors_in, factor_of, size_of, count_of}
-use Rattle.factor_book.specs.Holdings.{grown, shrunk, IsSmall, CanGrow, CanShrink}
+use Rattle.factor_book.specs.Holdings.{grown, shrunk, rows_in, IsSmall, CanGrow, CanShrink}
 use Rattle.factor_book.specs.Filing.{found, AreFiled, gathered, AreSmall, AreNetted, IsFiledBook, HasRoomFor, Holds}
 use Rattle.factor_book.proofs.Keys.{same_key_refl, one_key}
 use Rattle.factor_book.proofs.Sorting.{one_unless, length-different}
-use Rattle.factor_book.proofs.Held.{holding, of_key, come_to, come_to-more, come_to-less, swapped, taken_first, same_factors, net_size, size_size, count_below}
+use Rattle.factor_book.proofs.Held.{holding, of_key, come_to, rows_in-come_to, come_to-more, come_to-less, swapped, taken_first, same_factors, net_size, size_size, count_below}
 use Rattle.factor_book.proofs.Filed.{found-from, gathered-from, count_written}
 
 -- ---- sensitivities in another order
@@ -104,18 +104,6 @@ book_known old new keys key amount b g put small known = record {
     by false e = absurd (false≢true (sym e))
 
 -- ---- room
-
-rows_in : Option Holding → ℕ
-rows_in None = 0
-rows_in (Some h) = h.rows
-
-rows_in-holding : (n s : ℤ) (c : ℕ) → rows_in (holding n s c) ≡ c
-unfolding rows_in
-rows_in-holding n s zero = refl
-rows_in-holding n s (suc c) = refl
-
-rows_in-come_to : (ss : List Sensitivity) (k : FactorKey) → rows_in (come_to ss k) ≡ count_of ss k
-rows_in-come_to ss k = rows_in-holding (net ss k) (size_of ss k) (count_of ss k)
 
 grows : (n s : ℤ) (c : ℕ) → unsigned_abs n ≤ c * 10 ^ 15 → unsigned_abs s ≤ c * 10 ^ 15 → c + 1 < 2 ^ 32 → IfSome (holding n s c) CanGrow
 grows n s zero net size few = tt

@@ -3,7 +3,7 @@ use Rattle.std.proofs.Common.{◌≡◌, ◌+◌, List, [], ◌∷◌, ◌++◌,
 use Rattle.std.specs.Prelude.{is_some, ◌≢◌}
 use Rattle.std.specs.Ordering.{is_eq}
 use Rattle.std.specs.Option.{unwrap_or}
-use Rattle.std.specs.List.{filter, flat_map}
+use Rattle.std.specs.List.{filter, flat_map, list_any}
 use Rattle.std.specs.List.Sorted.{IsStrictlySortedBy, IsPermutation}
 use Rattle.std.specs.Map.{lookup, keys_of}
 use Rattle.std.specs.BTreeMap.{insert_entry, is_at}
@@ -106,6 +106,12 @@ gathered-from filed ss f e = factors_from (gathered filed) ss (order_ascends (fl
 at_places : (place : Place) (fs : List (FactorKey × Holding)) → factors_at place fs ≡ filter (λ x. is_eq (place_cmp place (place_of x.0))) fs
 at_places place fs = filter_agree (λ (x : FactorKey × Holding). stands_at place x.0) (λ x. is_eq (place_cmp place (place_of x.0))) (λ x. at_place place x.0) fs
 
+-- something stands at the places that there are
+pub any_at : (place : Place) (fs : List (FactorKey × Holding)) → any_is (factors_at place fs) ≡ list_any (is_at (place_cmp place)) (places_of fs)
+any_at place fs =
+    ap any_is (at_places place fs)
+    ∙ sym (any_different place_cmp (is_at (place_cmp place)) (tied_place place) (map (λ x. place_of x.0) fs) ∙ any-filter (is_at (place_cmp place)) (λ x. place_of x.0) fs)
+
 module _ (filed : List (Place × List (FactorKey × Holding))) (f : AreFiled filed) (place : Place) where
   found-unwrapped : (o : Option (List (FactorKey × Holding))) (k : FactorKey) → lookup (same_key k) (unwrap_or o []) ≡ found_in o k
   found-unwrapped None k = refl
@@ -151,8 +157,7 @@ module _ (filed : List (Place × List (FactorKey × Holding))) (f : AreFiled fil
       let fs : List (FactorKey × Holding) = gathered filed in
       filled (lookup (is_at (place_cmp place)) filed) (f.placed place)
       ∙ ap (λ xs. cond (any_is xs) (Some xs) None) (sym standing)
-      ∙ ap (λ t. cond t (Some (factors_at place fs)) None)
-      (ap any_is (at_places place fs) ∙ sym (any_different place_cmp (is_at (place_cmp place)) (tied_place place) (map (λ x. place_of x.0) fs) ∙ any-filter (is_at (place_cmp place)) (λ x. place_of x.0) fs))
+      ∙ ap (λ t. cond t (Some (factors_at place fs)) None) (any_at place fs)
       ∙ sym (lookup-graph (λ p. factors_at p fs) (is_at (place_cmp place)) place (one_place place) (places_of fs))
 
 pub places_ascend : (fs : List (FactorKey × Holding)) → IsStrictlySortedBy place_cmp (keys_of (by_place fs))

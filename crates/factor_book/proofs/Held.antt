@@ -1,5 +1,5 @@
 -- What the sensitivities to a key come to, and that it is what the factors say.
-use Rattle.std.proofs.Common.{◌≡◌, ℕ, zero, suc, ◌+◌, ◌-◌, ◌*◌, ◌^◌, ◌≤◌, List, [], ◌∷◌, ◌++◌, map, length, Bool, true, false, ◌||◌, cond, Option, Some, None, refl, sym, ap, ◌∙◌, subst, ℤ, pos, ◌+ℤ◌, ◌-ℤ◌, unsigned_abs, arith, length-append}
+use Rattle.std.proofs.Common.{◌≡◌, ℕ, zero, suc, ◌+◌, ◌-◌, ◌*◌, ◌^◌, ◌≤◌, List, [], ◌∷◌, ◌++◌, map, length, Bool, true, false, not, ◌||◌, cond, Option, Some, None, refl, sym, ap, ◌∙◌, subst, ℤ, pos, ◌+ℤ◌, ◌-ℤ◌, unsigned_abs, arith, length-append}
 use Rattle.std.specs.Prelude.{◌==◌}
 use Rattle.std.specs.List.{filter, list_any}
 use Rattle.std.specs.List.Sorted.{IsStrictlySortedBy}
@@ -14,7 +14,7 @@ use Rattle.simm_rules.specs.Sums.{total_by}
 use Rattle.simm_rules.specs.Net.{Sensitivity, net, keys_of}
 use Rattle.factor_book.specs.declared.holding.Holding.{Holding}
 use Rattle.factor_book.specs.Factors.{size_of, count_of, factor_of, factors_in}
-use Rattle.factor_book.specs.Holdings.{grown, shrunk, net_in}
+use Rattle.factor_book.specs.Holdings.{grown, shrunk, net_in, rows_in}
 use Rattle.factor_book.specs.Filing.{AreSmall}
 use Rattle.simm_kinds.proofs.Orders.{key_total, exact_keys}
 use Rattle.factor_book.proofs.Keys.{same_key_refl, same_key_sym, one_key, tied_test}
@@ -49,10 +49,10 @@ come_to_alike xs ys k e f g = alike (net xs k) (net ys k) (size_of xs k) (size_o
 
 -- ---- in another order
 
-sum-append : (f : Sensitivity → ℤ) (xs ys : List Sensitivity) (k : FactorKey) → total_by f (of_key k (xs ++ ys)) ≡ total_by f (of_key k xs) +ℤ total_by f (of_key k ys)
+pub sum-append : (f : Sensitivity → ℤ) (xs ys : List Sensitivity) (k : FactorKey) → total_by f (of_key k (xs ++ ys)) ≡ total_by f (of_key k xs) +ℤ total_by f (of_key k ys)
 sum-append f xs ys k = ap (total_by f) (filter-append (λ (s : Sensitivity). same_key s.key k) xs ys) ∙ total_by-append f (of_key k xs) (of_key k ys)
 
-count-append : (xs ys : List Sensitivity) (k : FactorKey) → count_of (xs ++ ys) k ≡ count_of xs k + count_of ys k
+pub count-append : (xs ys : List Sensitivity) (k : FactorKey) → count_of (xs ++ ys) k ≡ count_of xs k + count_of ys k
 count-append xs ys k = ap length (filter-append (λ (s : Sensitivity). same_key s.key k) xs ys) ∙ length-append (of_key k xs) (of_key k ys)
 
 sum-swap : (f : Sensitivity → ℤ) (xs ys : List Sensitivity) (k : FactorKey) → total_by f (of_key k (xs ++ ys)) ≡ total_by f (of_key k (ys ++ xs))
@@ -79,6 +79,13 @@ net_in-holding n s (suc c) f = refl
 
 pub net_in-come_to : (ss : List Sensitivity) (k : FactorKey) → net_in (come_to ss k) ≡ net ss k
 net_in-come_to ss k = net_in-holding (net ss k) (size_of ss k) (count_of ss k) (total_by-none (λ s. s.amount) (of_key k ss))
+
+rows_in-holding : (n s : ℤ) (c : ℕ) → rows_in (holding n s c) ≡ c
+rows_in-holding n s zero = refl
+rows_in-holding n s (suc c) = refl
+
+pub rows_in-come_to : (ss : List Sensitivity) (k : FactorKey) → rows_in (come_to ss k) ≡ count_of ss k
+rows_in-come_to ss k = rows_in-holding (net ss k) (size_of ss k) (count_of ss k)
 
 -- ---- one more, one less
 
@@ -197,6 +204,14 @@ factors_ascend ss =
 
 pub any_key : (ss : List Sensitivity) (k : FactorKey) → list_any (same_key k) (keys_of ss) ≡ list_any (same_key k) (map (λ s. s.key) ss)
 any_key ss k = any_different key_cmp (same_key k) (tied_test k) (map (λ s. s.key) ss)
+
+-- a key is there where a sensitivity to it is
+pub there : (ss : List Sensitivity) (k : FactorKey) → list_any (same_key k) (keys_of ss) ≡ not (count_of ss k == 0)
+there ss k = any_key ss k ∙ by (list_any (same_key k) (map (λ s. s.key) ss)) refl
+  where
+    by : (t : Bool) → list_any (same_key k) (map (λ s. s.key) ss) ≡ t → t ≡ not (count_of ss k == 0)
+    by true e = let some : 1 ≤ count_of ss k = has_some ss k e in grind (arith, nat_tests)
+    by false e = let none : count_of ss k ≡ 0 = has_none ss k e in grind (arith, nat_tests)
 
 -- what the factors say of a key
 pub lookup-factors : (ss : List Sensitivity) (k : FactorKey) → lookup (same_key k) (factors_in ss) ≡ come_to ss k

@@ -9,3 +9,4 @@ pub mod Filed
 pub mod Sides
 pub mod Books
 pub mod Rows
+pub mod Leaving

@@ -1,19 +1,24 @@
 -- From rows to their sensitivities, and loops over rows.
-use Rattle.std.proofs.Common.{◌≡◌, ℕ, zero, suc, ◌+◌, ◌^◌, ◌<◌, ◌≤◌, List, [], ◌∷◌, ◌++◌, map, length, true, sym, ap, ◌∙◌, subst, refl, unsigned_abs, arith, take, drop, get_or, append_assoc, append-nil, add-one, drop-cons}
+use Rattle.std.proofs.Common.{◌≡◌, ℕ, zero, suc, ◌+◌, ◌^◌, ◌<◌, ◌≤◌, List, [], ◌∷◌, ◌++◌, map, length, true, sym, ap, ◌∙◌, subst, refl, ℤ, ◌+ℤ◌, unsigned_abs, arith, take, drop, get_or, append_assoc, append-nil, add-one, drop-cons}
 use Rattle.std.specs.Prelude.{nat_le}
-use Rattle.std.specs.List.{list_all, AllByRecursion}
+use Rattle.std.specs.List.{list_all, sum_by, AllByRecursion}
+use Rattle.std.specs.List.Sorted.{IsPermutation}
 use Rattle.std.proofs.lemmas.Bool.{and_parts, and_from, leb-true, le-leb}
 use Rattle.std.proofs.lemmas.List.{length-append, take_more, drop_all}
 use Rattle.std.proofs.lemmas.List.Concat.{flat_map-append}
+use Rattle.std.proofs.lemmas.List.Sorted.{sum_by-IsPermutation}
+use Rattle.std.proofs.lemmas.List.Sums.{sum_by-cons}
 use Rattle.simm_kinds.specs.declared.key.FactorKey.{FactorKey}
 use Rattle.simm_kinds.specs.declared.row.CrifRow.{CrifRow}
 use Rattle.simm_kinds.specs.declared.row.CrifRow.TheVariants as row
 use Rattle.simm_kinds.specs.Batch.{is_in_range}
+use Rattle.simm_rules.specs.Sums.{total_by}
 use Rattle.simm_rules.specs.Net.{Sensitivity, sensitivity, sensitivities, keys_of}
 use Rattle.factor_book.specs.declared.holding.Holding.{Holding}
-use Rattle.factor_book.specs.Factors.{factor_of, factors_in, factors_of, IsWithin, IsBook, HasRoom, AreHeld}
+use Rattle.factor_book.specs.Factors.{factor_of, factors_in, factors_of, count_of, IsWithin, IsBook, HasRoom, AreHeld}
 use Rattle.factor_book.specs.Filing.{AreSmall, AreNetted, HasRoomFor, Holds}
-use Rattle.factor_book.proofs.Held.{net_size, size_size, count_below}
+use Rattle.factor_book.proofs.Sums.{total_by-IsPermutation}
+use Rattle.factor_book.proofs.Held.{of_key, size_in, come_to_alike, same_factors, sum-append, count-append, net_size, size_size, count_below}
 use Rattle.factor_book.proofs.Books.{taken_before, swapped_factors, small-append, small_left, small_right, small_first}
 
 pub sensitivities-append : (xs ys : List CrifRow) → sensitivities (xs ++ ys) ≡ sensitivities xs ++ sensitivities ys
@@ -176,7 +181,7 @@ pub front_taken : (first now last : List (FactorKey × Holding)) (rows : List Cr
 front_taken first now last rows b a back =
     back (sensitivities b.held) (a (sensitivities b.held) b.are ∙ swapped_factors (sensitivities b.held) (sensitivities rows)) ∙ sym b.are
 
-small_at : (rows : List CrifRow) (i : ℕ) (d : CrifRow) → i < length rows → list_all is_in_range rows ≡ true → is_in_range (get_or rows i d) ≡ true
+pub small_at : (rows : List CrifRow) (i : ℕ) (d : CrifRow) → i < length rows → list_all is_in_range rows ≡ true → is_in_range (get_or rows i d) ≡ true
 small_at [] i d below h = absurd (omega arith)
 small_at (r ∷ rows) zero d below h = (and_parts (is_in_range r) (list_all is_in_range rows) h).0
 small_at (r ∷ rows) (suc i) d below h = small_at rows i d (omega arith) (and_parts (is_in_range r) (list_all is_in_range rows) h).1
@@ -199,6 +204,28 @@ unmoved before part after =
     ∙ taken_before (sensitivities before) (sensitivities part) (sensitivities after)
     ∙ swapped_factors (sensitivities part) (sensitivities before ++ sensitivities after)
     ∙ sym (ap factors_in (three-append before after part))
+
+-- ---- rows in another order
+
+module _ (xs ys : List CrifRow) (h : IsPermutation xs ys) where
+  summed_rows : (f : Sensitivity → ℤ) (k : FactorKey) (rows : List CrifRow) → total_by f (of_key k (sensitivities rows)) ≡ total_by (λ r. total_by f (of_key k (sensitivity r))) rows
+  summed_rows f k [] = refl
+  summed_rows f k (r ∷ rows) = sum-append f (sensitivity r) (sensitivities rows) k ∙ ap (λ z. total_by f (of_key k (sensitivity r)) +ℤ z) (summed_rows f k rows)
+
+  counted_rows : (k : FactorKey) (rows : List CrifRow) → count_of (sensitivities rows) k ≡ sum_by (λ r. count_of (sensitivity r) k) rows
+  counted_rows k [] = refl
+  counted_rows k (r ∷ rows) = omega (arith, count-append (sensitivity r) (sensitivities rows) k, counted_rows k rows, sum_by-cons (λ x. count_of (sensitivity x) k) r rows)
+
+  same_sums : (f : Sensitivity → ℤ) (k : FactorKey) → total_by f (of_key k (sensitivities xs)) ≡ total_by f (of_key k (sensitivities ys))
+  same_sums f k = summed_rows f k xs ∙ total_by-IsPermutation (λ r. total_by f (of_key k (sensitivity r))) xs ys h ∙ sym (summed_rows f k ys)
+
+  same_counts : (k : FactorKey) → count_of (sensitivities xs) k ≡ count_of (sensitivities ys) k
+  same_counts k = counted_rows k xs ∙ sym (sum_by-IsPermutation (λ r. count_of (sensitivity r) k) xs ys h) ∙ sym (counted_rows k ys)
+
+  pub permuted : factors_of xs ≡ factors_of ys
+  permuted =
+      same_factors (sensitivities xs) (sensitivities ys)
+      (λ k. come_to_alike (sensitivities xs) (sensitivities ys) k (same_sums (λ s. s.amount) k) (same_sums size_in k) (same_counts k))
 
 -- what rows come to at a key, which need not be theirs
 within : (rows : List CrifRow) (k : FactorKey) → AreSmall (sensitivities rows) → IsWithin (length rows) (factor_of (sensitivities rows) k).1

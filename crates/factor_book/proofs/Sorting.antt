@@ -17,6 +17,7 @@ use Rattle.std.proofs.lemmas.Map.{lookup-none}
 use Rattle.std.proofs.lemmas.Map.Entries.{lookup_head, lookup_tail, none_past_head, none_below_head}
 use Rattle.std.proofs.lemmas.Map.Keys.{IsDistinct-from_sorted, sorted_tail}
 use Rattle.std.proofs.lemmas.Map.Lookups.{CmpEqualImpliesEq}
+use Rattle.simm_kinds.proofs.Variants.{is_eq-Equal}
 use Rattle.simm_rules.specs.Sums.{put_in, placed, different}
 
 pub each_weaker : {X : Type 0} (P Q : X → Type 0) → ((x : X) → P x → Q x) → (xs : List X) → AllByRecursion P xs → AllByRecursion Q xs
@@ -207,3 +208,20 @@ module _ {K X : Type 0} where
 
   pub filter_ascends : (R : K → K → Ordering) (p : K → Bool) (es : List (K × X)) → IsStrictlySortedBy R (keys_of es) → IsStrictlySortedBy R (keys_of (filter (λ e. p e.0) es))
   filter_ascends R p es s = subst (IsStrictlySortedBy R) (sym (keys-filter p es)) (IsStrictlySortedBy-filter R p (keys_of es) s)
+
+-- items in order are known by which there are
+module _ {K : Type 0} {R : K → K → Ordering} (o : IsTotalOrder R) (exact : CmpEqualImpliesEq R) where
+  abbrev graph : List K → List (K × Bool)
+  graph ks = map (λ k. (k, true)) ks
+
+  graph_ascends : (ks : List K) → IsStrictlySortedBy R ks → IsStrictlySortedBy R (keys_of (graph ks))
+  graph_ascends ks s = subst (IsStrictlySortedBy R) (sym (keys-graph (λ k. true) ks)) s
+
+  found_in_graph : (q : K) (ks : List K) → lookup (is_at (R q)) (graph ks) ≡ cond (list_any (is_at (R q)) ks) (Some true) None
+  found_in_graph q ks = lookup-graph (λ k. true) (is_at (R q)) q (λ k e. exact q k (is_eq-Equal (R q k) e)) ks
+
+  pub same_items : (xs ys : List K) → IsStrictlySortedBy R xs → IsStrictlySortedBy R ys → ((q : K) → list_any (is_at (R q)) xs ≡ list_any (is_at (R q)) ys) → xs ≡ ys
+  same_items xs ys s t h =
+      sym (keys-graph (λ k. true) xs)
+      ∙ ap keys_of (same_entries o exact (graph xs) (graph ys) (graph_ascends xs s) (graph_ascends ys t) (λ q. found_in_graph q xs ∙ ap (λ b. cond b (Some true) None) (h q) ∙ sym (found_in_graph q ys)))
+      ∙ keys-graph (λ k. true) ys

@@ -1,7 +1,10 @@
 -- Sums over lists of sensitivities.
-use Rattle.std.proofs.Common.{◌≡◌, ℕ, ◌*◌, ◌≤◌, List, [], ◌∷◌, ◌++◌, map, length, Bool, true, false, cond, refl, ap, ℤ, pos, ◌+ℤ◌, unsigned_abs, arith}
-use Rattle.std.specs.List.{AllByRecursion}
+use Rattle.std.proofs.Common.{◌≡◌, ℕ, suc, ◌*◌, ◌≤◌, List, [], ◌∷◌, ◌++◌, map, length, Bool, true, false, cond, refl, ap, ℤ, pos, negsuc, ◌+ℤ◌, ◌-ℤ◌, unsigned_abs, arith}
+use Rattle.std.specs.List.{AllByRecursion, sum_by}
+use Rattle.std.specs.List.Sorted.{IsPermutation}
 use Rattle.std.proofs.lemmas.Int.{ints}
+use Rattle.std.proofs.lemmas.List.Sorted.{sum_by-IsPermutation}
+use Rattle.std.proofs.lemmas.List.Sums.{sum_by-cons}
 use Rattle.mh_units.proofs.Integers.{unsigned_abs-add}
 use Rattle.simm_rules.specs.Sums.{total_by}
 
@@ -33,3 +36,27 @@ total_by-kept f x xs false = omega (arith, ints)
 pub total_by-size : {A : Type 0} (f : A → ℤ) (m : ℕ) (xs : List A) → AllByRecursion (λ x. unsigned_abs (f x) ≤ m) xs → unsigned_abs (total_by f xs) ≤ length xs * m
 total_by-size f m [] h = omega arith
 total_by-size f m (x ∷ xs) h = omega (arith, h.0, total_by-size f m xs h.1, unsigned_abs-add (f x) (total_by f xs))
+
+-- ---- in another order
+
+-- an amount above 0, and the size of one below
+above : ℤ → ℕ
+above (pos n) = n
+above (negsuc n) = 0
+
+below : ℤ → ℕ
+below (pos n) = 0
+below (negsuc n) = suc n
+
+split_sign : (z : ℤ) → z ≡ pos (above z) -ℤ pos (below z)
+unfolding above below
+split_sign (pos n) = omega (arith, ints)
+split_sign (negsuc n) = omega (arith, ints)
+
+total_by-signs : {A : Type 0} (f : A → ℤ) (xs : List A) → total_by f xs ≡ pos (sum_by (λ x. above (f x)) xs) -ℤ pos (sum_by (λ x. below (f x)) xs)
+total_by-signs f [] = omega (arith, ints)
+total_by-signs f (x ∷ xs) = omega (arith, ints, split_sign (f x), total_by-signs f xs, sum_by-cons (λ y. above (f y)) x xs, sum_by-cons (λ y. below (f y)) x xs)
+
+pub total_by-IsPermutation : {A : Type 0} (f : A → ℤ) (xs ys : List A) → IsPermutation xs ys → total_by f xs ≡ total_by f ys
+total_by-IsPermutation f xs ys h =
+    omega (arith, ints, total_by-signs f xs, total_by-signs f ys, sum_by-IsPermutation (λ x. above (f x)) xs ys h, sum_by-IsPermutation (λ x. below (f x)) xs ys h)

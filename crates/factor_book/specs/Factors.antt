@@ -58,3 +58,11 @@ pub record AreHeld (taken : List CrifRow) (factors : List (FactorKey × Holding)
   pub after : List CrifRow
   pub are : factors ≡ factors_of (before ++ taken ++ after)
   pub amounts : list_all is_in_range (before ++ taken ++ after) ≡ true
+
+-- the factors of a book without some of its rows, whose factors are `leaving`
+pub record IsWithout (factors leaving left : List (FactorKey × Holding)) : Type 0 where
+  pub held : List CrifRow
+  pub gone : List CrifRow
+  pub are : factors ≡ factors_of (held ++ gone)
+  pub go : leaving ≡ factors_of gone
+  pub stay : left ≡ factors_of held

@@ -1,5 +1,8 @@
 -- What the sensitivities to one key come to, as they come and go.
-use Rattle.std.specs.Prelude.{◌+◌, ◌-◌, ◌*◌, ◌^◌, ◌<◌, ◌≤◌, Option, Some, None, ℤ, pos, ◌+ℤ◌, ◌-ℤ◌, unsigned_abs, ◌==◌, if◌then◌else◌}
+use Rattle.std.specs.Prelude.{ℕ, ◌+◌, ◌-◌, ◌*◌, ◌^◌, ◌<◌, ◌≤◌, List, Bool, Option, Some, None, ℤ, pos, ◌+ℤ◌, ◌-ℤ◌, unsigned_abs, ◌==◌, if◌then◌else◌}
+use Rattle.std.specs.Map.{lookup}
+use Rattle.simm_kinds.specs.declared.key.FactorKey.{FactorKey}
+use Rattle.simm_kinds.specs.Order.{same_key}
 use Rattle.factor_book.specs.declared.holding.Holding.{Holding}
 
 -- one sensitivity
@@ -21,6 +24,18 @@ shrunk (Some h) amount =
 abbrev pub net_in : Option Holding → ℤ
 net_in None = pos 0
 net_in (Some h) = h.net
+
+abbrev pub rows_in : Option Holding → ℕ
+rows_in None = 0
+rows_in (Some h) = h.rows
+
+-- how many rows a key has
+abbrev pub rows_at : List (FactorKey × Holding) → FactorKey → ℕ
+rows_at factors k = rows_in (lookup (same_key k) factors)
+
+-- no more sensitivities to a key than go are held: the key goes with them
+abbrev pub goes : List (FactorKey × Holding) → FactorKey × Holding → Bool
+goes factors f = rows_at factors f.0 == (f.1).rows
 
 -- an amount that a batch can have
 abbrev pub IsSmall : ℤ → Type 0

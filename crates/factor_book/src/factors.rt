@@ -1,19 +1,22 @@
 ghost use Rattle.std.specs.Prelude.{◌≡◌, ◌≤◌, ◌∷◌, ◌++◌, List, [], length, nat_eq, true, flat_map, IsPermutation, MatchOption, OnOk, OnErr};
 ghost use Rattle.std.specs.List.{list_all};
+ghost use Rattle.std.specs.Map.{lookup};
 ghost use Rattle.std.specs.Map.Iter.{ShowsInOrder, deref_pair};
 ghost use Rattle.simm_kinds.specs.declared.key.FactorKey.{FactorKey};
 ghost use Rattle.simm_kinds.specs.declared.row.CrifRow.{CrifRow as Row};
 ghost use Rattle.simm_kinds.specs.Batch.{is_in_range};
+ghost use Rattle.simm_kinds.specs.Order.{same_key};
 ghost use Rattle.simm_rules.specs.Net.{Sensitivity, sensitivity, sensitivities, net};
 ghost use Rattle.factor_book.specs.declared.place.Place.{Place};
 ghost use Rattle.factor_book.specs.declared.holding.Holding.{Holding};
-ghost use Rattle.factor_book.specs.Holdings.{IsSmall};
-ghost use Rattle.factor_book.specs.Factors.{factors_in, factors_of, IsBook, HasRoom, AreHeld};
+ghost use Rattle.factor_book.specs.Holdings.{IsSmall, rows_at};
+ghost use Rattle.factor_book.specs.Factors.{factors_in, factors_of, count_of, IsBook, HasRoom, AreHeld};
 ghost use Rattle.factor_book.specs.Places.{factors_at, by_place, by_bucket};
 ghost use Rattle.factor_book.specs.Filing.{AreSmall, HasRoomFor, Holds};
 
 use crate::at::SideAt;
 use crate::filing::{add_at_place, take_at_place};
+use crate::holding::Holding;
 use crate::place::Place;
 use crate::place_factors::PlaceFactors;
 use crate::side_places::side_bounds;
@@ -111,10 +114,29 @@ impl Factors {
     pub fn net(&self, key: &FactorKey) -> i128
         ensures { (held : List Row) → self.now ≡ factors_of held → result ≡ net (sensitivities held) key.now }
     {
-        match self.by_place.get(&Place::of(key)) {
-            Some(factors) => factors.net(key),
+        match self.holding(key) {
+            Some(holding) => holding.net,
             None => 0,
         }
+    }
+
+    /// How many rows a key has, 0 where it has none. It takes no memory.
+    pub fn rows(&self, key: &FactorKey) -> u32
+        ensures value { result ≡ rows_at self.now key.now }
+        ensures held { (held : List Row) → self.now ≡ factors_of held → result ≡ count_of (sensitivities held) key.now }
+    {
+        match self.holding(key) {
+            Some(holding) => holding.rows,
+            None => 0,
+        }
+    }
+
+    /// What the rows of a key come to; `None` where it has none. It takes no memory, and costs the logarithm of the number of
+    /// keys.
+    pub fn holding(&self, key: &FactorKey) -> Option<Holding>
+        ensures { result ≡ lookup (same_key key.now) self.now }
+    {
+        self.by_place.get(&Place::of(key))?.holding(key)
     }
 
     /// Lends the factors of a place, in key order; `None` where it has none. It takes no memory, and costs the logarithm of
@@ -123,6 +145,16 @@ impl Factors {
         ensures { MatchOption result (factors_at place.now self.now ≡ []) (λ lent. lent.now ≡ factors_at place.now self.now) }
     {
         self.by_place.get(place)
+    }
+
+    /// How many factors a place has. It takes no memory, and costs the logarithm of the number of places.
+    pub fn len_at(&self, place: &Place) -> usize
+        ensures { result ≡ length (factors_at place.now self.now) }
+    {
+        match self.at(place) {
+            Some(factors) => factors.len(),
+            None => 0,
+        }
     }
 
     /// Lends each place that has a factor, in the order of places, with its factors in key order. All factors are among

@@ -1,5 +1,5 @@
 //! What the factors of rows depend on.
-ghost use Rattle.std.specs.Prelude.{◌≡◌, ◌++◌, Bool, true, List, map, length, ℤ, pos, ◌*ℤ◌, unsigned_abs};
+ghost use Rattle.std.specs.Prelude.{◌≡◌, ◌++◌, Bool, true, List, map, length, ℤ, pos, ◌*ℤ◌, unsigned_abs, IsPermutation};
 ghost use Rattle.std.specs.List.{filter, list_all, AllByRecursion};
 ghost use Rattle.simm_kinds.specs.declared.key.FactorKey.{FactorKey};
 ghost use Rattle.simm_kinds.specs.declared.row.CrifRow.{CrifRow as Row};
@@ -9,12 +9,13 @@ ghost use Rattle.simm_rules.specs.Net.{Sensitivity, sensitivities, net, netted};
 ghost use Rattle.factor_book.specs.Factors.{factors_in, factors_of, net_of, size_of, count_of, IsWithin};
 
 /// Rows have their factors whatever their order: rows with the same net, size and number at each key have the same
-/// factors, and a part of the rows may stand elsewhere among them.
+/// factors, a part of the rows may stand elsewhere among them, and so may all.
 pub fn order_is_free()
     ensures alike { (xs ys : List Row) → ((k : FactorKey) → net (sensitivities xs) k ≡ net (sensitivities ys) k)
         → ((k : FactorKey) → size_of (sensitivities xs) k ≡ size_of (sensitivities ys) k)
         → ((k : FactorKey) → count_of (sensitivities xs) k ≡ count_of (sensitivities ys) k) → factors_of xs ≡ factors_of ys }
     ensures moved { (before part after : List Row) → factors_of (before ++ part ++ after) ≡ factors_of (before ++ after ++ part) }
+    ensures permuted { (xs ys : List Row) → IsPermutation xs ys → factors_of xs ≡ factors_of ys }
 {}
 
 /// What the factors of rows say of the rows: their nets are the netted sensitivities; those whose keys pass a test are the

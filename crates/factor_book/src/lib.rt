@@ -10,6 +10,7 @@ mod laws;
 mod place;
 mod place_factors;
 mod side_places;
+mod without;
 
 pub use at::{BucketAt, ClassAt, SideAt};
 pub use factors::Factors;

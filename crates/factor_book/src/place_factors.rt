@@ -5,7 +5,7 @@ ghost use Rattle.std.specs.List.Sorted.{IsStrictlySortedBy};
 ghost use Rattle.simm_kinds.specs.declared.key.FactorKey.{FactorKey};
 ghost use Rattle.simm_kinds.specs.Order.{same_key, key_cmp};
 ghost use Rattle.factor_book.specs.declared.holding.Holding.{Holding};
-ghost use Rattle.factor_book.specs.Holdings.{CanGrow, CanShrink, IsSmall, grown, shrunk, net_in};
+ghost use Rattle.factor_book.specs.Holdings.{CanGrow, CanShrink, IsSmall, grown, shrunk};
 
 use crate::holding::Holding;
 use mh_units::Cents;
@@ -65,14 +65,11 @@ impl PlaceFactors {
         }
     }
 
-    /// The net sensitivity to a key, 0 where there is none.
-    pub(crate) fn net(&self, key: &FactorKey) -> i128
-        ensures { result ≡ net_in (lookup (same_key key.now) self.now) }
+    /// What the sensitivities to a key come to; `None` where there is none.
+    pub(crate) fn holding(&self, key: &FactorKey) -> Option<Holding>
+        ensures { result ≡ lookup (same_key key.now) self.now }
     {
-        match self.by_key.get(key) {
-            Some(holding) => holding.net,
-            None => 0,
-        }
+        self.by_key.get(key).copied()
     }
 
     /// Adds a sensitivity, and tells whether its key is new. For want of memory nothing changes.
