@@ -1,0 +1,150 @@
+-- Sums over the places of a book: what of them is not kept.
+use Rattle.std.proofs.Common.{◌≡◌, ◌≢◌, ℕ, ◌+◌, ◌*◌, ◌^◌, ◌<◌, ◌≤◌, List, [], ◌∷◌, map, length, Bool, true, false, ◌||◌, cond, Option, Some, None, refl, sym, ap, ◌∙◌, subst, arith, zero-mul}
+use Rattle.std.specs.Prelude.{sum_by, is_some}
+use Rattle.std.specs.Ordering.{is_eq}
+use Rattle.std.specs.List.{filter, list_any}
+use Rattle.std.specs.BTreeMap.{is_at}
+use Rattle.std.proofs.Math.Nat.{le_refl, mul-le-mul_right}
+use Rattle.std.proofs.lemmas.List.{length-map}
+use Rattle.std.proofs.lemmas.List.Sums.{sum_by-cons}
+use Rattle.simm_kinds.specs.declared.key.FactorKey.{FactorKey}
+use Rattle.factor_book.specs.declared.holding.Holding.{Holding}
+use Rattle.factor_book.specs.declared.place.Place.{Place}
+use Rattle.factor_book.specs.declared.place.BookSide.{BookSide}
+use Rattle.factor_book.specs.declared.place.BookSide.TheVariants as side
+use Rattle.factor_book.specs.Place.{place_of, place_cmp}
+use Rattle.factor_book.specs.Places.{stands_at, factors_at, places_of, by_place}
+use Rattle.factor_book.proofs.Grouping.{any_is, any-filter}
+use Rattle.factor_book.proofs.Sorting.{any_different, length-different}
+use Rattle.factor_book.proofs.Standing.{one_place, own_place, tied_place, at_place}
+use Rattle.kept_buckets.specs.declared.value.KeptValue.{KeptValue}
+use Rattle.kept_buckets.specs.Kept.{Kept, value_at, KeepsValue}
+use Rattle.kept_buckets.specs.Dirty.{measures_of, dirty_at, dirty_in, steps_at, steps_left}
+
+abbrev Factors : Type 0
+Factors = List (FactorKey × Holding)
+
+abbrev pub Standing : Type 0
+Standing = Place × Factors
+
+-- ---- sums over lists
+
+sum_small : {A : Type 0} (f : A → ℕ) (m : ℕ) → ((x : A) → f x ≤ m) → (xs : List A) → sum_by f xs ≤ length xs * m
+sum_small f m small [] = omega arith
+sum_small f m small (x ∷ xs) = omega (arith, sum_by-cons f x xs, small x, sum_small f m small xs)
+
+sum_less : {A : Type 0} (f g : A → ℕ) → ((x : A) → g x ≤ f x) → (xs : List A) → sum_by g xs ≤ sum_by f xs
+sum_less f g less [] = le_refl 0
+sum_less f g less (x ∷ xs) = omega (arith, sum_by-cons f x xs, sum_by-cons g x xs, less x, sum_less f g less xs)
+
+sum_by-map : {A B : Type 0} (f : B → ℕ) (g : A → B) (xs : List A) → sum_by f (map g xs) ≡ sum_by (λ x. f (g x)) xs
+sum_by-map f g [] = refl
+sum_by-map f g (x ∷ xs) = sum_by-cons f (g x) (map g xs) ∙ ap (λ n. f (g x) + n) (sum_by-map f g xs) ∙ sym (sum_by-cons (λ y. f (g y)) x xs)
+
+-- and less by w where one of them is
+sum_less_by : {A : Type 0} (f g : A → ℕ) (test : A → Bool) (w : ℕ) → ((x : A) → g x ≤ f x) → ((x : A) → test x ≡ true → g x + w ≤ f x)
+    → (xs : List A) → list_any test xs ≡ true → sum_by g xs + w ≤ sum_by f xs
+sum_less_by f g test w less here [] any = absurd (cc)
+sum_less_by {A = A} f g test w less here (x ∷ xs) any = by (test x) refl (sum_less_by f g test w less here xs)
+  where
+    by : (t : Bool) → test x ≡ t → (list_any test xs ≡ true → sum_by g xs + w ≤ sum_by f xs) → sum_by g (x ∷ xs) + w ≤ sum_by f (x ∷ xs)
+    by true e i = omega (arith, sum_by-cons f x xs, sum_by-cons g x xs, here x e, sum_less f g less xs)
+    by false e i = omega (arith, sum_by-cons f x xs, sum_by-cons g x xs, less x, i (ap (λ t. t || list_any test xs) (sym e) ∙ any))
+
+-- ---- how many values are not kept
+
+few_measures : (s : BookSide) → measures_of s ≤ 2
+few_measures side.Delta = omega arith
+few_measures side.Volatility = omega arith
+
+few_dirty : (kept : Kept) (e : Standing) → dirty_at kept e.0 ≤ 2
+few_dirty kept e = by (is_some (value_at kept e.0))
+  where
+    by : (t : Bool) → cond t 0 (measures_of e.0.side) ≤ 2
+    by true = omega arith
+    by false = few_measures e.0.side
+
+few_places : (fs : Factors) → length (by_place fs) ≤ length fs
+few_places fs =
+    omega (arith, length-map {B = Standing} (places_of fs) (λ place. (place, factors_at place fs)), length-different place_cmp (map (λ f. place_of f.0) fs), length-map fs (λ f. place_of f.0))
+
+pub dirty_below : (kept : Kept) (fs : Factors) → length fs < 2 ^ 31 → dirty_in kept fs < 2 ^ 32
+dirty_below kept fs few = omega (arith, sum_small (λ e. dirty_at kept e.0) 2 (few_dirty kept) (by_place fs), few_places fs)
+
+-- those of the places that a loop has gone over, and of those that are left
+module _ {A : Type 0} (f : A → ℕ) (total n m : ℕ) (left rest : List A) (x : A) (at : left ≡ x ∷ rest) (so_far : n + sum_by f left ≡ total) (its : m ≡ f x) where
+  whole_is : n + (f x + sum_by f rest) ≡ total
+  whole_is = ap (λ k. n + k) (sym (sum_by-cons f x rest) ∙ ap (sum_by f) (sym at)) ∙ so_far
+
+  pub count_next : (n + m) + sum_by f rest ≡ total
+  count_next = omega (arith, whole_is, its)
+
+  pub count_fits : (limit : ℕ) → total < limit → n + m < limit
+  count_fits limit few = omega (arith, whole_is, its, few)
+
+pub count_end : {A : Type 0} (f : A → ℕ) (total n : ℕ) (left : List A) → left ≡ [] → n + sum_by f left ≡ total → n ≡ total
+count_end f total n left at so_far =
+    let none : sum_by f left ≡ 0 = ap (sum_by f) at in
+    omega (arith, none, so_far)
+
+-- ---- a place that has a factor is among the places
+
+any_some : {A : Type 0} (xs : List A) → xs ≢ [] → any_is xs ≡ true
+any_some [] some = absurd (some refl)
+any_some (x ∷ xs) some = refl
+
+same_filter : {A : Type 0} (p q : A → Bool) → ((x : A) → p x ≡ q x) → (xs : List A) → filter p xs ≡ filter q xs
+same_filter p q same xs = ap (λ test. filter test xs) (λ i x. same x i)
+
+place_there : (place : Place) (fs : Factors) → factors_at place fs ≢ [] → list_any (is_at (place_cmp place)) (places_of fs) ≡ true
+place_there place fs some =
+    any_different place_cmp (is_at (place_cmp place)) (λ p r e. tied_place place p r e) (map (λ f. place_of f.0) fs)
+    ∙ any-filter (is_at (place_cmp place)) (λ f. place_of f.0) fs
+    ∙ ap any_is (same_filter (λ f. is_at (place_cmp place) (place_of f.0)) (λ f. stands_at place f.0) (λ f. sym (at_place place f.0)) fs)
+    ∙ any_some (factors_at place fs) some
+
+-- ---- a value that is kept saves its steps
+
+module _ (old new : Kept) (place : Place) (value : KeptValue) (keeps : KeepsValue old new place value) where
+  kept_there : (o : Option KeptValue) (t : Bool) (n : ℕ) → cond (is_some (cond t (Some value) o)) 0 n ≤ cond (is_some o) 0 n
+  kept_there (Some v) true n = le_refl 0
+  kept_there (Some v) false n = le_refl 0
+  kept_there None true n = omega arith
+  kept_there None false n = le_refl n
+
+  pub no_dirtier : (other : Place) → dirty_at new other ≤ dirty_at old other
+  no_dirtier other =
+      subst (λ (o : Option KeptValue). cond (is_some o) 0 (measures_of other.side) ≤ dirty_at old other) (sym (keeps.values other))
+      (kept_there (value_at old other) (is_at (place_cmp place) other) (measures_of other.side))
+
+  clean_there : is_at (place_cmp place) place ≡ true → dirty_at new place ≡ 0
+  clean_there own = ap (λ o. cond (is_some o) 0 (measures_of place.side)) (keeps.values place ∙ ap (λ t. cond t (Some value) (value_at old place)) own)
+
+  module _ (fs : Factors) where
+    less_at : (p : Place) → steps_at new p (factors_at p fs) ≤ steps_at old p (factors_at p fs)
+    less_at p = mul-le-mul_right (length (factors_at p fs) * length (factors_at p fs)) (no_dirtier p)
+
+    abbrev saved : ℕ
+    saved = measures_of place.side * (length (factors_at place fs) * length (factors_at place fs))
+
+    all_saved : value_at old place ≡ None → steps_at new place (factors_at place fs) + saved ≤ steps_at old place (factors_at place fs)
+    all_saved none =
+        let k = length (factors_at place fs) * length (factors_at place fs) in
+        let nothing : dirty_at new place * k ≡ 0 * k = ap (λ n. n * k) (clean_there (own_place place)) in
+        let all : dirty_at old place * k ≡ measures_of place.side * k = ap (λ o. cond (is_some o) 0 (measures_of place.side) * k) none in
+        omega (arith, nothing, all, zero-mul k)
+
+    pub steps_saved : value_at old place ≡ None → factors_at place fs ≢ [] → steps_left new fs + saved ≤ steps_left old fs
+    steps_saved none some =
+        let f = λ (p : Place). steps_at old p (factors_at p fs) in
+        let g = λ (p : Place). steps_at new p (factors_at p fs) in
+        let less : sum_by g (places_of fs) + saved ≤ sum_by f (places_of fs) =
+        sum_less_by f g (is_at (place_cmp place)) saved less_at
+        (λ p e. subst (λ q. steps_at new q (factors_at q fs) + saved ≤ steps_at old q (factors_at q fs)) (one_place place p e) (all_saved none))
+        (places_of fs) (place_there place fs some) in
+        omega (
+          arith,
+          less,
+          sum_by-map (λ (e : Standing). steps_at old e.0 e.1) (λ p. (p, factors_at p fs)) (places_of fs),
+          sum_by-map (λ (e : Standing). steps_at new e.0 e.1) (λ p. (p, factors_at p fs)) (places_of fs),
+        )

@@ -1,0 +1,50 @@
+-- The values kept of buckets, measure by measure.
+use Rattle.std.specs.Prelude.{Bool, true, false, Option, Some, None, option_map, if◌then◌else◌}
+use Rattle.simm_kinds.specs.declared.kinds.Measure.{Measure}
+use Rattle.simm_kinds.specs.declared.kinds.Measure.TheVariants as measure
+use Rattle.simm_kinds.specs.declared.kinds.RiskClass.{RiskClass}
+use Rattle.simm_kinds.specs.declared.kinds.RiskClass.TheVariants as class
+use Rattle.simm_kinds.specs.declared.kinds.BucketId.{BucketId}
+use Rattle.simm_kinds.specs.declared.kinds.BucketId.TheVariants as id
+use Rattle.simm_rules.specs.declared.values.BucketMargin.{BucketMargin}
+use Rattle.factor_book.specs.declared.at.BucketAt.{BucketAt}
+use Rattle.factor_book.specs.declared.place.Place.{Place}
+use Rattle.factor_book.specs.declared.place.BookSide.{BookSide}
+use Rattle.factor_book.specs.declared.place.BookSide.TheVariants as side
+use Rattle.kept_buckets.specs.declared.value.KeptValue.{KeptValue}
+use Rattle.kept_buckets.specs.declared.value.KeptValue.TheVariants as kept
+use Rattle.kept_buckets.specs.declared.value.VolatilityMargins.{VolatilityMargins}
+use Rattle.kept_buckets.specs.Kept.{Kept, value_at}
+
+-- where the factors of a bucket stand on a side
+abbrev pub place_on : BookSide → BucketAt → Place
+place_on side at = record { product = at.product; class = at.class; side = side; bucket = at.bucket }
+
+-- the bucket of base correlation: the single one of credit that qualifies, whose own buckets are numbered
+abbrev pub is_base_bucket : RiskClass → BucketId → Bool
+is_base_bucket class.CreditQ id.Single = true
+is_base_bucket _ _ = false
+
+abbrev pub delta_in : Option KeptValue → Option BucketMargin
+delta_in (Some (kept.Delta value)) = Some value
+delta_in (Some (kept.Volatility values)) = None
+delta_in None = None
+
+abbrev pub volatility_in : Option KeptValue → Option VolatilityMargins
+volatility_in (Some (kept.Delta value)) = None
+volatility_in (Some (kept.Volatility values)) = Some values
+volatility_in None = None
+
+-- what is kept of a bucket on a side
+abbrev pub kept_delta : Kept → BucketAt → Option BucketMargin
+kept_delta kept at = delta_in (value_at kept (place_on side.Delta at))
+
+abbrev pub kept_volatility : Kept → BucketAt → Option VolatilityMargins
+kept_volatility kept at = volatility_in (value_at kept (place_on side.Volatility at))
+
+-- and in a measure
+abbrev pub cached_in : Kept → BucketAt → Measure → Option BucketMargin
+cached_in kept at measure.Delta = if is_base_bucket at.class at.bucket then None else kept_delta kept at
+cached_in kept at measure.Vega = option_map (λ values. values.vega) (kept_volatility kept at)
+cached_in kept at measure.Curvature = option_map (λ values. values.curvature) (kept_volatility kept at)
+cached_in kept at measure.BaseCorr = if is_base_bucket at.class at.bucket then kept_delta kept at else None

@@ -1,0 +1,13 @@
+//! What is kept of a book between one question and the next: the values of its buckets and the margins of its risk classes.
+//! Rows that come or go touch the places that they lie in and the classes of these; what is touched is forgotten.
+//! (ISDA SIMM methodology, structure: a bucket's value and a class's margin are of its own sensitivities alone.)
+#![tactic(auto)]
+
+mod kept;
+mod laws;
+mod margins;
+mod value;
+
+pub use kept::KeptBuckets;
+pub use laws::{kept_values_save_steps, other_factors_stand, touches_add_up};
+pub use value::{KeptValue, VolatilityMargins};

@@ -1,0 +1,136 @@
+//! The margins kept of risk classes, each in cents; `None` of a class whose margin is not kept.
+ghost use Rattle.std.specs.Prelude.{◌≡◌, if◌then◌else◌};
+ghost use Rattle.simm_kinds.specs.declared.kinds.RiskClass.{RiskClass as Class};
+ghost use Rattle.simm_kinds.specs.Order.{same_class};
+ghost use Rattle.factor_book.specs.declared.at.ClassAt.{ClassAt as At};
+ghost use Rattle.kept_buckets.specs.Margins.{class_in, margin_in, is_class};
+
+use factor_book::ClassAt;
+use mh_units::Cents;
+use simm_kinds::{ProductClass, RiskClass};
+
+/// Those of one product class.
+#[derive(Clone, Copy, Debug, PartialEq, Eq)]
+pub struct KeptClasses {
+    pub ir: Option<Cents>,
+    pub credit_q: Option<Cents>,
+    pub credit_nonq: Option<Cents>,
+    pub equity: Option<Cents>,
+    pub commodity: Option<Cents>,
+    pub fx: Option<Cents>,
+}
+
+impl KeptClasses {
+    /// None is kept.
+    pub fn none() -> KeptClasses
+        ensures { (class : Class) → class_in result class ≡ None }
+    {
+        KeptClasses {
+            ir: None,
+            credit_q: None,
+            credit_nonq: None,
+            equity: None,
+            commodity: None,
+            fx: None,
+        }
+    }
+
+    /// That of a class.
+    pub fn of(&self, class: RiskClass) -> Option<Cents>
+        ensures { result ≡ class_in self.now class }
+    {
+        match class {
+            RiskClass::IR => self.ir,
+            RiskClass::CreditQ => self.credit_q,
+            RiskClass::CreditNonQ => self.credit_nonq,
+            RiskClass::Equity => self.equity,
+            RiskClass::Commodity => self.commodity,
+            RiskClass::FX => self.fx,
+        }
+    }
+
+    /// With another of a class.
+    pub fn with(self, class: RiskClass, margin: Option<Cents>) -> KeptClasses
+        ensures { (other : Class) → class_in result other ≡ (if same_class class other then margin else class_in self other) }
+    {
+        match class {
+            RiskClass::IR => KeptClasses { ir: margin, ..self },
+            RiskClass::CreditQ => KeptClasses {
+                credit_q: margin,
+                ..self
+            },
+            RiskClass::CreditNonQ => KeptClasses {
+                credit_nonq: margin,
+                ..self
+            },
+            RiskClass::Equity => KeptClasses {
+                equity: margin,
+                ..self
+            },
+            RiskClass::Commodity => KeptClasses {
+                commodity: margin,
+                ..self
+            },
+            RiskClass::FX => KeptClasses { fx: margin, ..self },
+        }
+    }
+}
+
+/// Those of all product classes.
+#[derive(Clone, Copy, Debug, PartialEq, Eq)]
+pub struct KeptMargins {
+    pub rates_fx: KeptClasses,
+    pub credit: KeptClasses,
+    pub equity: KeptClasses,
+    pub commodity: KeptClasses,
+}
+
+impl KeptMargins {
+    /// None is kept.
+    pub fn none() -> KeptMargins
+        ensures { (at : At) → margin_in result at ≡ None }
+    {
+        KeptMargins {
+            rates_fx: KeptClasses::none(),
+            credit: KeptClasses::none(),
+            equity: KeptClasses::none(),
+            commodity: KeptClasses::none(),
+        }
+    }
+
+    /// That of a risk class in a product class.
+    pub fn of(&self, at: ClassAt) -> Option<Cents>
+        ensures { result ≡ margin_in self.now at }
+    {
+        match at.product {
+            ProductClass::RatesFX => self.rates_fx.of(at.class),
+            ProductClass::Credit => self.credit.of(at.class),
+            ProductClass::Equity => self.equity.of(at.class),
+            ProductClass::Commodity => self.commodity.of(at.class),
+        }
+    }
+
+    /// With another of a risk class in a product class.
+    pub fn with(self, at: ClassAt, margin: Option<Cents>) -> KeptMargins
+        ensures { (other : At) → margin_in result other ≡ (if is_class at other then margin else margin_in self other) }
+    {
+        match at.product {
+            ProductClass::RatesFX => KeptMargins {
+                rates_fx: self.rates_fx.with(at.class, margin),
+                ..self
+            },
+            ProductClass::Credit => KeptMargins {
+                credit: self.credit.with(at.class, margin),
+                ..self
+            },
+            ProductClass::Equity => KeptMargins {
+                equity: self.equity.with(at.class, margin),
+                ..self
+            },
+            ProductClass::Commodity => KeptMargins {
+                commodity: self.commodity.with(at.class, margin),
+                ..self
+            },
+        }
+    }
+}
