@@ -1,7 +1,6 @@
 -- Sums over the places of a book: what of them is not kept.
 use Rattle.std.proofs.Common.{◌≡◌, ◌≢◌, ℕ, ◌+◌, ◌*◌, ◌^◌, ◌<◌, ◌≤◌, List, [], ◌∷◌, map, length, Bool, true, false, ◌||◌, cond, Option, Some, None, refl, sym, ap, ◌∙◌, subst, arith, zero-mul}
 use Rattle.std.specs.Prelude.{sum_by, is_some}
-use Rattle.std.specs.Ordering.{is_eq}
 use Rattle.std.specs.List.{filter, list_any}
 use Rattle.std.specs.BTreeMap.{is_at}
 use Rattle.std.proofs.Math.Nat.{le_refl, mul-le-mul_right}

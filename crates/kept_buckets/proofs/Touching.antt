@@ -11,7 +11,7 @@ use Rattle.mh_units.specs.declared.quantities.Cents.{Cents}
 use Rattle.simm_kinds.specs.declared.key.FactorKey.{FactorKey}
 use Rattle.simm_kinds.specs.declared.row.CrifRow.{CrifRow}
 use Rattle.simm_kinds.specs.declared.row.CrifRow.TheVariants as row
-use Rattle.simm_rules.specs.Net.{Sensitivity, sensitivities}
+use Rattle.simm_rules.specs.Net.{sensitivities}
 use Rattle.factor_book.specs.declared.at.ClassAt.{ClassAt}
 use Rattle.factor_book.specs.declared.holding.Holding.{Holding}
 use Rattle.factor_book.specs.declared.place.Place.{Place}
@@ -22,7 +22,7 @@ use Rattle.factor_book.proofs.Rows.{sensitivities-append}
 use Rattle.factor_book.proofs.Standing.{place_total, at_place}
 use Rattle.kept_buckets.specs.Kept.{Kept, value_at, margin_at}
 use Rattle.kept_buckets.specs.Margins.{is_class}
-use Rattle.kept_buckets.specs.Touched.{has_key, lies_at, lies_in, is_of_class, class_at, Forgets, SameElsewhere}
+use Rattle.kept_buckets.specs.Touched.{has_key, is_of_class, class_at, Forgets, SameElsewhere}
 
 pub has_key-append : (test : FactorKey → Bool) (xs ys : List CrifRow) → has_key test (xs ++ ys) ≡ (has_key test xs || has_key test ys)
 has_key-append test xs ys =

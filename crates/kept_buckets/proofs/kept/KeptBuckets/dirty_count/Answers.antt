@@ -1,4 +1,4 @@
-use Rattle.std.proofs.Common.{◌≡◌, ◌+◌, ◌^◌, ◌<◌, ◌∙◌, ap, zero-add, arith}
+use Rattle.std.proofs.Common.{◌+◌, ◌^◌, ◌<◌, ◌∙◌, ap, zero-add, arith}
 use Rattle.std.specs.Prelude.{sum_by}
 use Rattle.kept_buckets.specs.Dirty.{dirty_at, dirty_in}
 use Rattle.kept_buckets.proofs.Sums.{Standing, dirty_below, count_next, count_fits, count_end}
