@@ -12,7 +12,7 @@ use crate::RefusedMessage;
 use crif_reader::{CrifFault, read_batch};
 use feed_reader::{Fed, Message};
 use mh_units::Bytes;
-use set_core::{ApplyFault, Event, SetState};
+use set_core::{Event, Halt, SetState};
 use simm_kinds::Name;
 use std::alloc::{AllocError, Global};
 
@@ -33,7 +33,7 @@ pub(crate) fn make_call(
         return Ok(Some(RefusedMessage::UnknownSet { line }));
     };
     match event_of(alloc, fed.message) {
-        Ok(event) => call(alloc, &mut sets[place], line, place as u32, event),
+        Ok(event) => call(&mut sets[place], line, place as u32, event),
         Err(fault) => refuse_block(line, fault),
     }
 }
@@ -109,7 +109,6 @@ fn refuse_block(line: u32, fault: CrifFault) -> Result<Option<RefusedMessage>, A
 
 /// Calls a set as caller 0.
 fn call(
-    alloc: Global,
     set: &mut SetState,
     line: u32,
     place: u32,
@@ -120,14 +119,20 @@ fn call(
     ensures stands { IfOk result (λ answer. IfSome answer (λ _. set.new ≡ set.old)) }
     ensures unchanged { OnErr result (set.new ≡ set.old) }
 {
-    match set.apply(alloc, 0, event) {
+    match set.apply(0, event) {
         Ok(_) => Ok(None),
-        Err(ApplyFault::JournalFull { entries, rows, .. }) => Ok(Some(RefusedMessage::Full {
+        Err(
+            Halt::Full {
+                entries,
+                weight,
+                ..
+            },
+        ) => Ok(Some(RefusedMessage::Full {
             line,
             set: place,
             entries,
-            rows,
+            rows: weight,
         })),
-        Err(ApplyFault::Memory { .. }) => Err(AllocError),
+        Err(Halt::Memory { .. }) => Err(AllocError),
     }
 }

@@ -12,7 +12,7 @@ use std::process::Abort;
 fn asked(rt: &(impl Abort + AllocGlobal), caller: u32) -> Text {
     let set = SetState::new(rt.alloc(), params(rt), set_terms(rt, 0));
     let mut set = set.ok().expect(rt, "memory");
-    assert!(rt; set.apply(rt.alloc(), caller, Event::AskMargin).is_ok());
+    assert!(rt; set.apply(caller, Event::AskMargin).is_ok());
     journal_text(rt.alloc(), &set, set.terms().name())
         .ok()
         .expect(rt, "memory")

@@ -1,5 +1,5 @@
 use crate::makers::{batch, name, params, set_terms};
-use set_core::{ApplyFault, Event, Reply, SetState, reply_text};
+use set_core::{Event, Halt, Reply, SetState, reply_text};
 use simm_kinds::Listed;
 use std::process::Abort;
 
@@ -35,9 +35,7 @@ fn withdrawal(rt: &(impl Abort + AllocGlobal), trade: &str) -> Event {
 
 fn apply(rt: &(impl Abort + AllocGlobal), set: &mut SetState, step: Step) -> Reply {
     let event = event(rt, step);
-    set.apply(rt.alloc(), 2, event)
-        .ok()
-        .expect(rt, "room and memory")
+    set.apply(2, event).ok().expect(rt, "room and memory")
 }
 
 fn is_text(rt: &(impl Abort + AllocGlobal), reply: &Reply, text: &str) -> bool {
@@ -82,11 +80,17 @@ fn a_set_has_its_journal(rt: HostRuntime) {
 fn a_journal_fills_by_entries(rt: HostRuntime) {
     let mut set = set(&rt);
     for _ in 0..65_535 {
-        assert!(rt; set.apply(rt.alloc(), 0, Event::AskMargin).is_ok());
+        assert!(rt; set.apply(0, Event::AskMargin).is_ok());
     }
-    match set.apply(rt.alloc(), 0, Event::AskMargin) {
-        Err(ApplyFault::JournalFull { entries, rows, .. }) => {
-            assert!(rt; (entries, rows) == (65_535, 0));
+    match set.apply(0, Event::AskMargin) {
+        Err(
+            Halt::Full {
+                entries,
+                weight,
+                ..
+            },
+        ) => {
+            assert!(rt; (entries, weight) == (65_535, 0));
         }
         _ => panic!(rt; "a full journal"),
     }

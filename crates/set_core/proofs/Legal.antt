@@ -48,12 +48,3 @@ legal-push p t log e legal right before after x h = at (stands log before after 
     at : Stands log before after e x → x.reply ≡ answer p t before x.event
     at (Last g i) = subst (λ y. y.reply ≡ answer p t before y.event) i (subst (λ ys. e.reply ≡ answer p t ys e.event) g right)
     at (Within rest g) = legal before rest x g
-
--- an empty journal is legal
-
-no_entry : (before after : Log) (e : Entry Event Reply) → [] ≡ before ++ e ∷ after → ⊥
-no_entry [] after e h = (cc)
-no_entry (x ∷ before) after e h = (cc)
-
-pub legal_none : (p : Params) (t : Agreement) → IsLegal p t []
-legal_none p t = λ before after e h. absurd (no_entry before after e h)

@@ -11,3 +11,4 @@ pub mod Legal
 pub mod Changes
 pub mod Demands
 pub mod Applies
+pub mod Steps

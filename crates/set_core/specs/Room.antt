@@ -1,5 +1,5 @@
 -- When a journal is full: 65,535 entries, or 500,000 rows of all submits, refused ones too.
-use Rattle.std.specs.Prelude.{ℕ, ◌+◌, List, length, Bool, ◌||◌, nat_le, nat_lt, sum_by}
+use Rattle.std.specs.Prelude.{◌≡◌, ℕ, ◌+◌, List, length, Bool, true, ◌||◌, nat_le, nat_lt, sum_by}
 use Rattle.simm_kinds.specs.Batch.{rows_of}
 use Rattle.held_cell.specs.declared.entry.Entry.{Entry}
 use Rattle.set_core.specs.declared.event.Event.{Event}
@@ -19,3 +19,6 @@ is_full_for log rows = nat_le 65535 (length log) || nat_lt 500000 (journal_rows 
 
 abbrev pub is_full : List (Entry Event Reply) → Event → Bool
 is_full log event = is_full_for log (event_rows event)
+
+abbrev pub IsFull : List (Entry Event Reply) → Event → Type 0
+IsFull log event = is_full log event ≡ true

@@ -1,13 +1,11 @@
 -- A netting set as it is seen: what it works on, and its journal.
-use Rattle.std.specs.Prelude.{◌≡◌, ℕ, ◌≤◌, List, [], ◌∷◌, ◌++◌, length, true, false, Option, None, zero, suc, slice_get}
+use Rattle.std.specs.Prelude.{◌≡◌, ℕ, ◌≤◌, List, [], ◌∷◌, ◌++◌, length, false, Option, None, zero, suc, slice_get}
 use Rattle.simm_rules.specs.Params.{Params}
 use Rattle.csa_terms.specs.Terms.{Agreement}
 use Rattle.held_cell.specs.declared.entry.Entry.{Entry}
 use Rattle.held_cell.specs.Entries.{entry}
 use Rattle.set_core.specs.declared.event.Event.{Event}
 use Rattle.set_core.specs.declared.reply.Reply.{Reply}
-use Rattle.set_core.specs.declared.fault.ApplyFault.{ApplyFault}
-use Rattle.set_core.specs.declared.fault.ApplyFault.TheVariants as fault
 use Rattle.set_core.specs.Answer.{answer, IsLegal}
 use Rattle.set_core.specs.Room.{journal_rows, is_full}
 
@@ -17,31 +15,19 @@ pub record Set : Type 0 where
   pub terms : Agreement
   pub journal : List (Entry Event Reply)
 
+-- what it works on, which no event changes
+abbrev pub base_of : Set → Params × Agreement
+base_of s = (s.params, s.terms)
+
 -- the set after an event that was answered
 abbrev pub with_entry : Set → ℕ → Event → Reply → Set
 with_entry s caller event reply = record s { journal = s.journal ++ entry caller event reply ∷ [] }
 
--- What applying an event does: its answer by the written rule joins the journal, which had room. Or the journal is full, which shows its
--- entries and rows, or memory ran out; then the event comes back and the set stands.
+-- What an event that is answered does: its answer by the written rule joins the journal, which had room.
 pub record IsAnswered (old new : Set) (caller : ℕ) (event : Event) (reply : Reply) : Type 0 where
   pub room : is_full old.journal event ≡ false
   pub value : reply ≡ answer old.params old.terms old.journal event
   pub after : new ≡ with_entry old caller event reply
-
-pub record IsFull (old : Set) (e : Event) (shown_entries shown_rows : ℕ) (back : Event) : Type 0 where
-  pub full : is_full old.journal e ≡ true
-  pub entries : shown_entries ≡ length old.journal
-  pub rows : shown_rows ≡ journal_rows old.journal
-  pub event : back ≡ e
-
--- a full journal is answered as such, whatever memory there is
-pub record HasRoom (old : Set) (e back : Event) : Type 0 where
-  pub room : is_full old.journal e ≡ false
-  pub event : back ≡ e
-
-abbrev pub Explains : Set → Event → ApplyFault → Type 0
-Explains old event (fault.JournalFull entries rows back) = IsFull old event entries rows back
-Explains old event (fault.Memory back) = HasRoom old event back
 
 -- what each set keeps
 pub record IsSet (p : Params) (t : Agreement) (log : List (Entry Event Reply)) : Type 0 where

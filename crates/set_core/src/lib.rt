@@ -8,7 +8,7 @@ mod call_note;
 mod calling;
 mod collateral;
 mod event;
-mod fault;
+mod machine;
 mod refusal;
 mod reply;
 mod reply_words;
@@ -16,7 +16,7 @@ mod set_state;
 
 pub use call_note::CallNote;
 pub use event::Event;
-pub use fault::ApplyFault;
+pub use held_cell::Halt;
 pub use refusal::Refusal;
 pub use reply::{Entry, Reply};
 pub use reply_words::{push_reply, reply_text};

@@ -2,11 +2,12 @@ ghost use Rattle.std.specs.Prelude.{◌≡◌, [], length, map, None, Some, IfOk
 ghost use Rattle.std.specs.Option.{option_copied};
 ghost use Rattle.bucket_cache.specs.Live.{Live};
 ghost use Rattle.set_core.specs.Book.{book};
-ghost use Rattle.set_core.specs.Room.{journal_rows, event_rows, is_full_for};
-ghost use Rattle.set_core.specs.Set.{IsSet, IsAnswered, Explains, entry_at};
+ghost use Rattle.held_cell.specs.Halts.{Explains};
+ghost use Rattle.set_core.specs.Room.{journal_rows, event_rows, is_full_for, IsFull};
+ghost use Rattle.set_core.specs.Set.{IsSet, IsAnswered, entry_at};
 
 use crate::answering::answer;
-use crate::{ApplyFault, Entry, Event, Reply};
+use crate::{Entry, Event, Halt, Reply};
 use bucket_cache::LiveMargin;
 use collateral_ledger::Ledger;
 use csa_terms::SetTerms;
@@ -15,9 +16,10 @@ use std::alloc::{AllocError, Global};
 use std::marker::Model;
 
 /// A netting set: what it works on, its current trades, its lots and outstanding calls, and the journal of its calls. Contracts see the parameters, the
-/// terms and the journal; all else is the written rule over the journal.
+/// terms and the journal; all else is the written rule over the journal. It keeps the allocator that it was made with.
 #[derive(Drop)]
 pub struct SetState {
+    alloc: Global,
     live: LiveMargin,
     ledger: Ledger,
     journal: Vec<Entry>,
@@ -52,6 +54,7 @@ impl SetState {
     {
         let live = LiveMargin::new(alloc, params)?;
         Ok(SetState {
+            alloc,
             live,
             ledger: Ledger::new(alloc, terms),
             journal: Vec::new(alloc),
@@ -64,27 +67,28 @@ impl SetState {
     ///
     /// # Errors
     ///
-    /// `JournalFull` exactly where the journal has 65,535 entries, or its rows and the event's are more than 500,000;
-    /// this is tested first, and takes no memory. `Memory` for want of memory. Then the set stands, and the event comes back.
-    pub fn apply(&mut self, alloc: Global, caller: u32, event: Event) -> Result<Reply, ApplyFault>
+    /// `Full` exactly where the journal has 65,535 entries, or its rows and the event's are more than 500,000; it shows the
+    /// journal's entries and, as its weight, its rows. This is tested first, and takes no memory. `Memory` for want of memory
+    /// where the journal had room. Then the set stands, and the event comes back.
+    pub fn apply(&mut self, caller: u32, event: Event) -> Result<Reply, Halt<Event>>
         ensures answered { IfOk result (IsAnswered self.old self.new caller event) }
-        ensures fault { IfErr result (Explains self.old event) }
+        ensures halt { IfErr result (Explains journal_rows IsFull self.old.journal event) }
         ensures unchanged { OnErr result (self.new ≡ self.old) }
     {
         event.facts();
         let rows = event.row_count();
         if self.is_full(rows) {
-            return Err(ApplyFault::JournalFull {
+            return Err(Halt::Full {
                 entries: self.entries(),
-                rows: self.rows,
+                weight: self.rows,
                 event,
             });
         }
         if self.journal.reserve(1).is_err() {
-            return Err(ApplyFault::Memory { event });
+            return Err(Halt::Memory { event });
         }
-        let Ok(reply) = answer(alloc, &mut self.live, &mut self.ledger, &event) else {
-            return Err(ApplyFault::Memory { event });
+        let Ok(reply) = answer(self.alloc, &mut self.live, &mut self.ledger, &event) else {
+            return Err(Halt::Memory { event });
         };
         self.rows += rows as u32;
         self.journal.push_reserved(Entry {

@@ -1,10 +1,10 @@
-use Rattle.std.proofs.Common.{[], refl, sym, subst, arith}
+use Rattle.std.proofs.Common.{[], refl, sym, subst}
 use Rattle.simm_rules.specs.Params.{Params}
 use Rattle.csa_terms.specs.Terms.{Agreement}
 use Rattle.collateral_ledger.specs.Holdings.{Holdings}
 use Rattle.bucket_cache.specs.Live.{Live}
 use Rattle.set_core.specs.Kept.{IsKept}
-use Rattle.set_core.proofs.Legal.{legal_none}
+use Rattle.set_core.specs.Start.{set_none}
 use Rattle.set_core.proofs.Words.{Log}
 use Rattle.set_core.proofs.set_state.SetState.new.Goals as goal
 
@@ -16,7 +16,7 @@ held_none t = record { terms = t; lots = []; calls = []; added = 0 }
 
 kept_none : (p : Params) (t : Agreement) → IsKept (live_none p) (held_none t) 0 []
 kept_none p t = record {
-  set = record { few = omega arith; light = omega arith; legal = legal_none p t };
+  set = set_none p t;
   book = refl;
   ledger = refl;
   rows = refl;

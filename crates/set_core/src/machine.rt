@@ -1,0 +1,39 @@
+//! A netting set as a machine that its callers share: it works on its parameters and its terms, and its journal weighs its rows.
+ghost use Rattle.set_core.specs.Room.{journal_rows, IsFull};
+ghost use Rattle.set_core.specs.Set.{IsSet, base_of};
+ghost use Rattle.set_core.specs.Start.{set_none};
+
+use crate::{Event, Reply, SetState};
+use csa_terms::SetTerms;
+use held_cell::{Halt, Machine};
+use simm_params::Params;
+
+impl Machine for SetState {
+    type Event = Event;
+
+    type Reply = Reply;
+
+    type Base = (Params, SetTerms);
+
+    ghost base = { base_of };
+
+    ghost journal = { λ set. set.journal };
+
+    ghost weight = { journal_rows };
+
+    ghost is_full = { IsFull };
+
+    ghost is_legal = { λ base log. IsSet base.0 base.1 log };
+
+    fn entries(&self) -> u32 {
+        SetState::entries(self)
+    }
+
+    fn step(&mut self, caller: u32, event: Event) -> Result<Reply, Halt<Event>> {
+        let answer = self.apply(caller, event);
+        self.facts();
+        answer
+    }
+
+    ghost starts = { λ base. set_none base.0 base.1 };
+}
