@@ -1,14 +1,11 @@
 -- Volatilities of names that have a price: where they stand, and in which order.
-use Rattle.std.proofs.Common.{◌≡◌, ℕ, List, [], ◌∷◌, map, true, false, Some, None, refl, sym, ap, ◌∙◌, ◌*ℤ◌, ◌⊎◌, inl, inr}
+use Rattle.std.proofs.Common.{◌≡◌, ℕ, List, [], ◌∷◌, true, false, Some, None, refl, sym, ap, ◌∙◌}
 use Rattle.std.specs.declared.cmp.Ordering.{Ordering}
-use Rattle.std.specs.declared.cmp.Ordering.TheVariants.{Less, Equal, Greater}
+use Rattle.std.specs.declared.cmp.Ordering.TheVariants.{Less, Equal}
 use Rattle.std.specs.Ordering.{nat_cmp, ordering_then, then_cmp, on}
-use Rattle.std.specs.List.{filter}
-use Rattle.std.specs.List.Sorted.{IsStrictlySortedBy}
 use Rattle.std.proofs.lemmas.Cmp.{nat_list_cmp_total}
-use Rattle.std.proofs.lemmas.Simd.{map-map}
+use Rattle.std.proofs.lemmas.Map.Lookups.{exact_bytes}
 use Rattle.simm_kinds.specs.declared.kinds.ProductClass.{ProductClass}
-use Rattle.simm_kinds.specs.declared.kinds.Tenor.{Tenor}
 use Rattle.simm_kinds.specs.declared.kinds.BucketId.TheVariants as id
 use Rattle.simm_kinds.specs.declared.bucket.Bucket.{Bucket}
 use Rattle.simm_kinds.specs.declared.bucket.Bucket.TheVariants as bucket
@@ -17,22 +14,19 @@ use Rattle.simm_kinds.specs.declared.factor.Factor.TheVariants as factor
 use Rattle.simm_kinds.specs.declared.key.FactorKey.{FactorKey}
 use Rattle.simm_kinds.specs.Factors.{bucket_id_of}
 use Rattle.simm_kinds.specs.Order.{same_product, key_cmp, name_cmp, same_name, tenor_place, bucket_numbers, same_bucket, same_bucket_id}
-use Rattle.simm_rules.specs.Sums.{total_by, different}
 use Rattle.simm_rules.specs.Risks.{risk, PricedClass, Equities, Commodities, Amount}
-use Rattle.simm_rules.specs.Priced.{NameVolatility, as_price_volatility, names_of}
+use Rattle.simm_rules.specs.Priced.{NameVolatility, as_price_volatility}
 use Rattle.factor_book.specs.declared.holding.Holding.{Holding}
 use Rattle.factor_book.specs.Factors.{IsBook}
 use Rattle.factor_book.specs.Places.{stands_at}
-use Rattle.factor_book.proofs.Sums.{total_by-map}
 use Rattle.name_delta.proofs.Keys.{then_Equal, and_last, and_other, and_side, and_bucket, key_with, by_factor, bucket_ids, tied_buckets, chosen, not_chosen}
-use Rattle.name_delta.proofs.Lists.{each_weaker, each_map, each_unmap, map-filter, map-itself}
+use Rattle.name_delta.proofs.Lists.{map-itself}
 use Rattle.name_delta.proofs.Selected.{issuers_place, select_ascends}
 use Rattle.vol_factors.specs.declared.tenor_scale.TenorScale.{TenorScale}
-use Rattle.vol_factors.specs.Scale.{scale_by}
 use Rattle.vol_factors.specs.Places.{names_place, name_volatilities}
-use Rattle.vol_factors.specs.Names.{as_name_volatility, nets_at, scaled_net, scaled_nets, name_total, name_totals, name_sums_at}
+use Rattle.vol_factors.specs.Names.{as_name_volatility, nets_at, scaled_nets, name_totals, name_sums_at}
 use Rattle.vol_factors.specs.Together.{summed}
-use Rattle.vol_factors.proofs.Runs.{NotAfter, Ascends, sum_to, runs_are}
+use Rattle.vol_factors.proofs.OverTenors.{Things, totals_are}
 
 -- ---- which factors they are
 
@@ -175,49 +169,20 @@ less Commodities at product k l x y p q e d h =
     let j = is_commodity at l.factor y d in
     sym (by_factor product k l (factor.CommodityVol x.name i.of x.tenor) (factor.CommodityVol y.name j.of y.tenor) p q i.is j.is ∙ by_number x y i.of j.of at i.inside j.inside) ∙ h
 
--- a volatility that comes before another is of no later name
-name_first : (x y : NameVolatility) → volatility_cmp x y ≡ Less → (name_cmp x.name y.name ≡ Less) ⊎ (name_cmp x.name y.name ≡ Equal)
-name_first x y h = by (name_cmp x.name y.name) refl h
-  where
-    by : (o : Ordering) → name_cmp x.name y.name ≡ o → ordering_then (name_cmp x.name y.name) (nat_cmp (tenor_place x.tenor) (tenor_place y.tenor)) ≡ Less → (name_cmp x.name y.name ≡ Less) ⊎ (name_cmp x.name y.name ≡ Equal)
-    by Less e g = inl e
-    by Equal e g = inr e
-    by Greater e g = absurd (cc)
+-- ---- the sums of the names
 
-pub maps_agree : {X Y : Type 0} (f g : X → Y) → ((x : X) → f x ≡ g x) → (xs : List X) → map f xs ≡ map g xs
-maps_agree f g h [] = refl
-maps_agree f g h (x ∷ xs) = ap (λ y. y ∷ map f xs) (h x) ∙ ap (λ ys. g x ∷ ys) (maps_agree f g h xs)
+abbrev pub names : Things (List ℕ) NameVolatility
+names = record {
+  cmp = name_cmp;
+  order = nat_list_cmp_total;
+  exact = exact_bytes;
+  same = same_name;
+  tests = λ x y. refl;
+  key = λ x. x.name;
+  tenor = λ x. x.tenor;
+}
 
-module _ (scale : TenorScale) where
-  abbrev by_name : Amount NameVolatility → Amount (List ℕ)
-  by_name = scaled_net scale
-
-  ascend : (amounts : List (Amount NameVolatility)) → IsStrictlySortedBy volatility_cmp (map (λ a. a.of) amounts) → Ascends name_cmp nat_list_cmp_total same_name (λ x y. refl) (scaled_nets scale amounts)
-  unfolding IsStrictlySortedBy
-  ascend [] s = tt
-  ascend (a ∷ amounts) s = (
-    each_map (λ (b : Amount (List ℕ)). NotAfter name_cmp nat_list_cmp_total same_name (λ x y. refl) (a.of).name b.of) by_name amounts
-        (each_weaker (λ (b : Amount NameVolatility). volatility_cmp a.of b.of ≡ Less) (λ b. NotAfter name_cmp nat_list_cmp_total same_name (λ x y. refl) (a.of).name (b.of).name) (λ b its. name_first a.of b.of its) amounts
-        (each_unmap (λ y. volatility_cmp a.of y ≡ Less) (λ (b : Amount NameVolatility). b.of) amounts s.0)),
-    ascend amounts s.1,
-  )
-
-  -- ---- the sums of the names
-
-  module _ (amounts : List (Amount NameVolatility)) where
-    abbrev own : List ℕ → List (Amount NameVolatility)
-    own name = filter (λ (a : Amount NameVolatility). same_name (a.of).name name) amounts
-
-    total_of : (name : List ℕ) → total_by (λ a. a.amount) (filter (λ a. same_name a.of name) (scaled_nets scale amounts)) ≡ name_total scale amounts name
-    total_of name =
-        ap (total_by (λ (a : Amount (List ℕ)). a.amount)) (sym (map-filter by_name (λ (a : Amount (List ℕ)). same_name a.of name) amounts))
-        ∙ total_by-map (λ (a : Amount (List ℕ)). a.amount) by_name (own name)
-        ∙ sym (total_by-map (λ (a : Amount Tenor). scale_by scale a.of *ℤ a.amount) (λ (a : Amount NameVolatility). record { of = (a.of).tenor; amount = a.amount }) (own name))
-
-  pub sums_are : (class : PricedClass) (at : Bucket) (product : ProductClass) (fs : List (FactorKey × Holding)) → IsBook fs → name_sums_at scale (names_place class at product) fs ≡ name_totals scale (name_volatilities class at product fs)
-  sums_are class at product fs book =
-      let amounts = name_volatilities class at product fs in
-      ap (λ xs. summed same_name (scaled_nets scale xs)) (nets_are class at product fs)
-      ∙ runs_are name_cmp nat_list_cmp_total same_name (λ x y. refl) (scaled_nets scale amounts) (ascend amounts (select_ascends (as_price_volatility class at) volatility_cmp product (less class at product) fs book))
-      ∙ ap (λ ks. map (sum_to name_cmp nat_list_cmp_total same_name (λ x y. refl) (scaled_nets scale amounts)) (different name_cmp ks)) (map-map (λ (a : Amount (List ℕ)). a.of) by_name amounts)
-      ∙ maps_agree (sum_to name_cmp nat_list_cmp_total same_name (λ x y. refl) (scaled_nets scale amounts)) (λ name. record { of = name; amount = name_total scale amounts name }) (λ name. ap (λ z. record { of = name; amount = z }) (total_of amounts name)) (names_of amounts)
+pub sums_are : (s : TenorScale) (class : PricedClass) (at : Bucket) (product : ProductClass) (fs : List (FactorKey × Holding)) → IsBook fs → name_sums_at s (names_place class at product) fs ≡ name_totals s (name_volatilities class at product fs)
+sums_are s class at product fs book =
+    ap (λ xs. summed same_name (scaled_nets s xs)) (nets_are class at product fs)
+    ∙ totals_are names s (name_volatilities class at product fs) (select_ascends (as_price_volatility class at) volatility_cmp product (less class at product) fs book)

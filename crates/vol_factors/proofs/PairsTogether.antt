@@ -1,18 +1,14 @@
 -- Volatilities of pairs of currencies: where they stand, and in which order.
-use Rattle.std.proofs.Common.{◌≡◌, List, [], ◌∷◌, map, false, true, ◌&&◌, Some, None, refl, sym, ap, ◌∙◌, ◌*ℤ◌, ◌⊎◌, inl, inr}
+use Rattle.std.proofs.Common.{◌≡◌, List, [], ◌∷◌, false, true, ◌&&◌, Some, None, refl, sym, ap, ◌∙◌}
 use Rattle.std.specs.declared.cmp.Ordering.{Ordering}
 use Rattle.std.specs.declared.cmp.Ordering.TheVariants.{Less, Equal, Greater}
 use Rattle.std.specs.Ordering.{nat_cmp, ordering_then, is_eq, then_cmp, on}
 use Rattle.std.specs.Cmp.{IsTotalOrder}
-use Rattle.std.specs.List.{filter}
-use Rattle.std.specs.List.Sorted.{IsStrictlySortedBy}
 use Rattle.std.specs.Str.{bytes_eq}
 use Rattle.std.proofs.lemmas.Cmp.{nat_list_cmp_total, on_total, then_total}
 use Rattle.std.proofs.lemmas.Map.Lookups.{CmpEqualImpliesEq, exact_bytes}
 use Rattle.std.proofs.lemmas.Map.Text.{is_eq-slice_cmp}
-use Rattle.std.proofs.lemmas.Simd.{map-map}
 use Rattle.simm_kinds.specs.declared.kinds.ProductClass.{ProductClass}
-use Rattle.simm_kinds.specs.declared.kinds.Tenor.{Tenor}
 use Rattle.simm_kinds.specs.declared.kinds.BucketId.TheVariants as id
 use Rattle.simm_kinds.specs.declared.factor.Factor.{Factor}
 use Rattle.simm_kinds.specs.declared.factor.Factor.TheVariants as factor
@@ -20,23 +16,19 @@ use Rattle.simm_kinds.specs.declared.key.FactorKey.{FactorKey}
 use Rattle.simm_kinds.specs.Factors.{bucket_id_of}
 use Rattle.simm_kinds.specs.Pair.{Pair}
 use Rattle.simm_kinds.specs.Order.{same_product, key_cmp, name_cmp, pair_cmp, same_pair, tenor_place, same_bucket_id}
-use Rattle.simm_rules.specs.Sums.{total_by, different}
 use Rattle.simm_rules.specs.Risks.{risk, Amount}
-use Rattle.simm_rules.specs.ForeignExchange.{PairVolatility, as_pair_volatility, pairs_of}
+use Rattle.simm_rules.specs.ForeignExchange.{PairVolatility, as_pair_volatility}
 use Rattle.factor_book.specs.declared.holding.Holding.{Holding}
 use Rattle.factor_book.specs.Factors.{IsBook}
 use Rattle.factor_book.specs.Places.{stands_at}
-use Rattle.factor_book.proofs.Sums.{total_by-map}
 use Rattle.name_delta.proofs.Keys.{then_Equal, and_trues, and_other, and_side, key_with, by_factor}
-use Rattle.name_delta.proofs.Lists.{each_weaker, each_map, each_unmap, map-filter, map-itself}
+use Rattle.name_delta.proofs.Lists.{map-itself}
 use Rattle.name_delta.proofs.Selected.{issuers_place, select_ascends}
 use Rattle.vol_factors.specs.declared.tenor_scale.TenorScale.{TenorScale}
-use Rattle.vol_factors.specs.Scale.{scale_by}
 use Rattle.vol_factors.specs.Places.{pairs_place, pair_volatilities}
-use Rattle.vol_factors.specs.Pairs.{pair_nets_at, scaled_pair, scaled_pairs, pair_total, pair_totals, pair_sums_at}
+use Rattle.vol_factors.specs.Pairs.{pair_nets_at, scaled_pairs, pair_totals, pair_sums_at}
 use Rattle.vol_factors.specs.Together.{summed}
-use Rattle.vol_factors.proofs.Runs.{NotAfter, Ascends, sum_to, runs_are}
-use Rattle.vol_factors.proofs.NamesTogether.{maps_agree}
+use Rattle.vol_factors.proofs.OverTenors.{Things, totals_are}
 
 -- ---- the order of pairs
 
@@ -137,45 +129,20 @@ less : (product : ProductClass) (k l : FactorKey) (x y : PairVolatility) → sam
 less product k l x y p q e d h =
     sym (by_factor product k l (factor.FxVol x.pair x.tenor) (factor.FxVol y.pair y.tenor) p q (is_volatility k.factor x e) (is_volatility l.factor y d) ∙ by_parts x y) ∙ h
 
--- a volatility that comes before another is of no later pair
-pair_first : (x y : PairVolatility) → volatility_cmp x y ≡ Less → (pair_cmp x.pair y.pair ≡ Less) ⊎ (pair_cmp x.pair y.pair ≡ Equal)
-pair_first x y h = by (pair_cmp x.pair y.pair) refl h
-  where
-    by : (o : Ordering) → pair_cmp x.pair y.pair ≡ o → ordering_then o (nat_cmp (tenor_place x.tenor) (tenor_place y.tenor)) ≡ Less → (pair_cmp x.pair y.pair ≡ Less) ⊎ (pair_cmp x.pair y.pair ≡ Equal)
-    by Less e g = inl e
-    by Equal e g = inr e
-    by Greater e g = absurd (cc)
+-- ---- the sums of the pairs
 
-module _ (scale : TenorScale) where
-  abbrev by_pair : Amount PairVolatility → Amount Pair
-  by_pair = scaled_pair scale
+abbrev pub pairs : Things Pair PairVolatility
+pairs = record {
+  cmp = pair_cmp;
+  order = pairs_total;
+  exact = exact_pair;
+  same = same_pair;
+  tests = λ x y. refl;
+  key = λ x. x.pair;
+  tenor = λ x. x.tenor;
+}
 
-  ascend : (amounts : List (Amount PairVolatility)) → IsStrictlySortedBy volatility_cmp (map (λ a. a.of) amounts) → Ascends pair_cmp pairs_total same_pair (λ x y. refl) (scaled_pairs scale amounts)
-  unfolding IsStrictlySortedBy
-  ascend [] s = tt
-  ascend (a ∷ amounts) s = (
-    each_map (λ (b : Amount Pair). NotAfter pair_cmp pairs_total same_pair (λ x y. refl) (a.of).pair b.of) by_pair amounts
-        (each_weaker (λ (b : Amount PairVolatility). volatility_cmp a.of b.of ≡ Less) (λ b. NotAfter pair_cmp pairs_total same_pair (λ x y. refl) (a.of).pair (b.of).pair) (λ b its. pair_first a.of b.of its) amounts
-        (each_unmap (λ y. volatility_cmp a.of y ≡ Less) (λ (b : Amount PairVolatility). b.of) amounts s.0)),
-    ascend amounts s.1,
-  )
-
-  -- ---- the sums of the pairs
-
-  module _ (amounts : List (Amount PairVolatility)) where
-    abbrev own : Pair → List (Amount PairVolatility)
-    own pair = filter (λ (a : Amount PairVolatility). same_pair (a.of).pair pair) amounts
-
-    total_of : (pair : Pair) → total_by (λ a. a.amount) (filter (λ a. same_pair a.of pair) (scaled_pairs scale amounts)) ≡ pair_total scale amounts pair
-    total_of pair =
-        ap (total_by (λ (a : Amount Pair). a.amount)) (sym (map-filter by_pair (λ (a : Amount Pair). same_pair a.of pair) amounts))
-        ∙ total_by-map (λ (a : Amount Pair). a.amount) by_pair (own pair)
-        ∙ sym (total_by-map (λ (a : Amount Tenor). scale_by scale a.of *ℤ a.amount) (λ (a : Amount PairVolatility). record { of = (a.of).tenor; amount = a.amount }) (own pair))
-
-  pub sums_are : (product : ProductClass) (fs : List (FactorKey × Holding)) → IsBook fs → pair_sums_at scale (pairs_place product) fs ≡ pair_totals scale (pair_volatilities product fs)
-  sums_are product fs book =
-      let amounts = pair_volatilities product fs in
-      ap (λ xs. summed same_pair (scaled_pairs scale xs)) (nets_are product fs)
-      ∙ runs_are pair_cmp pairs_total same_pair (λ x y. refl) (scaled_pairs scale amounts) (ascend amounts (select_ascends as_pair_volatility volatility_cmp product (less product) fs book))
-      ∙ ap (λ ks. map (sum_to pair_cmp pairs_total same_pair (λ x y. refl) (scaled_pairs scale amounts)) (different pair_cmp ks)) (map-map (λ (a : Amount Pair). a.of) by_pair amounts)
-      ∙ maps_agree (sum_to pair_cmp pairs_total same_pair (λ x y. refl) (scaled_pairs scale amounts)) (λ pair. record { of = pair; amount = pair_total scale amounts pair }) (λ pair. ap (λ z. record { of = pair; amount = z }) (total_of amounts pair)) (pairs_of amounts)
+pub sums_are : (s : TenorScale) (product : ProductClass) (fs : List (FactorKey × Holding)) → IsBook fs → pair_sums_at s (pairs_place product) fs ≡ pair_totals s (pair_volatilities product fs)
+sums_are s product fs book =
+    ap (λ xs. summed same_pair (scaled_pairs s xs)) (nets_are product fs)
+    ∙ totals_are pairs s (pair_volatilities product fs) (select_ascends as_pair_volatility volatility_cmp product (less product) fs book)

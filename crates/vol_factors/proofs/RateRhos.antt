@@ -29,7 +29,7 @@ module _ (p : Params) where
   six_small : (z : ℤ) → unsigned_abs z ≤ 10000 → unsigned_abs (six z) ≤ 1000000
   six_small z h = product_size (pos 100) z 100 10000 (omega arith) h
 
-  small : IsParams p → (a b : RateVolatility) → unsigned_abs (rate_volatility_rho p a b) ≤ 1000000
+  pub small : IsParams p → (a b : RateVolatility) → unsigned_abs (rate_volatility_rho p a b) ≤ 1000000
   small facts (Of_rates t) (Of_rates u) = six_small (tenor_rho p t u) (tenor_rho-small p facts t u)
   small facts (Of_rates t) (Of_inflation u) = six_small p.ir.inflation_rho (size_from_bounds p.ir.inflation_rho 10000 facts.ir.inflation_rho.low facts.ir.inflation_rho.high)
   small facts (Of_inflation t) (Of_rates u) = six_small p.ir.inflation_rho (size_from_bounds p.ir.inflation_rho 10000 facts.ir.inflation_rho.low facts.ir.inflation_rho.high)

@@ -1,8 +1,7 @@
 -- Nets that have been read so far, each times what its tenor counts.
-use Rattle.std.proofs.Common.{◌≡◌, ◌^◌, ℕ, ◌+◌, ◌*◌, ◌≤◌, List, [], ◌∷◌, ◌++◌, map, Option, Some, None, sym, ap, ◌∙◌, subst, ℤ, ◌*ℤ◌, unsigned_abs, FitsSigned, arith, append_assoc}
+use Rattle.std.proofs.Common.{◌≡◌, ◌^◌, ℕ, ◌+◌, ◌*◌, ◌≤◌, List, [], ◌∷◌, ◌++◌, map, Option, Some, None, sym, ap, ◌∙◌, subst, ℤ, ◌*ℤ◌, unsigned_abs, arith, append_assoc, mul-le-mul_left}
 use Rattle.std.specs.Prelude.{sum_by}
-use Rattle.std.specs.Int.{w128}
-use Rattle.std.proofs.lemmas.Int.{ints, fits_signed_from_abs}
+use Rattle.std.proofs.lemmas.Int.{ints}
 use Rattle.std.proofs.lemmas.List.Sums.{sum_by-cons}
 use Rattle.mh_units.proofs.Integers.{product_size}
 use Rattle.simm_kinds.specs.declared.kinds.Tenor.{Tenor}
@@ -10,21 +9,16 @@ use Rattle.simm_kinds.specs.declared.kinds.Tenor.TheVariants as tenor
 use Rattle.simm_kinds.specs.declared.key.FactorKey.{FactorKey}
 use Rattle.simm_rules.specs.Curvature.{scale_of}
 use Rattle.simm_rules.specs.Risks.{Risk, risk, Amount, select}
-use Rattle.simm_kinds.specs.Pair.{Pair}
-use Rattle.simm_rules.specs.Priced.{NameVolatility}
-use Rattle.simm_rules.specs.ForeignExchange.{PairVolatility}
 use Rattle.factor_book.specs.declared.holding.Holding.{Holding}
 use Rattle.factor_book.specs.Factors.{net_of}
 use Rattle.name_delta.proofs.Selected.{select_none, select_some}
 use Rattle.vol_factors.specs.declared.tenor_scale.TenorScale.{TenorScale}
 use Rattle.vol_factors.specs.declared.tenor_scale.TenorScale.TheVariants as scale
 use Rattle.vol_factors.specs.Scale.{scale_by}
-use Rattle.vol_factors.specs.Names.{scaled_net, scaled_nets}
-use Rattle.vol_factors.specs.Pairs.{scaled_pair, scaled_pairs}
 
 -- ---- how much a tenor counts
 
-pub scale_of-size : (t : Tenor) → unsigned_abs (scale_of t) ≤ 10950
+scale_of-size : (t : Tenor) → unsigned_abs (scale_of t) ≤ 10950
 scale_of-size tenor.W2 = omega (arith, ints)
 scale_of-size tenor.M1 = omega (arith, ints)
 scale_of-size tenor.M3 = omega (arith, ints)
@@ -38,40 +32,39 @@ scale_of-size tenor.Y15 = omega (arith, ints)
 scale_of-size tenor.Y20 = omega (arith, ints)
 scale_of-size tenor.Y30 = omega (arith, ints)
 
-pub scale_by-size : (s : TenorScale) (t : Tenor) → unsigned_abs (scale_by s t) ≤ 10950
+-- and that is the most
+abbrev pub most : TenorScale → ℕ
+most scale.Even = 1
+most scale.Curved = 10950
+
+pub most_below : (s : TenorScale) → most s ≤ 10950
+most_below scale.Even = omega arith
+most_below scale.Curved = omega arith
+
+scale_by-size : (s : TenorScale) (t : Tenor) → unsigned_abs (scale_by s t) ≤ most s
 scale_by-size scale.Even t = omega (arith, ints)
 scale_by-size scale.Curved t = scale_of-size t
 
 -- ---- sizes
 
-pub times_size : (f net : ℤ) → unsigned_abs f ≤ 10950 → unsigned_abs (f *ℤ net) ≤ 10950 * unsigned_abs net
-times_size f net h = product_size f net 10950 (unsigned_abs net) h (omega arith)
+times_size : (f net : ℤ) (m : ℕ) → unsigned_abs f ≤ m → unsigned_abs (f *ℤ net) ≤ unsigned_abs net * m
+times_size f net m h = omega (arith, product_size f net m (unsigned_abs net) h (omega arith))
 
-pub times_fits : (f net : ℤ) → unsigned_abs f ≤ 10950 → unsigned_abs net ≤ 2 * 10 ^ 20 → FitsSigned w128 (f *ℤ net)
-times_fits f net h small = fits_signed_from_abs w128 (f *ℤ net) (omega (arith, times_size f net h))
+-- nets, each times what its tenor counts
+pub scaled_sizes : {X : Type 0} (s : TenorScale) (tenor : X → Tenor) (net : X → ℤ) (xs : List X) → sum_by (λ x. unsigned_abs (scale_by s (tenor x) *ℤ net x)) xs ≤ sum_by (λ x. unsigned_abs (net x)) xs * most s
+scaled_sizes s tenor net [] = omega arith
+scaled_sizes s tenor net (x ∷ xs) =
+    let whole : sum_by (λ y. unsigned_abs (net y)) (x ∷ xs) * most s ≡ (unsigned_abs (net x) + sum_by (λ y. unsigned_abs (net y)) xs) * most s = ap (λ n. n * most s) (sum_by-cons (λ y. unsigned_abs (net y)) x xs) in
+    omega (
+      arith,
+      scaled_sizes s tenor net xs,
+      times_size (scale_by s (tenor x)) (net x) (most s) (scale_by-size s (tenor x)),
+      sum_by-cons (λ y. unsigned_abs (scale_by s (tenor y) *ℤ net y)) x xs,
+    )
 
-module _ (s : TenorScale) where
-  pub scaled_sizes : (amounts : List (Amount NameVolatility)) → sum_by (λ a. unsigned_abs a.amount) (scaled_nets s amounts) ≤ 10950 * sum_by (λ a. unsigned_abs a.amount) amounts
-  scaled_sizes [] = omega arith
-  scaled_sizes (a ∷ amounts) =
-      omega (
-        arith,
-        scaled_sizes amounts,
-        times_size (scale_by s (a.of).tenor) a.amount (scale_by-size s (a.of).tenor),
-        sum_by-cons (λ (b : Amount (List ℕ)). unsigned_abs b.amount) (scaled_net s a) (scaled_nets s amounts),
-        sum_by-cons (λ (b : Amount NameVolatility). unsigned_abs b.amount) a amounts,
-      )
-
-  pub pairs_sizes : (amounts : List (Amount PairVolatility)) → sum_by (λ a. unsigned_abs a.amount) (scaled_pairs s amounts) ≤ 10950 * sum_by (λ a. unsigned_abs a.amount) amounts
-  pairs_sizes [] = omega arith
-  pairs_sizes (a ∷ amounts) =
-      omega (
-        arith,
-        pairs_sizes amounts,
-        times_size (scale_by s (a.of).tenor) a.amount (scale_by-size s (a.of).tenor),
-        sum_by-cons (λ (b : Amount Pair). unsigned_abs b.amount) (scaled_pair s a) (scaled_pairs s amounts),
-        sum_by-cons (λ (b : Amount PairVolatility). unsigned_abs b.amount) a amounts,
-      )
+-- what comes to no more than nets that are small enough, each counted in full
+pub within_most : (s : TenorScale) (n m : ℕ) → n ≤ m * most s → m ≤ 2 * 10 ^ 20 → n ≤ 219 * 10 ^ 22
+within_most s n m h small = omega (arith, h, mul-le-mul_left m (most_below s), small)
 
 -- ---- those so far, of one sort
 

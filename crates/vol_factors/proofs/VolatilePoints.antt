@@ -1,5 +1,5 @@
 -- Volatilities of credit: where they stand, in which order, and whose they are.
-use Rattle.std.proofs.Common.{◌≡◌, List, [], ◌∷◌, map, true, false, Some, None, sym, ap, ◌∙◌, subst, ℤ}
+use Rattle.std.proofs.Common.{◌≡◌, List, [], ◌∷◌, map, true, false, Some, None, sym, ap, ◌∙◌}
 use Rattle.std.specs.declared.cmp.Ordering.{Ordering}
 use Rattle.std.specs.declared.cmp.Ordering.TheVariants.{Less, Equal}
 use Rattle.std.specs.Ordering.{nat_cmp, ordering_then}
@@ -15,16 +15,14 @@ use Rattle.simm_kinds.specs.Tenors.{tenor_at}
 use Rattle.simm_kinds.specs.Order.{same_product, key_cmp, name_cmp, credit_tenor_place, bucket_numbers, same_bucket, same_bucket_id}
 use Rattle.simm_rules.specs.Risks.{risk, CreditClass, Qualifying, Non_qualifying, CreditPoint, credit_point}
 use Rattle.simm_rules.specs.Credit.{as_credit_volatility}
-use Rattle.factor_book.specs.declared.place.Place.{Place}
 use Rattle.factor_book.specs.declared.holding.Holding.{Holding}
 use Rattle.factor_book.specs.Factors.{IsBook}
 use Rattle.factor_book.specs.Places.{stands_at, factors_at}
-use Rattle.weighted_bucket.specs.declared.group.Grouped.{Grouped}
-use Rattle.name_delta.specs.Points.{as_issuer, issuer_nets_at, AreGrouped}
-use Rattle.name_delta.proofs.CreditPoints.{point_cmp, issuer_amount}
+use Rattle.name_delta.specs.Points.{as_issuer, issuer_nets_at}
+use Rattle.name_delta.proofs.CreditPoints.{point_cmp}
 use Rattle.name_delta.proofs.Keys.{then_Equal, and_last, and_other, and_side, and_bucket, key_with, by_factor, bucket_ids, tied_buckets, chosen, not_chosen}
 use Rattle.name_delta.proofs.Selected.{issuers_place, select_ascends}
-use Rattle.vol_factors.specs.Credit.{as_point_tenor, tenors_among}
+use Rattle.vol_factors.specs.Credit.{as_point_tenor, issuer_net, tenors_among}
 use Rattle.vol_factors.specs.Places.{points_place, points_of}
 
 -- ---- which factors they are
@@ -133,7 +131,7 @@ elsewhere Non_qualifying at product c (factor.Fx n) h = and_other (same_product 
 elsewhere Non_qualifying at product c (factor.FxVol p t) h = and_other (same_product c product) true (same_bucket_id id.Single (bucket_id_of at))
 
 -- the nets of the place are those of the bucket's points
-pub points_nets : (class : CreditClass) (at : Bucket) (product : ProductClass) (fs : List (FactorKey × Holding)) → issuer_nets_at (points_place class at product) fs ≡ map issuer_amount (points_of class at product fs)
+pub points_nets : (class : CreditClass) (at : Bucket) (product : ProductClass) (fs : List (FactorKey × Holding)) → issuer_nets_at (points_place class at product) fs ≡ map issuer_net (points_of class at product fs)
 points_nets class at product fs =
     issuers_place (as_credit_volatility class at) as_issuer (λ x. x.issuer) (points_place class at product) (stands class at product) (λ k x e. whose class at k.factor x e) (λ k e. elsewhere class at product k.product k.factor e) fs
 
@@ -174,9 +172,3 @@ less Non_qualifying at product k l x y p q e d h =
 
 pub points_ascend : (class : CreditClass) (at : Bucket) (product : ProductClass) (fs : List (FactorKey × Holding)) → IsBook fs → IsStrictlySortedBy point_cmp (map (λ a. a.of) (points_of class at product fs))
 points_ascend class at product fs book = select_ascends (as_credit_volatility class at) point_cmp product (less class at product) fs book
-
--- the groups of the place are those of the bucket's points
-pub points_grouped : (t u : ℤ) (class : CreditClass) (at : Bucket) (product : ProductClass) (fs : List (FactorKey × Holding)) (place : Place) (groups made : List Grouped) → groups ≡ made → AreGrouped u (issuer_nets_at place fs) made → u ≡ t → place ≡ points_place class at product → AreGrouped t (map issuer_amount (points_of class at product fs)) groups
-points_grouped t u class at product fs place groups made same e is there =
-    subst (AreGrouped t (map issuer_amount (points_of class at product fs))) (sym same)
-    (subst (λ nets. AreGrouped t nets made) (ap (λ p. issuer_nets_at p fs) there ∙ points_nets class at product fs) (subst (λ z. AreGrouped z (issuer_nets_at place fs) made) is e))

@@ -1,6 +1,6 @@
 -- The volatilities of the points of a bucket of credit.
 -- (ISDA SIMM methodology, credit spread risk: vega and curvature.)
-use Rattle.std.specs.Prelude.{List, map, Option, Some, None, ℤ, ◌*ℤ◌}
+use Rattle.std.specs.Prelude.{ℕ, List, map, Option, Some, None, ℤ, ◌*ℤ◌}
 use Rattle.simm_kinds.specs.declared.kinds.Tenor.{Tenor}
 use Rattle.simm_kinds.specs.declared.key.FactorKey.{FactorKey}
 use Rattle.simm_kinds.specs.Tenors.{tenor_at}
@@ -32,3 +32,7 @@ scaled_tenor scale a = scale_by scale a.of *ℤ a.amount
 
 abbrev pub scaled_point : TenorScale → Amount CreditPoint → ℤ
 scaled_point scale a = scale_by scale (tenor_at (a.of).tenor) *ℤ a.amount
+
+-- a net, by its issuer
+abbrev pub issuer_net : Amount CreditPoint → Amount (List ℕ)
+issuer_net a = record { of = (a.of).issuer; amount = a.amount }

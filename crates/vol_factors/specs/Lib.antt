@@ -1,8 +1,9 @@
 pub mod Scale
 pub mod Places
+pub mod Buckets
+pub mod Ranges
 pub mod Rates
 pub mod Credit
 pub mod Together
 pub mod Names
 pub mod Pairs
-pub mod Ranges

@@ -1,10 +1,17 @@
 -- The volatilities of a bucket of a book in range.
-use Rattle.std.specs.Prelude.{◌*◌, ◌^◌, ◌≤◌, List, sum_by, ℤ, pos, unsigned_abs}
+use Rattle.std.specs.Prelude.{◌*◌, ◌^◌, ◌≤◌, List, sum_by, ℤ, pos, unsigned_abs, Option, IsSomeAnd}
+use Rattle.simm_kinds.specs.declared.key.FactorKey.{FactorKey}
 use Rattle.simm_rules.specs.Params.{Params, PricedBucket}
 use Rattle.simm_rules.specs.Risks.{Amount}
-use Rattle.simm_rules.specs.Priced.{NameVolatility}
+use Rattle.simm_rules.specs.Credit.{credit_params}
+use Rattle.simm_rules.specs.Priced.{NameVolatility, priced_params}
 use Rattle.simm_rules.specs.ForeignExchange.{PairVolatility, fx_sigma}
+use Rattle.simm_params.specs.ListedBuckets.{credit_bucket_of, priced_bucket_of}
+use Rattle.factor_book.specs.declared.at.BucketAt.{BucketAt}
+use Rattle.factor_book.specs.declared.holding.Holding.{Holding}
 use Rattle.name_delta.specs.Values.{IsInRange}
+use Rattle.vol_factors.specs.Buckets.{VolatileBucket, Currency_bucket, Credit_bucket, Priced_bucket, Pairs_bucket, volatile_bucket}
+use Rattle.vol_factors.specs.Places.{volatilities_of, points_of, name_volatilities, pair_volatilities}
 
 -- volatilities of rates and of credit weigh 1: their amounts are already volatility times vega
 abbrev pub alone : {A : Type 0} → A → ℤ
@@ -20,3 +27,20 @@ pub record IsPricedInRange (b : PricedBucket) (amounts : List (Amount NameVolati
 pub record ArePairsInRange (p : Params) (amounts : List (Amount PairVolatility)) : Type 0 where
   pub weighed : IsInRange (λ v. fx_sigma p v.pair) amounts
   pub sizes : sum_by (λ a. unsigned_abs a.amount) amounts ≤ 2 * 10 ^ 20
+
+-- ---- those of a bucket, which the file lists where its class has such buckets
+
+abbrev pub AreInRange : Params → VolatileBucket → List (FactorKey × Holding) → Type 0
+AreInRange p (Currency_bucket currency product) factors = IsInRange alone (volatilities_of currency product factors)
+AreInRange p (Credit_bucket class at product) factors =
+    IsSomeAnd (credit_bucket_of (credit_params p class).buckets at) (λ _. IsInRange alone (points_of class at product factors))
+AreInRange p (Priced_bucket class at product) factors =
+    IsSomeAnd (priced_bucket_of (priced_params p class).buckets at) (λ b. IsPricedInRange b (name_volatilities class at product factors))
+AreInRange p (Pairs_bucket product) factors = ArePairsInRange p (pair_volatilities product factors)
+
+-- a bucket that its class has, with its factors in range
+abbrev pub IsReadyIn : Params → Option VolatileBucket → List (FactorKey × Holding) → Type 0
+IsReadyIn p bucket factors = IsSomeAnd bucket (λ b. AreInRange p b factors)
+
+abbrev pub IsReady : Params → BucketAt → List (FactorKey × Holding) → Type 0
+IsReady p at factors = IsReadyIn p (volatile_bucket at) factors

@@ -2,14 +2,19 @@
 ghost use Rattle.std.specs.Prelude.{◌≡◌, ◌*◌, ◌^◌, ◌≤◌, IfOk, map, sum_by, unsigned_abs};
 ghost use Rattle.simm_rules.specs.Risks.{risk};
 ghost use Rattle.simm_params.specs.ClassKinds.{credit_class};
-ghost use Rattle.vol_factors.specs.Credit.{as_point_tenor, scaled_point, scaled_tenor, tenors_among};
+ghost use Rattle.simm_params.specs.ListedBuckets.{credit_bucket_view};
+ghost use Rattle.name_delta.specs.Points.{AreGrouped};
+ghost use Rattle.vol_factors.specs.Credit.{as_point_tenor, issuer_net, scaled_point, scaled_tenor, tenors_among};
 ghost use Rattle.vol_factors.specs.Places.{points_of};
 
 use crate::places::CreditAt;
 use crate::tenor_scale::TenorScale;
 use factor_book::{Factors, PlaceFactors};
+use name_delta::group_points;
 use simm_kinds::{Factor, FactorKey, Tenor};
+use simm_params::CreditBucket;
 use std::alloc::{AllocError, Global};
+use weighted_bucket::Grouped;
 
 /// The nets to the volatilities of a bucket of credit in a product class in their order, in cents, each times what its tenor
 /// counts. The sizes of the nets come to no more than those of 200,000 amounts that a batch can have. Want of memory is the only
@@ -27,6 +32,20 @@ pub fn point_sums(
         Some(lent) => sums_of(alloc, lent, scale),
         None => Ok(Vec::new(alloc)),
     }
+}
+
+/// The nets to the volatilities of a bucket of credit in their order, each in the concentration group of its issuer, whose threshold
+/// is the bucket's for vega. Want of memory is the only error.
+pub fn point_groups(
+    alloc: Global,
+    bucket: &CreditBucket,
+    factors: &Factors,
+    at: CreditAt,
+) -> Result<Vec<Grouped>, AllocError>
+    ensures { IfOk result (λ grouped. AreGrouped (credit_bucket_view bucket.now).terms.thresholds.vega
+        (map issuer_net (points_of (credit_class at.kind) at.bucket at.product factors.now)) grouped.items) }
+{
+    group_points(alloc, bucket.terms.thresholds.vega, factors, &at.place())
 }
 
 fn sums_of(alloc: Global, lent: &PlaceFactors, scale: TenorScale) -> Result<Vec<i128>, AllocError>

@@ -3,6 +3,7 @@
 //! (ISDA SIMM methodology, vega and curvature: definition of the sensitivities.)
 #![tactic(auto)]
 
+mod buckets;
 mod categories;
 mod credit;
 mod laws;
@@ -14,8 +15,9 @@ mod rates;
 mod tenor_scale;
 mod volatility;
 
+pub use buckets::VolatileAt;
 pub use categories::pair_volatility;
-pub use credit::point_sums;
+pub use credit::{point_groups, point_sums};
 pub use laws::currencies_add_up;
 pub use names::{NameSum, name_sums};
 pub use pairs::{PairSum, pair_sums};
