@@ -14,7 +14,7 @@ use Rattle.simm_params.specs.Ranges.{hvrs, sigmas, IsWithin}
 use Rattle.weighted_bucket.specs.declared.group.Grouped.{Grouped}
 use Rattle.weighted_bucket.specs.Group.{at}
 use Rattle.simm_rules.specs.Risks.{Amount}
-use Rattle.vega_margin.specs.Together.{vega_risk, own_group, AreGrouped}
+use Rattle.vega_margin.specs.Singles.{vega_risk, own_group, AreGrouped}
 
 -- ---- as they are made
 
@@ -103,16 +103,13 @@ module _ (hvr sigma : ℤ) (ratio : IsWithin hvrs hvr) (net : ℤ) where
 
 -- ---- they fit 128 bits
 
+size_from_low : (z : ℤ) (n : ℕ) → pos 0 ≤ℤ z → z ≤ℤ pos n → unsigned_abs z ≤ n
+size_from_low z n low high = omega (arith, ints)
+
 pub pair_fits : (hvr sigma : ℤ) → IsWithin hvrs hvr → IsWithin sigmas sigma → FitsSigned w128 (hvr *ℤ sigma)
 pair_fits hvr sigma ratio volatility = fits_signed_from_abs w128 (hvr *ℤ sigma) (omega (arith, product_size hvr sigma 12000 (10 ^ 7) (size_from_low hvr 12000 ratio.low ratio.high) (size_from_low sigma (10 ^ 7) volatility.low volatility.high)))
-  where
-    size_from_low : (z : ℤ) (n : ℕ) → pos 0 ≤ℤ z → z ≤ℤ pos n → unsigned_abs z ≤ n
-    size_from_low z n low high = omega (arith, ints)
 
 pub risk_fits : (hvr sigma net : ℤ) → IsWithin hvrs hvr → IsWithin sigmas sigma → unsigned_abs net ≤ 2 * 10 ^ 20 → FitsSigned w128 (hvr *ℤ sigma *ℤ net)
 risk_fits hvr sigma net ratio volatility h =
     fits_signed_from_abs w128 (hvr *ℤ sigma *ℤ net)
     (omega (arith, product_size (hvr *ℤ sigma) net (12000 * 10 ^ 7) (2 * 10 ^ 20) (product_size hvr sigma 12000 (10 ^ 7) (size_from_low hvr 12000 ratio.low ratio.high) (size_from_low sigma (10 ^ 7) volatility.low volatility.high)) h))
-  where
-    size_from_low : (z : ℤ) (n : ℕ) → pos 0 ≤ℤ z → z ≤ℤ pos n → unsigned_abs z ≤ n
-    size_from_low z n low high = omega (arith, ints)

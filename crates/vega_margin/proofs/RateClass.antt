@@ -30,12 +30,11 @@ use Rattle.name_delta.specs.Values.{IsInRange, IsSmall}
 use Rattle.name_delta.proofs.Lists.{each_always}
 use Rattle.name_delta.proofs.Sizes.{sum_by-map, sum_by-below, sum_by-scaled, sum_by-filter, total_size, size_is}
 use Rattle.name_delta.proofs.Thick.{net_thick, cr_size, cr_low, cr_below, weighted_close}
+use Rattle.vol_factors.specs.Ranges.{alone}
+use Rattle.vol_factors.proofs.Gathered.{over_names}
+use Rattle.vol_factors.proofs.RateRhos.{small}
 use Rattle.vega_margin.specs.Combine.{IsRateClass, currency_buckets}
-use Rattle.vega_margin.specs.Values.{alone}
-use Rattle.vega_margin.proofs.OverTenors.{over_keys}
-use Rattle.vega_margin.proofs.RateRhos.{small}
 use Rattle.vega_margin.proofs.Sizes.{close_one}
-use Rattle.vega_margin.proofs.Sizes.{sum_by-shifted as sum_by-moved}
 use Rattle.vega_margin.proofs.ValueParts as value
 
 chosen_small : (t : Bool) (z : ℤ) → unsigned_abs z ≤ 1000000 → unsigned_abs (if t then one else z) ≤ 1000000
@@ -103,10 +102,11 @@ module _ (p : Params) (facts : IsParams p) (weighed : (currency : List ℕ) → 
         arith,
         sum_by-map (λ (f : Weighted RateVolatility). unsigned_abs f.w) (weighted_rate_volatility p (own_cr currency)) (of currency),
         sum_by-scaled w (10 ^ 10) (of currency),
-        sum_by-below (λ a. w a * 10 ^ 10) (λ a. size a * 6939999980000 + 10 ^ 10) (of currency)
-            (each_always (λ a. w a * 10 ^ 10 ≤ size a * 6939999980000 + 10 ^ 10)
+        sum_by-below (λ a. w a * 10 ^ 10) (λ a. size a * 6939999980000 + 1 * 10 ^ 10) (of currency)
+            (each_always (λ a. w a * 10 ^ 10 ≤ size a * 6939999980000 + 1 * 10 ^ 10)
             (λ a. close_one p.ir.vrw a.amount (own_cr currency) weight_size (cr_small currency) (w a) (weighted_close p.ir.vrw a.amount (own_cr currency) (cr_small currency))) (of currency)),
-        sum_by-moved size 6939999980000 (10 ^ 10) (of currency),
+        sum_by-shifted size (λ a. 1) 6939999980000 (10 ^ 10) (of currency),
+        sum_by-ones (of currency),
       )
 
   gross_below : (currency : List ℕ) → gross currency < 84 * 10 ^ 14
@@ -145,7 +145,7 @@ module _ (p : Params) (facts : IsParams p) (weighed : (currency : List ℕ) → 
   margin_close currency = omega (arith, ints, gross_close currency, value.k_low corr corr_small (fs currency), value.k_most corr corr_small (fs currency))
 
   over_all : (f : Amount VolatilityIn → ℕ) → sum_by (λ currency. sum_by f (of currency)) currencies ≡ sum_by f all
-  over_all f = over_keys name_cmp nat_list_cmp_total same_name (λ x y. refl) (λ (x : VolatilityIn). x.currency) (λ x. tenor_of x.volatility) exact_bytes all f
+  over_all f = over_names (λ (a : Amount VolatilityIn). (a.of).currency) all f
 
   margins_close : sum_by margin_at currencies * 10 ^ 10 ≤ sum_by size all * 6939999980000 + length all * 10 ^ 10
   margins_close =

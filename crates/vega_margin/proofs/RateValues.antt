@@ -1,5 +1,5 @@
--- The value of a currency's bucket: by the places of its volatilities it is the rule's.
-use Rattle.std.proofs.Common.{◌≡◌, ◌≢◌, ◌^◌, ℕ, ◌+◌, ◌*◌, ◌<◌, ◌≤◌, List, [], ◌∷◌, map, length, get_or, refl, sym, ap, ◌∙◌, subst, ℤ, pos, ◌+ℤ◌, ◌==◌, unsigned_abs, arith, mul-le-mul_right}
+-- The vega value of a currency's bucket: its volatilities are one group, and by their places its value is the rule's.
+use Rattle.std.proofs.Common.{◌≡◌, ◌^◌, ℕ, ◌+◌, ◌*◌, ◌<◌, ◌≤◌, List, [], ◌∷◌, map, length, get_or, refl, sym, ap, ◌∙◌, subst, ℤ, pos, ◌+ℤ◌, ◌≤ℤ◌, ◌<ℤ◌, ◌==◌, unsigned_abs, arith, mul-le-mul_right}
 use Rattle.std.specs.Prelude.{sum_by}
 use Rattle.std.specs.List.{filter}
 use Rattle.std.specs.List.Sorted.{IsStrictlySortedBy}
@@ -13,157 +13,142 @@ use Rattle.simm_rules.specs.declared.values.BucketMargin.{BucketMargin}
 use Rattle.simm_rules.specs.Params.{Params}
 use Rattle.simm_rules.specs.Sums.{total_by}
 use Rattle.simm_rules.specs.Risks.{RateVolatility, Of_rates, Amount}
-use Rattle.simm_rules.specs.Concentration.{cr}
+use Rattle.simm_rules.specs.Concentration.{one, cr}
 use Rattle.simm_rules.specs.Bucket.{Weighted, weighted_value, plain}
 use Rattle.simm_rules.specs.Bucket.{bucket_value as value_of_factors}
-use Rattle.simm_rules.specs.Gross.{size_by}
-use Rattle.simm_rules.specs.Rates.{VolatilityIn, same_rate_volatility, rate_volatility_rho, rate_thresholds, rate_volatility_cr, currency_vega_value}
+use Rattle.simm_rules.specs.Rates.{VolatilityIn, same_rate_volatility, rate_volatility_rho, rate_thresholds, rate_volatility_cr, weighted_rate_volatility, currency_vega_value}
 use Rattle.simm_params.specs.Facts.{IsWeighed}
-use Rattle.factor_book.proofs.Sums.{total_by-map}
 use Rattle.weighted_bucket.specs.declared.group.Grouped.{Grouped}
 use Rattle.weighted_bucket.specs.declared.scaling.Scaling.TheVariants as scaling
 use Rattle.weighted_bucket.specs.declared.weighed.Weighed.{Weighed}
 use Rattle.weighted_bucket.specs.Bucket.{bucket_value}
 use Rattle.weighted_bucket.specs.Group.{at, group_net, CanConcentrate}
 use Rattle.name_delta.specs.Points.{weighed_in}
-use Rattle.name_delta.specs.Values.{IsInRange, IsSmall, weighed_as}
+use Rattle.name_delta.specs.Values.{IsInRange, weighed_as}
 use Rattle.name_delta.proofs.Lists.{each_always, each_map}
-use Rattle.name_delta.proofs.Sizes.{sum_by-map, sum_by-scaled, total_size, size_all, size_is, size_small}
-use Rattle.name_delta.proofs.Thick.{net_thick}
-use Rattle.name_delta.proofs.Valued.{value_is}
-use Rattle.vega_margin.specs.declared.volatility.Volatility.{Volatility}
-use Rattle.vega_margin.specs.declared.volatility.Volatility.TheVariants as volatility
-use Rattle.vega_margin.specs.Groups.{CanWeigh}
-use Rattle.vega_margin.specs.Rates.{rule_volatility, in_one_group, shared_cr, rho_at}
-use Rattle.vega_margin.specs.Values.{alone}
-use Rattle.vega_margin.proofs.RateNets.{alone_of, volatility_cmp, volatility_total, volatility_tests}
+use Rattle.name_delta.proofs.Sizes.{sum_by-map, sum_by-scaled, total_size, size_all, size_is}
+use Rattle.name_delta.proofs.Thick.{net_thick, cr_low, cr_below, cr_size}
+use Rattle.vol_factors.specs.declared.rates.VolatilitySum.{VolatilitySum}
+use Rattle.vol_factors.specs.declared.tenor_scale.TenorScale.TheVariants as scale
+use Rattle.vol_factors.specs.Ranges.{alone}
+use Rattle.vol_factors.specs.Rates.{alone_of, scaled_volatility, sum_view, rho_at}
+use Rattle.vol_factors.proofs.InRange.{amounts_small}
+use Rattle.vol_factors.proofs.RateNets.{volatility_cmp}
+use Rattle.vol_factors.proofs.RateSums.{sums-even, volatilities_valued}
+use Rattle.vega_margin.specs.Groups.{CanWeigh, AreWeighed, IsValueOf}
+use Rattle.vega_margin.specs.Rates.{one_group, in_one_group, shared_cr}
+use Rattle.vega_margin.specs.Values.{IsSized}
+use Rattle.vega_margin.proofs.Sizes.{sized}
 
--- ---- one group
+-- by the threshold and the weight of the rule
+pub weighed_read : (slice : List VolatilitySum) (v w z t : ℤ) (weighed items : List Weighed) → v ≡ w → z ≡ t → weighed ≡ items → AreWeighed v (map (in_one_group z) slice) items → AreWeighed w (map (in_one_group t) slice) weighed
+weighed_read slice v w z t weighed items is_weight is_threshold same its =
+    subst (AreWeighed w (map (in_one_group t) slice)) (sym same)
+    (subst (λ x. AreWeighed w (map (in_one_group x) slice) items) is_threshold (subst (λ x. AreWeighed x (map (in_one_group z) slice) items) is_weight its))
 
-module _ (threshold : ℤ) (nets : List (Amount RateVolatility)) where
-  abbrev pub groups : List Grouped
-  groups = map (in_one_group threshold) nets
+module _ (p : Params) (currency : List ℕ) (amounts : List (Amount VolatilityIn)) (slice : List VolatilitySum) (read : map sum_view slice ≡ map (scaled_volatility scale.Even) (map alone_of amounts)) where
+  abbrev threshold : ℤ
+  threshold = (rate_thresholds p currency).vega
 
-  abbrev pub net : ℤ
-  net = total_by (λ a. a.amount) nets
+  abbrev groups : List Grouped
+  groups = map (in_one_group threshold) slice
 
-  all_in_it : (xs : List (Amount RateVolatility)) → total_by (λ g. g.x) (filter (λ g. g.group == 0) (map (in_one_group threshold) xs)) ≡ total_by (λ a. a.amount) xs
+  abbrev in_group : Amount VolatilityIn → Grouped
+  in_group a = one_group threshold a.amount
+
+  abbrev nets : List (Amount RateVolatility)
+  nets = map alone_of amounts
+
+  abbrev net : ℤ
+  net = total_by (λ (a : Amount VolatilityIn). a.amount) amounts
+
+  abbrev own_cr : ℤ
+  own_cr = rate_volatility_cr p currency amounts
+
+  -- ---- one group
+
+  groups_are : map (in_one_group (rate_thresholds p currency).vega) slice ≡ map in_group amounts
+  groups_are =
+      sym (map-map (one_group threshold) (λ (s : VolatilitySum). s.sum) slice) ∙ ap (map (one_group threshold)) (sums-even nets slice read)
+      ∙ map-map (one_group threshold) (λ (a : Amount RateVolatility). a.amount) nets ∙ map-map (λ (a : Amount RateVolatility). one_group threshold a.amount) alone_of amounts
+
+  pub groups_count : length (map (in_one_group (rate_thresholds p currency).vega) slice) ≡ length amounts
+  groups_count = ap length groups_are ∙ length-map amounts in_group
+
+  all_in_it : (xs : List (Amount VolatilityIn)) → total_by (λ g. g.x) (filter (λ g. g.group == 0) (map in_group xs)) ≡ total_by (λ a. a.amount) xs
   all_in_it [] = refl
   all_in_it (x ∷ xs) = ap (λ z. x.amount +ℤ z) (all_in_it xs)
 
-  pub group_is : group_net groups 0 ≡ net
-  group_is = all_in_it nets
+  group_is : group_net groups 0 ≡ net
+  group_is = ap (λ gs. group_net gs 0) groups_are ∙ all_in_it amounts
 
-  -- ---- their sizes
+  sizes : sum_by (λ g. unsigned_abs g.x) groups ≡ sum_by (λ a. unsigned_abs a.amount) amounts
+  sizes = ap (sum_by (λ (g : Grouped). unsigned_abs g.x)) groups_are ∙ sum_by-map (λ (g : Grouped). unsigned_abs g.x) in_group amounts
 
-  pub sizes : sum_by (λ g. unsigned_abs g.x) groups ≡ sum_by (λ a. unsigned_abs a.amount) nets
-  sizes = sum_by-map (λ (g : Grouped). unsigned_abs g.x) (in_one_group threshold) nets
+  -- ---- a bucket in range
 
-  module _ (weighed : IsWeighed (pos 10000) threshold) (few : length nets ≤ 2000) (small : sum_by (λ a. unsigned_abs a.amount) nets * 10000 ≤ 10 ^ 17) where
-    net_small : IsSmall (pos 10000) net
-    net_small = omega (arith, mul-le-mul_right 10000 (total_size (λ (a : Amount RateVolatility). a.amount) nets), small)
-
-    pub group_can : CanConcentrate net threshold
-    group_can = record {
+  module _ (weighed : IsWeighed (pos 10000) (rate_thresholds p currency).vega) (range : IsInRange alone amounts) where
+    can : CanConcentrate net threshold
+    can = record {
       positive = weighed.threshold_low;
       threshold_in_range = weighed.threshold_high;
-      net_in_range = net_thick net (pos 10000) threshold weighed (omega (arith, ints)) net_small;
+      net_in_range = net_thick net (pos 10000) threshold weighed (omega (arith, ints)) (omega (arith, mul-le-mul_right 10000 (total_size (λ (a : Amount VolatilityIn). a.amount) amounts), amounts_small amounts range));
     }
 
     in_it : (k : ℕ) → k < length groups → (at groups k).group ≡ 0
     in_it k h =
-        ap (λ (g : Grouped). g.group) (get_or-map (in_one_group threshold) nets k (record { of = Of_rates tenor.W2; amount = pos 0 }) (record { group = 0; x = pos 0; threshold = pos 0 }) (omega (arith, length-map nets (in_one_group threshold))))
+        ap (λ gs. (at gs k).group) groups_are
+        ∙ ap (λ (g : Grouped). g.group) (get_or-map in_group amounts k (record { of = record { currency = []; volatility = Of_rates tenor.W2 }; amount = pos 0 }) (record { group = 0; x = pos 0; threshold = pos 0 }) (omega (arith, groups_count)))
 
-    pub groups_can_weigh : CanWeigh groups
+    pub groups_can_weigh : CanWeigh (map (in_one_group (rate_thresholds p currency).vega) slice)
     groups_can_weigh = record {
-      few = omega (arith, length-map nets (in_one_group threshold), few);
+      few = omega (arith, groups_count, range.few);
       ordered = IsNonDecreasingBy-from_default (λ (g : Grouped). g.group) groups (record { group = 0; x = pos 0; threshold = pos 0 }) (λ i j h l. omega (arith, in_it i (omega arith), in_it j l));
-      in_range = omega (arith, sizes, small);
+      in_range = omega (arith, sizes, amounts_small amounts range);
       concentrates = All-from_recursion (λ (g : Grouped). CanConcentrate (group_net groups g.group) g.threshold) groups
-          (each_map (λ (g : Grouped). CanConcentrate (group_net groups g.group) g.threshold) (in_one_group threshold) nets
-          (each_always (λ a. CanConcentrate (group_net groups 0) threshold) (λ a. subst (λ z. CanConcentrate z threshold) (sym group_is) group_can) nets));
+          (each_map (λ (g : Grouped). CanConcentrate (group_net groups g.group) g.threshold) (in_one_group threshold) slice
+          (each_always (λ (s : VolatilitySum). CanConcentrate (group_net groups 0) threshold) (λ s. subst (λ z. CanConcentrate z threshold) (sym group_is) can) slice));
     }
+
+    pub cr_from_one : one ≤ℤ rate_volatility_cr p currency amounts
+    cr_from_one = cr_low net threshold
+
+    pub cr_high : rate_volatility_cr p currency amounts <ℤ pos 347000000
+    cr_high = cr_below own_cr (cr_size net threshold can.positive can.net_in_range)
+
+    pub volatilities_sized : (value : BucketMargin) → IsValueOf (map (in_one_group (rate_thresholds p currency).vega) slice) value → IsSized alone amounts value
+    volatilities_sized =
+        sized alone amounts (size_all alone amounts) (size_is alone (λ x. omega (arith, ints)) amounts) groups
+        (omega (arith, sizes, sum_by-scaled (λ (a : Amount VolatilityIn). unsigned_abs a.amount) 10000 amounts)) (omega (arith, groups_count))
 
   -- ---- weighed
 
-  module _ (vrw : ℤ) where
-    abbrev pub W : Amount RateVolatility → Weighted RateVolatility
-    W a = record { of = a.of; w = weighted_value vrw a.amount (cr net threshold); cr = cr net threshold }
+  module _ (weighed : List Weighed) (its : AreWeighed p.ir.vrw (map (in_one_group (rate_thresholds p currency).vega) slice) weighed) where
+    pub weighed_count : length weighed ≡ length amounts
+    weighed_count = ap length its.are ∙ length-map groups (weighed_in p.ir.vrw groups) ∙ groups_count
 
-    abbrev weighed_with : ℤ → Amount RateVolatility → Weighed
-    weighed_with f a = record { w = weighted_value vrw a.amount f; cr = record { 0 = f } }
+    abbrev W : Amount RateVolatility → Weighted RateVolatility
+    W a = record { of = a.of; w = weighted_value p.ir.vrw a.amount own_cr; cr = own_cr }
 
-    pub weighed_groups : map (weighed_in vrw groups) groups ≡ map (λ a. weighed_as (W a)) nets
-    weighed_groups =
-        map-map (weighed_in vrw groups) (in_one_group threshold) nets ∙ ap (λ z. map (weighed_with (cr z threshold)) nets) group_is
+    abbrev with_factor : ℤ → Amount VolatilityIn → Weighed
+    with_factor f a = record { w = weighted_value p.ir.vrw a.amount f; cr = record { 0 = f } }
 
-    pub shared_is : (factors : List Weighed) → factors ≡ map (λ a. weighed_as (W a)) nets → shared_cr threshold factors ≡ cr net threshold
-    shared_is factors made = ap (shared_cr threshold) made ∙ of_first nets refl
+    made : weighed ≡ map (λ a. weighed_as (W a)) nets
+    made =
+        its.are ∙ ap (map (weighed_in p.ir.vrw groups)) groups_are ∙ map-map (weighed_in p.ir.vrw groups) in_group amounts
+        ∙ ap (λ z. map (with_factor (cr z threshold)) amounts) group_is ∙ sym (map-map (λ (a : Amount RateVolatility). weighed_as (W a)) alone_of amounts)
+
+    pub shared_is : shared_cr (rate_thresholds p currency).vega weighed ≡ rate_volatility_cr p currency amounts
+    shared_is = ap (shared_cr threshold) (made ∙ map-map (λ (a : Amount RateVolatility). weighed_as (W a)) alone_of amounts) ∙ of_first amounts refl
       where
-        of_first : (xs : List (Amount RateVolatility)) → xs ≡ nets → shared_cr threshold (map (λ a. weighed_as (W a)) xs) ≡ cr net threshold
-        of_first [] e = ap (λ ys. cr (total_by (λ (a : Amount RateVolatility). a.amount) ys) threshold) e
+        of_first : (xs : List (Amount VolatilityIn)) → xs ≡ amounts → shared_cr threshold (map (with_factor own_cr) xs) ≡ own_cr
+        of_first [] e = ap (λ ys. cr (total_by (λ (a : Amount VolatilityIn). a.amount) ys) threshold) e
         of_first (x ∷ xs) e = refl
 
--- ---- the value of all
+    abbrev with_cr : ℤ → BucketMargin → BucketMargin
+    with_cr c m = record { q = m.q; k = m.k; s = m.s; sum = m.sum; gross = m.gross; cr = record { 0 = c } }
 
-module _ (p : Params) (currency : List ℕ) (amounts : List (Amount VolatilityIn)) where
-  abbrev pub threshold_of : ℤ
-  threshold_of = (rate_thresholds p currency).vega
-
-  abbrev pub nets_alone : List (Amount RateVolatility)
-  nets_alone = map alone_of amounts
-
-  totals : total_by (λ a. a.amount) nets_alone ≡ total_by (λ a. a.amount) amounts
-  totals = total_by-map (λ (a : Amount RateVolatility). a.amount) alone_of amounts
-
-  cr_is : cr (net threshold_of nets_alone) threshold_of ≡ rate_volatility_cr p currency amounts
-  cr_is = ap (λ z. cr z threshold_of) totals
-
-  abbrev with_cr : ℤ → BucketMargin → BucketMargin
-  with_cr c m = record { q = m.q; k = m.k; s = m.s; sum = m.sum; gross = m.gross; cr = record { 0 = c } }
-
-  none : Amount RateVolatility
-  none = record { of = Of_rates tenor.W2; amount = pos 0 }
-
-  abbrev weighted_at : ℤ → List (Weighted RateVolatility)
-  weighted_at c = map (λ (a : Amount VolatilityIn). record { of = (a.of).volatility; w = weighted_value p.ir.vrw a.amount c; cr = c }) amounts
-
-  pub volatilities_value : (volatilities : List Volatility) (factors : List Weighed) → IsStrictlySortedBy volatility_cmp (map (λ a. a.of) nets_alone) → map rule_volatility volatilities ≡ map (λ a. a.of) nets_alone
-      → factors ≡ map (λ a. weighed_as (W threshold_of nets_alone p.ir.vrw a)) nets_alone → bucket_value scaling.Plain factors (rho_at p volatilities) (record { 0 = cr (net threshold_of nets_alone) threshold_of }) ≡ currency_vega_value p currency amounts
-  volatilities_value volatilities factors ascends forms made =
-      ap (with_cr (cr (net threshold_of nets_alone) threshold_of))
-      (value_is volatility_cmp volatility_total same_rate_volatility volatility_tests scaling.Plain (rate_volatility_rho p) (W threshold_of nets_alone p.ir.vrw) (λ a. refl) none nets_alone ascends factors (rho_at p volatilities) made rho_is)
-      ∙ ap (value_of_factors (plain same_rate_volatility (rate_volatility_rho p)) (cr (net threshold_of nets_alone) threshold_of)) (map-map (W threshold_of nets_alone p.ir.vrw) alone_of amounts)
-      ∙ ap (λ c. value_of_factors (plain same_rate_volatility (rate_volatility_rho p)) c (weighted_at c)) cr_is
-    where
-      count : length volatilities ≡ length nets_alone
-      count = sym (length-map volatilities rule_volatility) ∙ ap length forms ∙ length-map nets_alone (λ (a : Amount RateVolatility). a.of)
-
-      form_is : (n : ℕ) → n < length nets_alone → rule_volatility (get_or volatilities n (volatility.Rates tenor.W2)) ≡ (get_or nets_alone n none).of
-      form_is n h =
-          sym (get_or-map rule_volatility volatilities n (volatility.Rates tenor.W2) (Of_rates tenor.W2) (omega (arith, count))) ∙ ap (λ vs. get_or vs n (Of_rates tenor.W2)) forms
-          ∙ get_or-map (λ (a : Amount RateVolatility). a.of) nets_alone n none (Of_rates tenor.W2) h
-
-      rho_is : (i j : ℕ) → i < length nets_alone → j < length nets_alone → i ≢ j → rho_at p volatilities i j ≡ rate_volatility_rho p (get_or nets_alone i none).of (get_or nets_alone j none).of
-      rho_is i j l m apart = ap (λ v. rate_volatility_rho p v (rule_volatility (get_or volatilities j (volatility.Rates tenor.W2)))) (form_is i l) ∙ ap (rate_volatility_rho p (get_or nets_alone i none).of) (form_is j m)
-
-  -- ---- a bucket in range
-
-  module _ (range : IsInRange alone amounts) where
-    own_size : sum_by (λ a. unsigned_abs a.amount) nets_alone ≡ sum_by (λ a. unsigned_abs a.amount) amounts
-    own_size = sum_by-map (λ (a : Amount RateVolatility). unsigned_abs a.amount) alone_of amounts
-
-    pub all_is : size_by alone amounts ≡ pos (size_all alone amounts)
-    all_is = size_is alone (λ x. omega (arith, ints)) amounts
-
-    all_scaled : size_all alone amounts ≡ sum_by (λ a. unsigned_abs a.amount) amounts * 10000
-    all_scaled = sum_by-scaled (λ (a : Amount VolatilityIn). unsigned_abs a.amount) 10000 amounts
-
-    pub nets_few : length nets_alone ≤ 2000
-    nets_few = omega (arith, length-map amounts alone_of, range.few)
-
-    pub nets_small : sum_by (λ a. unsigned_abs a.amount) nets_alone * 10000 ≤ 10 ^ 17
-    nets_small = omega (arith, own_size, all_scaled, size_small alone (λ x. omega (arith, ints)) amounts range)
-
-    pub risks : sum_by (λ g. unsigned_abs g.x) (groups threshold_of nets_alone) * 10 ^ 8 ≤ size_all alone amounts * 12000 + length amounts * 10 ^ 8
-    risks = omega (arith, own_size, all_scaled, sizes threshold_of nets_alone)
+    pub volatilities_value : IsStrictlySortedBy volatility_cmp (map (λ a. a.of) (map alone_of amounts)) → bucket_value scaling.Plain weighed (rho_at p slice) (record { 0 = rate_volatility_cr p currency amounts }) ≡ currency_vega_value p currency amounts
+    volatilities_value ascends =
+        ap (with_cr own_cr) (volatilities_valued scale.Even nets slice read p scaling.Plain W (λ a. refl) ascends weighed made)
+        ∙ ap (value_of_factors (plain same_rate_volatility (rate_volatility_rho p)) own_cr) (map-map W alone_of amounts)

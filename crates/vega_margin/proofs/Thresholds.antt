@@ -1,40 +1,14 @@
--- What the categories of a pair's currencies say of its volatilities.
-use Rattle.std.proofs.Common.{◌≡◌, ℕ, Bool, true, false, ◌&&◌, ◌||◌, if◌then◌else◌, List, pos, ◌≤ℤ◌, refl, ap, ◌∙◌}
+-- What the concentration categories of a pair's currencies say of its vega threshold.
+use Rattle.std.proofs.Common.{◌≡◌, ℕ, Bool, true, false, if◌then◌else◌, List, refl, ap, ◌∙◌}
 use Rattle.simm_kinds.specs.Pair.{Pair}
 use Rattle.simm_rules.specs.Params.{Params}
 use Rattle.simm_rules.specs.Lookups.{is_listed}
-use Rattle.simm_rules.specs.ForeignExchange.{is_high, fx_sigma, concentration_place, fx_vega_threshold}
-use Rattle.simm_params.specs.declared.category.VolatilityCategory.{VolatilityCategory}
-use Rattle.simm_params.specs.declared.category.VolatilityCategory.TheVariants.{Regular, High}
+use Rattle.simm_rules.specs.ForeignExchange.{concentration_place, fx_vega_threshold}
 use Rattle.simm_params.specs.declared.category.ConcentrationCategory.{ConcentrationCategory}
 use Rattle.simm_params.specs.declared.category.ConcentrationCategory.TheVariants.{First, Second, Third}
-use Rattle.simm_params.specs.Categories.{volatility, concentration}
-use Rattle.simm_params.specs.Facts.{IsParams}
-use Rattle.simm_params.specs.FxLookups.{pair_sigma, category_place, pair_threshold}
+use Rattle.simm_params.specs.Categories.{concentration}
+use Rattle.simm_params.specs.FxLookups.{category_place, pair_threshold}
 use Rattle.simm_params.specs.Matrix.{entry}
-
--- ---- volatilities
-
-by_category : (p : Params) (s t : Bool) → pair_sigma p.fx (if s then High else Regular) (if t then High else Regular) ≡ (if s && t then p.fx.high_sigma else (if s || t then p.fx.mixed_sigma else p.fx.regular_sigma))
-by_category p true true = refl
-by_category p true false = refl
-by_category p false true = refl
-by_category p false false = refl
-
-pub sigma_is : (p : Params) (pair : Pair) (first second : List ℕ) (a b : VolatilityCategory) → first ≡ pair.first → second ≡ pair.second → a ≡ volatility p first → b ≡ volatility p second → pair_sigma p.fx a b ≡ fx_sigma p pair
-sigma_is p pair first second a b e f g h =
-    (λ i. pair_sigma p.fx ((g ∙ ap (volatility p) e) i) ((h ∙ ap (volatility p) f) i)) ∙ by_category p (is_high p pair.first) (is_high p pair.second)
-
-pub sigma_low : (p : Params) → IsParams p → (pair : Pair) → pos 0 ≤ℤ fx_sigma p pair
-sigma_low p facts pair = by (is_high p pair.first) (is_high p pair.second)
-  where
-    by : (s t : Bool) → pos 0 ≤ℤ (if s && t then p.fx.high_sigma else (if s || t then p.fx.mixed_sigma else p.fx.regular_sigma))
-    by true true = facts.fx.high_sigma.low
-    by true false = facts.fx.mixed_sigma.low
-    by false true = facts.fx.mixed_sigma.low
-    by false false = facts.fx.regular_sigma.low
-
--- ---- thresholds
 
 place_by : (s t : Bool) → category_place (if s then First else (if t then Second else Third)) ≡ (if s then 0 else (if t then 1 else 2))
 place_by true t = refl

@@ -18,7 +18,7 @@ use Rattle.factor_book.specs.declared.place.BookSide.TheVariants as side
 use Rattle.factor_book.specs.Places.{buckets_on}
 use Rattle.ir_delta.specs.Parts.{AreParts as AreRateParts, margin_over as rate_margin_over}
 use Rattle.name_delta.specs.Combine.{combined_by_class, AreParts as AreNamedParts}
-use Rattle.vega_margin.specs.Values.{alone}
+use Rattle.vol_factors.specs.Ranges.{alone}
 
 abbrev pub vega_over : Params → RiskClass → List (BucketId × BucketMargin) → Option ℤ
 vega_over p class.IR parts = Some (rate_margin_over p parts)

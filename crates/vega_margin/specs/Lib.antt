@@ -1,9 +1,6 @@
 pub mod Values
 pub mod Groups
 pub mod Rates
-pub mod Credit
-pub mod Together
-pub mod Priced
-pub mod Pairs
+pub mod Singles
 pub mod Vega
 pub mod Combine

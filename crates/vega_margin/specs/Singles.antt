@@ -1,26 +1,25 @@
--- Amounts of which those to one thing stand together, as a sum for each, and each sum a concentration group by itself.
+-- Names and pairs of currencies, each a concentration group by itself.
 -- (ISDA SIMM methodology, equity, commodity and foreign exchange risk: vega.)
-use Rattle.std.specs.Prelude.{ℕ, ◌≡◌, ◌<◌, List, [], ◌∷◌, length, slice_index_or, Bool, if◌then◌else◌, ◌^◌, ◌*ℤ◌, ℤ, pos, ◌+ℤ◌}
+use Rattle.std.specs.Prelude.{ℕ, ◌≡◌, ◌<◌, List, map, length, slice_index_or, ◌^◌, ◌*ℤ◌, ℤ, pos}
 use Rattle.mh_units.specs.Rounding.{away}
+use Rattle.simm_kinds.specs.Pair.{Pair}
+use Rattle.simm_rules.specs.Sums.{total_by}
 use Rattle.simm_rules.specs.Risks.{Amount}
+use Rattle.simm_rules.specs.Priced.{NameVolatility, names_of, tenors_of}
+use Rattle.simm_rules.specs.ForeignExchange.{PairVolatility, pairs_of, pair_tenors}
 use Rattle.weighted_bucket.specs.declared.group.Grouped.{Grouped}
 use Rattle.weighted_bucket.specs.Group.{at}
-
-abbrev pub plus : {A : Type 0} → Amount A → Amount A → Amount A
-plus a b = record { of = b.of; amount = a.amount +ℤ b.amount }
-
--- the sums, where the amount before is the first
-abbrev pub summed_from : {A : Type 0} → (A → A → Bool) → Amount A → List (Amount A) → List (Amount A)
-summed_from same before [] = before ∷ []
-summed_from same before (a ∷ rest) = if same before.of a.of then summed_from same (plus before a) rest else before ∷ summed_from same a rest
-
-abbrev pub summed : {A : Type 0} → (A → A → Bool) → List (Amount A) → List (Amount A)
-summed same [] = []
-summed same (a ∷ rest) = summed_from same a rest
 
 -- the vega risk of a net change for one unit of volatility: the ratio times the volatility times the net
 abbrev pub vega_risk : ℤ → ℤ → ℤ → ℤ
 vega_risk hvr sigma net = away (hvr *ℤ sigma *ℤ net) (pos (10 ^ 8))
+
+-- the nets of names, and of pairs, over their tenors
+abbrev pub name_nets : List (Amount NameVolatility) → List (Amount (List ℕ))
+name_nets amounts = map (λ name. record { of = name; amount = total_by (λ a. a.amount) (tenors_of amounts name) }) (names_of amounts)
+
+abbrev pub pair_nets : List (Amount PairVolatility) → List (Amount Pair)
+pair_nets amounts = map (λ pair. record { of = pair; amount = total_by (λ a. a.amount) (pair_tenors amounts pair) }) (pairs_of amounts)
 
 -- ---- each is a group by itself
 

@@ -19,7 +19,3 @@ pub record IsSized {A : Type 0} (weight : A → ℤ) (amounts : List (Amount A))
   pub below : value.gross <ℤ pos (84 * 10 ^ 14)
   pub cr_low : one ≤ℤ value.cr.0
   pub cr_high : value.cr.0 <ℤ pos 347000000
-
--- volatilities of rates and of credit weigh 1: their amounts are already volatility times vega
-abbrev pub alone : {A : Type 0} → A → ℤ
-alone a = pos 10000

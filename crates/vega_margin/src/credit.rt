@@ -6,28 +6,19 @@ ghost use Rattle.simm_params.specs.ListedBuckets.{credit_bucket_of, credit_bucke
 ghost use Rattle.simm_params.specs.Weighed.{IsWeighedCredit};
 ghost use Rattle.factor_book.specs.Factors.{IsBook};
 ghost use Rattle.name_delta.specs.Values.{IsInRange};
-ghost use Rattle.vega_margin.specs.Credit.{points_of, points_place};
-ghost use Rattle.vega_margin.specs.Values.{alone, IsSized};
+ghost use Rattle.vol_factors.specs.Places.{points_of};
+ghost use Rattle.vol_factors.specs.Ranges.{alone};
+ghost use Rattle.vega_margin.specs.Values.{IsSized};
 
-use crate::weighing::weigh_groups;
-use factor_book::{BookSide, Factors, Place};
-use mh_units::Corr6;
-use name_delta::{IssuerRho, bucket_id, group_points, in_millionths};
+use crate::weighing::concentrated_bucket;
+use factor_book::Factors;
+use name_delta::{IssuerRho, in_millionths};
 use pair_sum::Steps;
-use simm_kinds::{Bucket, ProductClass, RiskClass};
-use simm_params::{CreditBucket, CreditKind, Params};
+use simm_params::{CreditBucket, Params};
 use simm_rules::BucketMargin;
 use std::alloc::{AllocError, Global};
 use std::sync::ledger::Ledger;
-use weighted_bucket::{Scaling, bucket_margin};
-
-/// A bucket of a class of credit in a product class.
-#[derive(Clone, Copy, Debug)]
-pub struct CreditAt {
-    pub product: ProductClass,
-    pub kind: CreditKind,
-    pub bucket: Bucket,
-}
+use vol_factors::{CreditAt, point_groups};
 
 /// The vega value of a bucket that the file lists, whose factors are those of a book in range. Its `n` volatilities take at most
 /// `n * n` steps. Want of memory is the only error.
@@ -67,33 +58,12 @@ fn points_value<L: Ledger>(
     ensures sizes { IfOk result (IsSized alone (points_of (credit_class at.kind) at.bucket at.product factors.now)) }
     ensures steps { let n = length (points_of (credit_class at.kind) at.bucket at.product factors.now) in steps.new ≤ steps.old + n * n }
 {
-    let terms = bucket.terms;
-    let grouped = group_points(alloc, terms.thresholds.vega, factors, &place_of(at))?;
-    let weighed = weigh_groups(alloc, terms.vrw, grouped.as_slice())?;
+    let grouped = point_groups(alloc, bucket, factors, at)?;
+    let grouped = grouped.as_slice();
     let rho = IssuerRho {
-        grouped: grouped.as_slice(),
+        grouped,
         same: in_millionths(bucket.same),
-        rho: in_millionths(terms.rho),
+        rho: in_millionths(bucket.terms.rho),
     };
-    Ok(bucket_margin(
-        weighed.as_slice(),
-        &rho,
-        Scaling::Concentrated,
-        Corr6::ONE,
-        steps,
-    ))
-}
-
-fn place_of(at: CreditAt) -> Place
-    ensures { result ≡ points_place (credit_class at.kind) at.bucket at.product }
-{
-    Place {
-        product: at.product,
-        class: match at.kind {
-            CreditKind::Qualifying => RiskClass::CreditQ,
-            CreditKind::NonQualifying => RiskClass::CreditNonQ,
-        },
-        side: BookSide::Volatility,
-        bucket: bucket_id(&at.bucket),
-    }
+    concentrated_bucket(alloc, bucket.terms.vrw, grouped, &rho, steps)
 }

@@ -1,25 +1,25 @@
 //! Foreign exchange: the pairs of currencies of a product class, in one bucket. A pair's volatilities of all tenors are one factor, and
 //! each pair a concentration group by itself.
-ghost use Rattle.std.specs.Prelude.{◌≡◌, ◌+◌, ◌*◌, ◌^◌, ◌≤◌, IfOk, All, length, unsigned_abs};
+ghost use Rattle.std.specs.Prelude.{◌≡◌, ◌+◌, ◌*◌, ◌^◌, ◌≤◌, IfOk, All, length, map, unsigned_abs};
 ghost use Rattle.simm_rules.specs.ForeignExchange.{pairs_of, fx_sigma, fx_vega_threshold, fx_vega_value};
-ghost use Rattle.simm_params.specs.Ranges.{sigmas, IsWithin};
-ghost use Rattle.vega_margin.specs.Pairs.{pair_volatilities, pairs_place, net_view, nets_view, ArePairsInRange};
-ghost use Rattle.vega_margin.specs.Together.{own_group, AreGrouped};
+ghost use Rattle.vol_factors.specs.Pairs.{pair_view};
+ghost use Rattle.vol_factors.specs.Places.{pair_volatilities};
+ghost use Rattle.vol_factors.specs.Ranges.{ArePairsInRange};
+ghost use Rattle.vega_margin.specs.Singles.{own_group, pair_nets, AreGrouped};
 ghost use Rattle.vega_margin.specs.Values.{IsSized};
 
-use crate::pairs::{PairNet, pair_sums};
 use crate::singles::{single_group, vega_risk};
-use crate::weighing::weigh_groups;
-use factor_book::{BookSide, Factors, Place};
-use mh_units::{Corr6, Rate4};
+use crate::weighing::concentrated_bucket;
+use factor_book::Factors;
 use name_delta::{EvenRho, in_millionths};
 use pair_sum::Steps;
-use simm_kinds::{BucketId, CurrencyPair, ProductClass, RiskClass};
+use simm_kinds::{CurrencyPair, ProductClass};
 use simm_params::Params;
 use simm_rules::BucketMargin;
 use std::alloc::{AllocError, Global};
 use std::sync::ledger::Ledger;
-use weighted_bucket::{Grouped, Scaling, bucket_margin};
+use vol_factors::{PairSum, TenorScale, pair_sums, pair_volatility};
+use weighted_bucket::Grouped;
 
 /// The vega value of the one bucket of a product class's pairs, whose `k` is the vega margin of foreign exchange. The factors are
 /// those of a book in range. `n` pairs take at most `n * n` steps. Want of memory is the only error.
@@ -37,38 +37,32 @@ pub fn pair_bucket<L: Ledger>(
 {
     params.facts();
     params.pair_facts();
-    factors.facts();
-    let sums = pair_sums(alloc, factors, &place_of(product))?;
-    let grouped = group_pairs(alloc, params, sums.as_slice())?;
-    let weighed = weigh_groups(alloc, params.fx_vrw(), grouped.as_slice())?;
+    let grouped = group_pairs(alloc, params, factors, product)?;
+    let grouped = grouped.as_slice();
     let rho = EvenRho {
-        count: weighed.len(),
+        count: grouped.len(),
         rho: in_millionths(params.fx_vol_rho()),
     };
-    Ok(bucket_margin(
-        weighed.as_slice(),
-        &rho,
-        Scaling::Concentrated,
-        Corr6::ONE,
-        steps,
-    ))
-}
-
-fn place_of(product: ProductClass) -> Place
-    ensures { result ≡ pairs_place product }
-{
-    Place {
-        product,
-        class: RiskClass::FX,
-        side: BookSide::Volatility,
-        bucket: BucketId::Single,
-    }
+    concentrated_bucket(alloc, params.fx_vrw(), grouped, &rho, steps)
 }
 
 // The vega risk of each pair, in a group by itself.
-fn group_pairs(alloc: Global, params: &Params, sums: &[PairNet]) -> Result<Vec<Grouped>, AllocError>
-    requires { All (λ n. unsigned_abs n.net ≤ 2 * 10 ^ 20) sums.now }
-    ensures { IfOk result (λ grouped. AreGrouped params.now.fx.hvr (fx_sigma params.now) (fx_vega_threshold params.now) (nets_view sums.now) grouped.items) }
+fn group_pairs(
+    alloc: Global,
+    params: &Params,
+    factors: &Factors,
+    product: ProductClass,
+) -> Result<Vec<Grouped>, AllocError>
+    requires { ArePairsInRange params.now (pair_volatilities product factors.now) }
+    ensures { IfOk result (λ grouped. AreGrouped params.now.fx.hvr (fx_sigma params.now) (fx_vega_threshold params.now) (pair_nets (pair_volatilities product factors.now)) grouped.items) }
+{
+    let sums = pair_sums(alloc, factors, product, TenorScale::Even)?;
+    group_sums(alloc, params, sums.as_slice())
+}
+
+fn group_sums(alloc: Global, params: &Params, sums: &[PairSum]) -> Result<Vec<Grouped>, AllocError>
+    requires { All (λ pair. unsigned_abs pair.sum ≤ 2 * 10 ^ 20) sums.now }
+    ensures { IfOk result (λ grouped. AreGrouped params.now.fx.hvr (fx_sigma params.now) (fx_vega_threshold params.now) (map pair_view sums.now) grouped.items) }
 {
     let mut grouped = Vec::with_capacity(alloc, sums.len())?;
     for place in 0..sums.len() {
@@ -78,22 +72,13 @@ fn group_pairs(alloc: Global, params: &Params, sums: &[PairNet]) -> Result<Vec<G
 }
 
 // A pair's group, by what the categories of its currencies say.
-fn group_pair(params: &Params, place: usize, sum: PairNet) -> Grouped
-    requires { unsigned_abs sum.net ≤ 2 * 10 ^ 20 }
-    ensures { result ≡ own_group params.now.fx.hvr (fx_sigma params.now) (fx_vega_threshold params.now) place (net_view sum) }
+fn group_pair(params: &Params, place: usize, sum: PairSum) -> Grouped
+    requires { unsigned_abs sum.sum ≤ 2 * 10 ^ 20 }
+    ensures { result ≡ own_group params.now.fx.hvr (fx_sigma params.now) (fx_vega_threshold params.now) place (pair_view sum) }
 {
-    let sigma = volatility(params, sum.pair);
-    let risk = vega_risk(params.fx_hvr(), sigma, sum.net);
+    let sigma = pair_volatility(params, sum.pair);
+    let risk = vega_risk(params.fx_hvr(), sigma, sum.sum);
     single_group(place, risk, threshold(params, sum.pair))
-}
-
-fn volatility(params: &Params, pair: CurrencyPair) -> Rate4
-    ensures value { result.0 ≡ fx_sigma params.now pair }
-    ensures range { IsWithin sigmas result.0 }
-{
-    let first = params.volatility_category(&pair.first());
-    let second = params.volatility_category(&pair.second());
-    params.fx_sigma(first, second)
 }
 
 fn threshold(params: &Params, pair: CurrencyPair) -> i64

@@ -21,12 +21,9 @@ ghost use Rattle.factor_book.specs.declared.holding.Holding.{Holding};
 ghost use Rattle.factor_book.specs.Factors.{factors_of};
 ghost use Rattle.ir_delta.specs.Parts.{AreParts, margin_over as over_currencies};
 ghost use Rattle.name_delta.specs.Values.{nets_in, IsInRange};
+ghost use Rattle.vol_factors.specs.Places.{volatilities_of, points_of, name_volatilities, pair_volatilities};
+ghost use Rattle.vol_factors.specs.Ranges.{alone};
 ghost use Rattle.vega_margin.specs.Combine.{currency_buckets, volatility_buckets, IsRateClass};
-ghost use Rattle.vega_margin.specs.Credit.{points_of};
-ghost use Rattle.vega_margin.specs.Pairs.{pair_volatilities};
-ghost use Rattle.vega_margin.specs.Priced.{name_volatilities};
-ghost use Rattle.vega_margin.specs.Rates.{volatilities_of};
-ghost use Rattle.vega_margin.specs.Values.{alone};
 
 use factor_book::factors_are_netted;
 use simm_params::Params;

@@ -1,5 +1,5 @@
 //! The vega margin of a risk class: the value of a bucket, and the margin over its buckets. Each class adds to the engine of
-//! buckets what is its own: which factors there are, their vega risks, concentration groups, thresholds and correlations.
+//! buckets what is its own: the vega risks of its volatilities, their concentration groups, thresholds and correlations.
 //! (ISDA SIMM methodology, vega margin.)
 #![tactic(auto)]
 
@@ -7,14 +7,10 @@ mod across;
 mod credit;
 mod fx;
 mod laws;
-mod names;
-mod pairs;
 mod priced;
-mod rate_rho;
 mod rates;
 mod singles;
 mod vega;
-mod volatility;
 mod weighing;
 
 pub use across::combine;

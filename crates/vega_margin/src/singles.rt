@@ -1,7 +1,7 @@
 //! Equity, commodities and foreign exchange: vega risks of what is a concentration group by itself.
 ghost use Rattle.std.specs.Prelude.{◌≡◌, ◌*◌, ◌^◌, ◌≤◌, unsigned_abs};
 ghost use Rattle.simm_params.specs.Ranges.{hvrs, sigmas, IsWithin};
-ghost use Rattle.vega_margin.specs.Together.{single_group, vega_risk};
+ghost use Rattle.vega_margin.specs.Singles.{single_group, vega_risk};
 
 use mh_units::{Rate4, div_away};
 use weighted_bucket::Grouped;

@@ -1,9 +1,9 @@
-use Rattle.std.proofs.Common.{◌≡◌, ◌∙◌, sym, ap, length, get_or, rules, arith}
+use Rattle.std.proofs.Common.{◌≡◌, ◌∙◌, sym, ap, length, map, get_or, rules, arith}
 use Rattle.std.proofs.lemmas.List.{get_or-map, length-map}
 use Rattle.simm_rules.specs.ForeignExchange.{fx_sigma, fx_vega_threshold}
-use Rattle.vega_margin.specs.Pairs.{net_view, nets_view}
+use Rattle.vol_factors.specs.Pairs.{pair_view}
 use Rattle.vega_margin.proofs.OwnGroups.{grouping_next, all_grouped}
-use Rattle.vega_margin.proofs.fx.group_pairs.Goals as goal
+use Rattle.vega_margin.proofs.fx.group_sums.Goals as goal
 
 pub loop-place-preserved : goal.loop-place-preserved
 loop-place-preserved c =
@@ -12,8 +12,8 @@ loop-place-preserved c =
     let place = c.loop-place.place in
     let sum = c.index-sums-place.result in
     let is : sum ≡ get_or sums place sum = search rules in
-    grouping_next p.fx.hvr (fx_sigma p) (fx_vega_threshold p) (nets_view sums) place c.loop-place.grouped.items c.push.new.self.items c.group_pair.result (net_view sum) c.loop-place.invariant
-    (omega (arith, length-map sums net_view, c.loop-place-test.true)) c.in_ok-push.ensures.items (ap net_view is ∙ sym (get_or-map net_view sums place sum (net_view sum) c.loop-place-test.true)) c.group_pair.ensures
+    grouping_next p.fx.hvr (fx_sigma p) (fx_vega_threshold p) (map pair_view sums) place c.loop-place.grouped.items c.push.new.self.items c.group_pair.result (pair_view sum) c.loop-place.invariant
+    (omega (arith, length-map sums pair_view, c.loop-place-test.true)) c.in_ok-push.ensures.items (ap pair_view is ∙ sym (get_or-map pair_view sums place sum (pair_view sum) c.loop-place-test.true)) c.group_pair.ensures
 
 pub returns : goal.returns
 returns c =
@@ -21,5 +21,5 @@ returns c =
     let sums = c.args.sums.now in
     let stop = c.loop-place-test.false in
     let end = c.loop-place.auto.place-end in
-    let all : length sums ≡ length (nets_view sums) = sym (length-map sums net_view) in
-    all_grouped p.fx.hvr (fx_sigma p) (fx_vega_threshold p) (nets_view sums) c.loop-place.place (length sums) c.loop-place.grouped.items c.loop-place.invariant (omega arith) all
+    let all : length sums ≡ length (map pair_view sums) = sym (length-map sums pair_view) in
+    all_grouped p.fx.hvr (fx_sigma p) (fx_vega_threshold p) (map pair_view sums) c.loop-place.place (length sums) c.loop-place.grouped.items c.loop-place.invariant (omega arith) all

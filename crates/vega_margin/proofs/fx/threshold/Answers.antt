@@ -1,7 +1,7 @@
 use Rattle.std.proofs.Common.{◌∙◌, FitsSigned, rules}
 use Rattle.std.specs.Int.{w64}
 use Rattle.mh_units.proofs.Integers.{same64}
-use Rattle.vega_margin.proofs.Categories.{threshold_is}
+use Rattle.vega_margin.proofs.Thresholds.{threshold_is}
 use Rattle.vega_margin.proofs.fx.threshold.Goals as goal
 
 pub returns : goal.returns

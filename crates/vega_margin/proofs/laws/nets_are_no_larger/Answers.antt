@@ -13,9 +13,9 @@ use Rattle.simm_rules.specs.Priced.{NameVolatility, as_price_volatility}
 use Rattle.factor_book.specs.Factors.{factors_of}
 use Rattle.name_delta.specs.Values.{nets_in}
 use Rattle.name_delta.proofs.Shrinking.{SizesAreNetted, nets_shrink, filter_shrinks}
-use Rattle.vega_margin.specs.Rates.{volatilities_of}
-use Rattle.vega_margin.specs.Values.{alone}
-use Rattle.vega_margin.proofs.Categories.{sigma_low}
+use Rattle.vol_factors.specs.Places.{volatilities_of}
+use Rattle.vol_factors.specs.Ranges.{alone}
+use Rattle.vol_factors.proofs.Sigmas.{sigma_low}
 use Rattle.vega_margin.proofs.laws.nets_are_no_larger.Goals as goal
 
 -- 1 is not negative

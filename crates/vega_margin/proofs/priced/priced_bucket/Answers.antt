@@ -5,7 +5,7 @@ use Rattle.simm_rules.specs.Risks.{Amount}
 use Rattle.simm_rules.specs.Priced.{NameVolatility, priced_params, price_vega_value}
 use Rattle.simm_params.specs.ClassKinds.{priced_class}
 use Rattle.simm_params.specs.ListedBuckets.{priced_bucket_of, priced_bucket_view}
-use Rattle.vega_margin.specs.Priced.{name_volatilities}
+use Rattle.vol_factors.specs.Places.{name_volatilities}
 use Rattle.vega_margin.proofs.priced.priced_bucket.Goals as goal
 
 valued : {E : Type 0} (r : Result BucketMargin E) (h k : ℤ) (b : PricedBucket) (o : Option PricedBucket) (amounts : List (Amount NameVolatility)) → h ≡ k → Some b ≡ o → IfOk r (λ m. m ≡ price_vega_value h b amounts) → IfOk r (λ m. Some m ≡ option_map (λ c. price_vega_value k c amounts) o)

@@ -1,5 +1,6 @@
-use Rattle.std.proofs.Common.{◌≡◌, ◌∙◌, ◌+◌, ◌*◌, ◌^◌, ◌<◌, ◌≤◌, ap, sym, subst, pos, unsigned_abs, FitsSigned, rules, arith, mul-le-mul_left}
+use Rattle.std.proofs.Common.{◌≡◌, ◌∙◌, ◌+◌, ◌*◌, ◌^◌, ◌<◌, ◌≤◌, map, ap, sym, subst, pos, unsigned_abs, FitsSigned, rules, arith, mul-le-mul_left}
 use Rattle.std.proofs.lemmas.Int.{ints}
+use Rattle.std.proofs.lemmas.List.{take_all}
 use Rattle.std.proofs.lemmas.List.Sums.{get_or-le-sum_by}
 use Rattle.std.specs.Int.{w128, cast_signed, cast_unsigned}
 use Rattle.mh_units.proofs.Integers.{same128}
@@ -11,6 +12,7 @@ use Rattle.name_delta.proofs.Alike.{made_more}
 use Rattle.name_delta.proofs.Groups.{factor_at}
 use Rattle.name_delta.proofs.Thick.{cr_size}
 use Rattle.name_delta.proofs.Weighings.{weighed_with, weighed_is}
+use Rattle.vega_margin.proofs.Sizes.{are_weighed}
 use Rattle.vega_margin.proofs.weighing.weigh_groups.Goals as goal
 
 pub weigh-requires-clause-small : goal.weigh-requires-clause-small
@@ -48,3 +50,10 @@ loop-place-preserved c =
     c.weigh.ensures ∙ ap (λ x. weighted_value weight x c.index-cr.result.now.0) (same128 (at grouped place).x net_fits) ∙ ap (weighted_value weight (at grouped place).x) factor in
     made_more (weighed_in weight grouped) grouped place none c.loop-place.weighed.items c.push.new.self.items (weighed_with (cast_signed w128 (cast_unsigned w128 c.weigh.result)) c.index-cr.result.now) c.loop-place-test.true c.loop-place.invariant c.in_ok-push.ensures.items
     (weighed_is (cast_signed w128 (cast_unsigned w128 c.weigh.result)) c.index-cr.result.now (weighted_value weight (at grouped place).x (group_factor grouped (at grouped place))) (group_factor grouped (at grouped place)) (same128 c.weigh.result weighed_fits ∙ value) factor)
+
+pub returns : goal.returns
+returns c =
+    let grouped = c.args.grouped.now in
+    let stop = c.loop-place-test.false in
+    let made = c.loop-place.invariant ∙ ap (map (weighed_in c.args.vrw.0 grouped)) (take_all c.loop-place.place grouped (omega arith)) in
+    are_weighed c.args.vrw.0 c.requires.vrw c.args.grouped.now c.requires.groups c.loop-place.weighed.items made
