@@ -1,89 +1,78 @@
 -- The curvature value of a bucket of credit, by the numbers of its issuers.
-use Rattle.std.proofs.Common.{◌≡◌, ◌≢◌, ℕ, ◌*◌, ◌<◌, ◌≤◌, List, [], map, length, get_or, Bool, true, false, if◌then◌else◌, refl, sym, ap, ◌∙◌, ℤ, pos, unsigned_abs, arith}
+use Rattle.std.proofs.Common.{◌≡◌, ◌*◌, ◌≤◌, List, map, length, Bool, true, false, if◌then◌else◌, refl, sym, ap, ◌∙◌, subst, ℤ, pos, unsigned_abs, arith}
 use Rattle.std.specs.Prelude.{sum_by}
 use Rattle.std.specs.List.Sorted.{IsStrictlySortedBy}
-use Rattle.std.proofs.lemmas.Int.{ints}
 use Rattle.std.proofs.lemmas.List.{length-map}
 use Rattle.std.proofs.lemmas.Simd.{map-map}
-use Rattle.simm_kinds.specs.declared.credit_tenor.CreditTenor.TheVariants as credit
+use Rattle.simm_kinds.specs.declared.bucket.Bucket.{Bucket}
+use Rattle.simm_kinds.specs.declared.key.FactorKey.{FactorKey}
+use Rattle.simm_kinds.specs.declared.kinds.ProductClass.{ProductClass}
 use Rattle.simm_kinds.specs.Tenors.{tenor_at}
-use Rattle.simm_kinds.specs.Order.{same_name}
 use Rattle.simm_rules.specs.Params.{CreditBucket}
 use Rattle.simm_rules.specs.Lookups.{six}
-use Rattle.simm_rules.specs.Risks.{CreditPoint, credit_point, Amount}
+use Rattle.simm_rules.specs.Risks.{CreditClass, CreditPoint, Amount}
 use Rattle.simm_rules.specs.Concentration.{one}
-use Rattle.simm_rules.specs.Credit.{same_point, credit_rho, curved_point, credit_curvature_value}
-use Rattle.simm_params.specs.Facts.{IsWeighed}
+use Rattle.simm_rules.specs.Credit.{curved_point, credit_curvature_value}
+use Rattle.simm_params.specs.Weighed.{IsWeighedCredit}
+use Rattle.factor_book.specs.declared.holding.Holding.{Holding}
+use Rattle.factor_book.specs.declared.place.Place.{Place}
 use Rattle.weighted_bucket.specs.declared.group.Grouped.{Grouped}
 use Rattle.weighted_bucket.specs.declared.scaling.Scaling.TheVariants as scaling
 use Rattle.weighted_bucket.specs.Bucket.{bucket_value}
-use Rattle.name_delta.specs.Alone.{AreTerms}
-use Rattle.name_delta.specs.Points.{AreGrouped, issuer_rho}
+use Rattle.name_delta.specs.Points.{AreGrouped, issuer_nets_at, issuer_rho}
 use Rattle.name_delta.specs.Values.{IsInRange, weighed_as}
-use Rattle.name_delta.proofs.CreditPoints.{point_cmp, point_total, point_tests, issuer_amount}
-use Rattle.name_delta.proofs.CreditValues as delta
+use Rattle.name_delta.proofs.CreditPoints.{point_cmp}
 use Rattle.name_delta.proofs.Sizes.{sum_by-map}
-use Rattle.name_delta.proofs.Valued.{value_is}
 use Rattle.vol_factors.specs.declared.tenor_scale.TenorScale.TheVariants as scale
-use Rattle.vol_factors.specs.Credit.{scaled_point}
+use Rattle.vol_factors.specs.Credit.{issuer_net, scaled_point}
+use Rattle.vol_factors.specs.Places.{points_place, points_of}
 use Rattle.vol_factors.specs.Ranges.{alone}
-use Rattle.vol_factors.proofs.NamesTogether.{maps_agree}
+use Rattle.vol_factors.proofs.OverTenors.{maps_agree}
+use Rattle.vol_factors.proofs.PointValues as points
+use Rattle.vol_factors.proofs.Readings.{scaled_sizes}
+use Rattle.vol_factors.proofs.VolatilePoints.{points_nets}
 use Rattle.curvature_margin.specs.Risk.{curved_by, volatility_in}
-use Rattle.curvature_margin.proofs.Risks.{with_risk, risk_alone, risk_none, scaled_sizes}
-
-abbrev none : Amount CreditPoint
-none = record { of = credit_point [] credit.Y1 []; amount = pos 0 }
-
-six_of : (t : Bool) (a b : ℤ) → (if t then six a else six b) ≡ six (if t then a else b)
-six_of true a b = refl
-six_of false a b = refl
-
-beside_one : (threshold : ℤ) → IsWeighed (pos 10000) threshold → AreTerms (pos 10000) threshold
-beside_one threshold weighed = record { weighed = weighed; some = omega (arith, ints) }
+use Rattle.curvature_margin.proofs.Risks.{with_risk, risk_alone, risk_none, AreSums}
 
 -- a point's risk, or none in a bucket without curvature
 point_risk : (curvature : Bool) (a : Amount CreditPoint) → curved_by (if curvature then pos 10000 else pos 0) (scaled_point scale.Curved a) ≡ weighed_as (curved_point curvature a)
 point_risk true a = ap with_risk (risk_alone (pos 10000) (tenor_at (a.of).tenor) a.amount)
 point_risk false a = ap with_risk (risk_none (scaled_point scale.Curved a))
 
-module _ (points : List (Amount CreditPoint)) (sums slice : List ℤ) (same : slice ≡ sums) (read : sums ≡ map (scaled_point scale.Curved) points) where
-  sums_are : slice ≡ map (scaled_point scale.Curved) points
-  sums_are = same ∙ read
+-- the groups at the place of a bucket's points; t is the threshold as it is passed
+pub points_grouped : (threshold t : ℤ) (class : CreditClass) (at : Bucket) (product : ProductClass) (fs : List (FactorKey × Holding)) (place : Place) (grouped held : List Grouped) → t ≡ threshold → place ≡ points_place class at product → grouped ≡ held → AreGrouped t (issuer_nets_at place fs) held → AreGrouped threshold (map issuer_net (points_of class at product fs)) grouped
+points_grouped threshold t class at product fs place grouped held same there is groups =
+    subst (AreGrouped threshold (map issuer_net (points_of class at product fs))) (sym is)
+    (subst (λ nets. AreGrouped threshold nets held) (ap (λ p. issuer_nets_at p fs) there ∙ points_nets class at product fs) (subst (λ z. AreGrouped z (issuer_nets_at place fs) held) same groups))
 
-  pub sums_count : length slice ≡ length points
-  sums_count = ap length sums_are ∙ length-map points (scaled_point scale.Curved)
+module _ (own : List (Amount CreditPoint)) (sums : List ℤ) (read : sums ≡ map (scaled_point scale.Curved) own) where
+  pub sums_count : length sums ≡ length own
+  sums_count = ap length read ∙ length-map own (scaled_point scale.Curved)
 
-  pub sums_sizes : sum_by (λ x. unsigned_abs x) slice ≤ 10950 * sum_by (λ a. unsigned_abs a.amount) points
-  sums_sizes =
-      omega (
-        arith,
-        ap (sum_by (λ x. unsigned_abs x)) sums_are,
-        sum_by-map (λ x. unsigned_abs x) (scaled_point scale.Curved) points,
-        scaled_sizes (λ (a : Amount CreditPoint). tenor_at (a.of).tenor) (λ a. a.amount) points,
-      )
+  pub points_summed : AreSums own sums
+  points_summed = record {
+    sizes = omega (
+      arith,
+      ap (sum_by (λ x. unsigned_abs x)) read,
+      sum_by-map (λ x. unsigned_abs x) (scaled_point scale.Curved) own,
+      scaled_sizes scale.Curved (λ (a : Amount CreditPoint). tenor_at (a.of).tenor) (λ a. a.amount) own,
+    );
+    fewer = omega (arith, sums_count);
+  }
 
-  module _ (b : CreditBucket) where
+  -- the groups of a bucket's points tell issuers apart
+  module _ (b : CreditBucket) (weighed : IsWeighedCredit b) (range : IsInRange alone own) (ascends : IsStrictlySortedBy point_cmp (map (λ a. a.of) own)) (grouped : List Grouped) (groups : AreGrouped ((b.terms).thresholds).vega (map issuer_net own) grouped) where
+    pub groups_count : length grouped ≡ length sums
+    groups_count = points.groups_count own ((b.terms).thresholds).vega weighed.terms.vega range ascends grouped groups ∙ sym sums_count
+
     abbrev sigma : ℤ
     sigma = volatility_in b.terms (pos 10000)
 
-    made : map (curved_by sigma) slice ≡ map (λ a. weighed_as (curved_point (b.terms).curvature a)) points
+    made : map (curved_by sigma) sums ≡ map (λ a. weighed_as (curved_point (b.terms).curvature a)) own
     made =
-        ap (map (curved_by sigma)) sums_are ∙ map-map (curved_by sigma) (scaled_point scale.Curved) points
-        ∙ maps_agree (λ a. curved_by sigma (scaled_point scale.Curved a)) (λ a. weighed_as (curved_point (b.terms).curvature a)) (point_risk (b.terms).curvature) points
+        ap (map (curved_by sigma)) read ∙ map-map (curved_by sigma) (scaled_point scale.Curved) own
+        ∙ maps_agree (λ a. curved_by sigma (scaled_point scale.Curved a)) (λ a. weighed_as (curved_point (b.terms).curvature a)) (point_risk (b.terms).curvature) own
 
-    -- the groups of a bucket's points tell issuers apart
-    module _ (threshold : ℤ) (weighed : IsWeighed (pos 10000) threshold) (range : IsInRange alone points) (ascends : IsStrictlySortedBy point_cmp (map (λ a. a.of) points)) (grouped : List Grouped) (groups : AreGrouped threshold (map issuer_amount points) grouped) where
-      abbrev issuer : ℕ → List ℕ
-      issuer k = ((get_or points k none).of).issuer
-
-      pub groups_count : length grouped ≡ length slice
-      groups_count = delta.count points (pos 10000) threshold (beside_one threshold weighed) range ascends grouped groups ∙ sym sums_count
-
-      pub points_value : (same_rho rho : ℤ) → same_rho ≡ six b.same → rho ≡ six (b.terms).rho → bucket_value scaling.Squared (map (curved_by (volatility_in b.terms (pos 10000))) slice) (issuer_rho same_rho rho grouped) (record { 0 = one }) ≡ credit_curvature_value b points
-      points_value same_rho rho is_same is_rho =
-          value_is point_cmp point_total same_point point_tests scaling.Squared (credit_rho b) (curved_point (b.terms).curvature) (λ a. refl) none points ascends (map (curved_by sigma) slice) (issuer_rho same_rho rho grouped) made rho_is
-        where
-          rho_is : (i j : ℕ) → i < length points → j < length points → i ≢ j → issuer_rho same_rho rho grouped i j ≡ credit_rho b (get_or points i none).of (get_or points j none).of
-          rho_is i j l m apart =
-              ap (λ t. if t then same_rho else rho) (delta.tells points (pos 10000) threshold (beside_one threshold weighed) range ascends grouped groups i j l m) ∙ ap (λ z. if same_name (issuer i) (issuer j) then z else rho) is_same
-              ∙ ap (λ z. if same_name (issuer i) (issuer j) then six b.same else z) is_rho ∙ six_of (same_name (issuer i) (issuer j)) b.same (b.terms).rho
+    pub points_value : (same rho : ℤ) → same ≡ six b.same → rho ≡ six (b.terms).rho → bucket_value scaling.Squared (map (curved_by (volatility_in b.terms (pos 10000))) sums) (issuer_rho same rho grouped) (record { 0 = one }) ≡ credit_curvature_value b own
+    points_value same rho is_same is_rho =
+        points.points_valued own ((b.terms).thresholds).vega weighed.terms.vega range ascends grouped groups b same rho is_same is_rho scaling.Squared (curved_point (b.terms).curvature) (λ a. refl) (map (curved_by sigma) sums) made

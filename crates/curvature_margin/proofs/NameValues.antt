@@ -1,7 +1,6 @@
 -- The curvature value of a bucket of names.
-use Rattle.std.proofs.Common.{◌≡◌, ℕ, ◌*◌, ◌≤◌, List, [], map, length, Bool, true, false, if◌then◌else◌, refl, sym, ap, ◌∙◌, subst, ℤ, pos, unsigned_abs, arith}
+use Rattle.std.proofs.Common.{◌≡◌, ℕ, ◌*◌, ◌≤◌, List, [], map, length, Bool, true, false, if◌then◌else◌, refl, sym, ap, ◌∙◌, ℤ, pos, unsigned_abs, arith}
 use Rattle.std.specs.Prelude.{sum_by}
-use Rattle.std.specs.List.Sorted.{IsStrictlySortedBy}
 use Rattle.std.proofs.lemmas.Cmp.{nat_list_cmp_total}
 use Rattle.std.proofs.lemmas.List.{length-map}
 use Rattle.std.proofs.lemmas.Simd.{map-map}
@@ -14,27 +13,22 @@ use Rattle.simm_rules.specs.Bucket.{squared}
 use Rattle.simm_rules.specs.Bucket.{bucket_value as value_of_factors}
 use Rattle.simm_rules.specs.Curvature.{curvature_risk, curved}
 use Rattle.simm_rules.specs.Priced.{NameVolatility, names_of, tenors_of, name_rho, price_curvature_value}
-use Rattle.factor_book.proofs.Sorting.{different_ascends, length-different}
 use Rattle.weighted_bucket.specs.declared.scaling.Scaling.TheVariants as scaling
 use Rattle.weighted_bucket.specs.Bucket.{bucket_value}
-use Rattle.name_delta.proofs.Lists.{map-itself}
 use Rattle.name_delta.proofs.Sizes.{sum_by-map}
 use Rattle.name_delta.proofs.Valued.{value_is}
-use Rattle.vol_factors.specs.declared.names.NameSum.{NameSum}
 use Rattle.vol_factors.specs.declared.tenor_scale.TenorScale.TheVariants as scale
-use Rattle.vol_factors.specs.Names.{name_total, name_totals, sum_view}
-use Rattle.vol_factors.proofs.NamesTogether.{maps_agree}
-use Rattle.vol_factors.proofs.NameSizes.{totals_size}
+use Rattle.vol_factors.specs.Names.{name_total}
+use Rattle.vol_factors.proofs.NamesTogether.{names}
+use Rattle.vol_factors.proofs.OverTenors.{maps_agree, keys_ascend}
+use Rattle.vol_factors.proofs.TotalSizes.{keys_fewer, totals_size}
 use Rattle.curvature_margin.specs.Risk.{curved_by, volatility_in}
-use Rattle.curvature_margin.proofs.Risks.{with_risk, risk_is, risk_none}
+use Rattle.curvature_margin.proofs.Risks.{with_risk, risk_is, risk_none, AreSums}
 
 abbrev none : Amount (List ℕ)
 none = record { of = []; amount = pos 0 }
 
 module _ (amounts : List (Amount NameVolatility)) where
-  abbrev names : List (List ℕ)
-  names = names_of amounts
-
   abbrev total : List ℕ → ℤ
   total name = name_total scale.Curved amounts name
 
@@ -43,43 +37,36 @@ module _ (amounts : List (Amount NameVolatility)) where
   name_risk true sigma name = ap with_risk (risk_is sigma (tenors_of amounts name))
   name_risk false sigma name = ap with_risk (risk_none (total name))
 
-  module _ (held slice : List NameSum) (sums : List ℤ) (same : slice ≡ held) (read : map sum_view held ≡ name_totals scale.Curved amounts) (are : sums ≡ map (λ n. n.sum) slice) where
-    sums_are : sums ≡ map total names
-    sums_are =
-        are ∙ sym (map-map (λ (a : Amount (List ℕ)). a.amount) sum_view slice) ∙ ap (map (λ (a : Amount (List ℕ)). a.amount)) (ap (map sum_view) same ∙ read)
-        ∙ map-map (λ (a : Amount (List ℕ)). a.amount) (λ name. record { of = name; amount = total name }) names
-
+  module _ (sums : List ℤ) (read : sums ≡ map (name_total scale.Curved amounts) (names_of amounts)) where
     pub sums_count : length sums ≡ length (names_of amounts)
-    sums_count = ap length sums_are ∙ length-map names total
+    sums_count = ap length read ∙ length-map (names_of amounts) total
 
-    pub names_fewer : length sums ≤ length amounts
-    names_fewer = omega (arith, sums_count, length-different name_cmp (map (λ (a : Amount NameVolatility). (a.of).name) amounts), length-map amounts (λ (a : Amount NameVolatility). (a.of).name))
-
-    pub sums_sizes : sum_by (λ x. unsigned_abs x) sums ≤ 10950 * sum_by (λ a. unsigned_abs a.amount) amounts
-    sums_sizes = omega (arith, ap (sum_by (λ x. unsigned_abs x)) sums_are, sum_by-map (λ x. unsigned_abs x) total names, totals_size amounts scale.Curved)
+    pub names_summed : AreSums amounts sums
+    names_summed = record {
+      sizes = omega (arith, ap (sum_by (λ x. unsigned_abs x)) read, sum_by-map (λ x. unsigned_abs x) total (names_of amounts), totals_size names amounts scale.Curved);
+      fewer = omega (arith, sums_count, keys_fewer names amounts);
+    }
 
     module _ (b : PricedBucket) where
       abbrev sigma : ℤ
       sigma = volatility_in b.terms b.sigma
 
+      abbrev risk_in : List ℕ → ℤ
+      risk_in name = if (b.terms).curvature then curvature_risk b.sigma (tenors_of amounts name) else pos 0
+
       abbrev risk_of : List ℕ → Amount (List ℕ)
-      risk_of name = record { of = name; amount = if (b.terms).curvature then curvature_risk b.sigma (tenors_of amounts name) else pos 0 }
+      risk_of name = record { of = name; amount = risk_in name }
 
       abbrev risks : List (Amount (List ℕ))
-      risks = map risk_of names
+      risks = map risk_of (names_of amounts)
 
       made : map (curved_by sigma) sums ≡ map (λ a. with_risk a.amount) risks
       made =
-          ap (map (curved_by sigma)) sums_are ∙ map-map (curved_by sigma) total names
-          ∙ maps_agree (λ name. curved_by sigma (total name)) (λ name. with_risk (risk_of name).amount) (name_risk (b.terms).curvature b.sigma) names
-          ∙ sym (map-map (λ (a : Amount (List ℕ)). with_risk a.amount) risk_of names)
-
-      ascends : IsStrictlySortedBy name_cmp (map (λ a. a.of) risks)
-      ascends =
-          subst (IsStrictlySortedBy name_cmp) (sym (map-map (λ (a : Amount (List ℕ)). a.of) risk_of names ∙ map-itself (λ name. name) (λ name. refl) names))
-          (different_ascends name_cmp nat_list_cmp_total (map (λ (a : Amount NameVolatility). (a.of).name) amounts))
+          ap (map (curved_by sigma)) read ∙ map-map (curved_by sigma) total (names_of amounts)
+          ∙ maps_agree (λ name. curved_by sigma (total name)) (λ name. with_risk (risk_of name).amount) (name_risk (b.terms).curvature b.sigma) (names_of amounts)
+          ∙ sym (map-map (λ (a : Amount (List ℕ)). with_risk a.amount) risk_of (names_of amounts))
 
       pub names_value : (rho : ℤ) → rho ≡ six (b.terms).rho → bucket_value scaling.Squared (map (curved_by (volatility_in b.terms b.sigma)) sums) (λ _ _. rho) (record { 0 = one }) ≡ price_curvature_value b amounts
       names_value rho is_rho =
-          value_is name_cmp nat_list_cmp_total same_name (λ x y. refl) scaling.Squared (name_rho b) (λ a. curved a.of a.amount) (λ a. refl) none risks ascends (map (curved_by sigma) sums) (λ _ _. rho) made (λ i j l m apart. is_rho)
-          ∙ ap (value_of_factors (squared same_name (name_rho b)) one) (map-map (λ (a : Amount (List ℕ)). curved a.of a.amount) risk_of names)
+          value_is name_cmp nat_list_cmp_total same_name (λ x y. refl) scaling.Squared (name_rho b) (λ a. curved a.of a.amount) (λ a. refl) none risks (keys_ascend names risk_in amounts) (map (curved_by sigma) sums) (λ _ _. rho) made (λ i j l m apart. is_rho)
+          ∙ ap (value_of_factors (squared same_name (name_rho b)) one) (map-map (λ (a : Amount (List ℕ)). curved a.of a.amount) risk_of (names_of amounts))

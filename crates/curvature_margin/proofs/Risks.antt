@@ -1,5 +1,5 @@
 -- Curvature risks, their sizes, and the value of a bucket of them.
-use Rattle.std.proofs.Common.{◌≡◌, ◌^◌, ℕ, ◌+◌, ◌*◌, ◌<◌, ◌≤◌, List, [], ◌∷◌, map, length, Bool, true, false, if◌then◌else◌, Result, Ok, Err, IfOk, refl, sym, ap, ◌∙◌, subst, ℤ, pos, ◌+ℤ◌, ◌*ℤ◌, ◌≤ℤ◌, ◌<ℤ◌, unsigned_abs, FitsSigned, All, arith, mul-le-mul_left, mul-le-mul_right}
+use Rattle.std.proofs.Common.{◌≡◌, ◌^◌, ℕ, ◌+◌, ◌*◌, ◌<◌, ◌≤◌, List, [], ◌∷◌, map, length, Bool, true, false, if◌then◌else◌, refl, sym, ap, ◌∙◌, subst, ℤ, pos, ◌+ℤ◌, ◌*ℤ◌, ◌≤ℤ◌, ◌<ℤ◌, unsigned_abs, FitsSigned, All, arith, mul-le-mul_left, mul-le-mul_right}
 use Rattle.std.specs.Prelude.{sum_by}
 use Rattle.std.specs.Int.{w128}
 use Rattle.std.specs.List.{AllByRecursion}
@@ -22,7 +22,6 @@ use Rattle.name_delta.specs.Values.{IsInRange}
 use Rattle.name_delta.proofs.Lists.{each_always, each_weaker}
 use Rattle.name_delta.proofs.Sizes.{sum_by-map, sum_by-scaled, away_size_close, size_all, size_is, size_small}
 use Rattle.name_delta.proofs.Thick.{all_made}
-use Rattle.vol_factors.proofs.Readings.{scale_of-size, times_size}
 use Rattle.curvature_margin.specs.Risk.{risk_of, curved_by, AreNear, IsCurved}
 use Rattle.curvature_margin.specs.Values.{IsSized}
 
@@ -118,22 +117,24 @@ module _ (risks : List Weighed) where
     unconcentrated = cr;
   }
 
--- nets, each times what its tenor counts
-pub scaled_sizes : {X : Type 0} (t : X → Tenor) (x : X → ℤ) (xs : List X) → sum_by (λ a. unsigned_abs (scale_of (t a) *ℤ x a)) xs ≤ 10950 * sum_by (λ a. unsigned_abs (x a)) xs
-scaled_sizes t x [] = omega arith
-scaled_sizes t x (a ∷ xs) =
-    omega (arith, scaled_sizes t x xs, times_size (scale_of (t a)) (x a) (scale_of-size (t a)), sum_by-cons (λ b. unsigned_abs (scale_of (t b) *ℤ x b)) a xs, sum_by-cons (λ b. unsigned_abs (x b)) a xs)
-
 -- each is at most the sum of all
 all_within : (n : ℕ) (xs : List ℤ) → sum_by (λ x. unsigned_abs x) xs ≤ n → AllByRecursion (λ x. unsigned_abs x ≤ n) xs
 all_within n [] h = tt
 all_within n (x ∷ xs) h = (omega (arith, h, sum_by-cons (λ y. unsigned_abs y) x xs), all_within n xs (omega (arith, h, sum_by-cons (λ y. unsigned_abs y) x xs)))
 
-pub sums_small : (sums : List ℤ) (n : ℕ) → sum_by (λ x. unsigned_abs x) sums ≤ 10950 * n → n ≤ 2 * 10 ^ 20 → All (λ x. unsigned_abs x ≤ 219 * 10 ^ 22) sums
-sums_small sums n h m = All-from_recursion (λ x. unsigned_abs x ≤ 219 * 10 ^ 22) sums (all_within (219 * 10 ^ 22) sums (omega (arith, h, m)))
+-- sums of nets, each times what its tenor counts: they come to no more than the nets, counted in full, and are no more
+pub record AreSums {A : Type 0} (amounts : List (Amount A)) (sums : List ℤ) : Type 0 where
+  pub sizes : sum_by (λ x. unsigned_abs x) sums ≤ sum_by (λ a. unsigned_abs a.amount) amounts * 10950
+  pub fewer : length sums ≤ length amounts
+
+pub sums_small : {A : Type 0} (amounts : List (Amount A)) (sums : List ℤ) → AreSums amounts sums → sum_by (λ a. unsigned_abs a.amount) amounts ≤ 2 * 10 ^ 20 → All (λ x. unsigned_abs x ≤ 219 * 10 ^ 22) sums
+sums_small amounts sums its small = All-from_recursion (λ x. unsigned_abs x ≤ 219 * 10 ^ 22) sums (all_within (219 * 10 ^ 22) sums (omega (arith, its.sizes, small)))
+
+pub sums_few : {A : Type 0} (amounts : List (Amount A)) (sums : List ℤ) → AreSums amounts sums → length amounts ≤ 2000 → length sums ≤ 2000
+sums_few amounts sums its few = omega (arith, its.fewer, few)
 
 -- sizes and a count that are within those of a bucket in range
-module _ {A : Type 0} (weight : A → ℤ) (positive : (x : A) → pos 0 ≤ℤ weight x) (amounts : List (Amount A)) (range : IsInRange weight amounts) (sizes count : ℕ) (within : sizes ≤ 10950 * size_all weight amounts) (fewer : count ≤ length amounts) where
+module _ {A : Type 0} (weight : A → ℤ) (positive : (x : A) → pos 0 ≤ℤ weight x) (amounts : List (Amount A)) (range : IsInRange weight amounts) (sizes count : ℕ) (within : sizes ≤ size_all weight amounts * 10950) (fewer : count ≤ length amounts) where
   pub few_within : count ≤ 2000
   few_within = omega (arith, fewer, range.few)
 
@@ -152,7 +153,7 @@ module _ {A : Type 0} (weight : A → ℤ) (positive : (x : A) → pos 0 ≤ℤ 
   }
 
 -- the sums of the factors of a bucket in range, at no more than its volatility
-module _ {A : Type 0} (most : ℤ) (low : pos 0 ≤ℤ most) (amounts : List (Amount A)) (range : IsInRange (λ (x : A). most) amounts) (sigma : ℤ) (less : unsigned_abs sigma ≤ unsigned_abs most) (sums : List ℤ) (sizes : sum_by (λ x. unsigned_abs x) sums ≤ 10950 * sum_by (λ a. unsigned_abs a.amount) amounts) (count : length sums ≤ length amounts) where
+module _ {A : Type 0} (most : ℤ) (low : pos 0 ≤ℤ most) (amounts : List (Amount A)) (range : IsInRange (λ (x : A). most) amounts) (sigma : ℤ) (less : unsigned_abs sigma ≤ unsigned_abs most) (sums : List ℤ) (its : AreSums amounts sums) where
   abbrev whole : ℕ
   whole = sum_by (λ a. unsigned_abs a.amount) amounts
 
@@ -165,26 +166,14 @@ module _ {A : Type 0} (most : ℤ) (low : pos 0 ≤ℤ most) (amounts : List (Am
   all_are : size_all (λ (x : A). most) amounts ≡ whole * unsigned_abs most
   all_are = sum_by-scaled (λ (a : Amount A). unsigned_abs a.amount) (unsigned_abs most) amounts
 
-  weights_small : weights ≤ 10950 * size_all (λ (x : A). most) amounts
-  weights_small = omega (arith, weights_are, all_are, mul-le-mul_right (unsigned_abs sigma) sizes, mul-le-mul_left (10950 * whole) less)
-
-  pub sums_few : length sums ≤ 2000
-  sums_few = few_within (λ (x : A). most) (λ x. low) amounts range weights (length sums) weights_small count
+  weights_small : weights ≤ size_all (λ (x : A). most) amounts * 10950
+  weights_small = omega (arith, weights_are, all_are, mul-le-mul_right (unsigned_abs sigma) its.sizes, mul-le-mul_left (whole * 10950) less)
 
   pub sums_in_range : sum_by (λ x. unsigned_abs x * unsigned_abs sigma) sums ≤ 1095 * 10 ^ 18
-  sums_in_range = sizes_within (λ (x : A). most) (λ x. low) amounts range weights (length sums) weights_small count
+  sums_in_range = sizes_within (λ (x : A). most) (λ x. low) amounts range weights (length sums) weights_small its.fewer
 
   pub sized : (value : BucketMargin) → IsCurved (sum_by (λ x. unsigned_abs x * unsigned_abs sigma) sums) (length sums) value → IsSized (λ (x : A). most) amounts value
-  sized value its = sized_within (λ (x : A). most) (λ x. low) amounts range weights (length sums) weights_small count value its
-
--- the amounts of a bucket in range whose weight is 1
-pub amounts_small : {A : Type 0} (amounts : List (Amount A)) → IsInRange (λ (x : A). pos 10000) amounts → sum_by (λ a. unsigned_abs a.amount) amounts ≤ 2 * 10 ^ 20
-amounts_small {A} amounts range =
-    omega (
-      arith,
-      sum_by-scaled (λ (a : Amount A). unsigned_abs a.amount) 10000 amounts,
-      size_small (λ (x : A). pos 10000) (λ x. omega (arith, ints)) amounts range,
-    )
+  sized value curved = sized_within (λ (x : A). most) (λ x. low) amounts range weights (length sums) weights_small its.fewer value curved
 
 -- the volatility at which a bucket's factors count
 pub chosen_within : (t : Bool) (sigma : ℤ) → IsWithin sigmas sigma → IsWithin sigmas (if t then sigma else pos 0)
@@ -197,8 +186,3 @@ chosen_size false sigma = omega arith
 
 pub unit_within : IsWithin sigmas (pos 10000)
 unit_within = record { low = omega (arith, ints); high = omega (arith, ints) }
-
--- what follows of each answer follows of the answer
-pub if_ok : {X E : Type 0} (P Q : X → Type 0) → ((x : X) → P x → Q x) → (r : Result X E) → IfOk r P → IfOk r Q
-if_ok P Q f (Ok x) h = f x h
-if_ok P Q f (Err e) h = tt

@@ -58,20 +58,15 @@ fn points_value<L: Ledger>(
     ensures sizes { IfOk result (IsSized alone (points_of (credit_class at.kind) at.bucket at.product factors.now)) }
     ensures steps { let n = length (points_of (credit_class at.kind) at.bucket at.product factors.now) in steps.new ≤ steps.old + n * n }
 {
-    let terms = bucket.terms;
     let place = at.place();
     let sums = point_sums(alloc, factors, at, TenorScale::Curved)?;
-    let grouped = group_points(alloc, terms.thresholds.vega, factors, &place)?;
+    let sums = sums.as_slice();
+    let grouped = group_points(alloc, bucket.terms.thresholds.vega, factors, &place)?;
+    let grouped = grouped.as_slice();
     let rho = IssuerRho {
-        grouped: grouped.as_slice(),
+        grouped,
         same: in_millionths(bucket.same),
-        rho: in_millionths(terms.rho),
+        rho: in_millionths(bucket.terms.rho),
     };
-    curved_bucket(
-        alloc,
-        volatility_in(&terms, UNIT),
-        sums.as_slice(),
-        &rho,
-        steps,
-    )
+    curved_bucket(alloc, volatility_in(&bucket.terms, UNIT), sums, &rho, steps)
 }

@@ -1,10 +1,11 @@
 //! Equity and commodities: the names of a bucket, whose volatilities of all tenors are one factor.
-ghost use Rattle.std.specs.Prelude.{◌≡◌, ◌+◌, ◌*◌, ◌≤◌, Some, IfOk, IsSomeAnd, length, map, option_map};
+ghost use Rattle.std.specs.Prelude.{◌≡◌, ◌+◌, ◌*◌, ◌^◌, ◌≤◌, Some, IfOk, IsSomeAnd, length, map, option_map, sum_by, unsigned_abs};
 ghost use Rattle.simm_rules.specs.Priced.{names_of, priced_params, price_curvature_value};
 ghost use Rattle.simm_params.specs.ClassKinds.{priced_class};
 ghost use Rattle.simm_params.specs.ListedBuckets.{priced_bucket_of, priced_bucket_view};
 ghost use Rattle.simm_params.specs.Weighed.{IsWeighedPriced};
-ghost use Rattle.factor_book.specs.Factors.{IsBook};
+ghost use Rattle.vol_factors.specs.declared.tenor_scale.TenorScale.TheVariants as scale;
+ghost use Rattle.vol_factors.specs.Names.{name_total};
 ghost use Rattle.vol_factors.specs.Places.{name_volatilities};
 ghost use Rattle.vol_factors.specs.Ranges.{IsPricedInRange};
 ghost use Rattle.curvature_margin.specs.Values.{IsSized};
@@ -36,7 +37,6 @@ pub fn priced_bucket<L: Ledger>(
         (λ b. IsSized (λ _. b.sigma) (name_volatilities class at.bucket at.product factors.now) m)) }
     ensures steps { let n = length (names_of (name_volatilities (priced_class at.kind) at.bucket at.product factors.now)) in steps.new ≤ steps.old + n * n }
 {
-    factors.facts();
     let Some(bucket) = params.priced_bucket(at.kind, at.bucket) else {
         unreachable!()
     };
@@ -51,31 +51,38 @@ fn names_value<L: Ledger>(
     at: PricedAt,
     steps: &mut Steps<L>,
 ) -> Result<BucketMargin, AllocError>
-    requires book { IsBook factors.now }
     requires weighed { IsWeighedPriced (priced_bucket_view bucket.now) }
     requires in_range { IsPricedInRange (priced_bucket_view bucket.now) (name_volatilities (priced_class at.kind) at.bucket at.product factors.now) }
     ensures value { IfOk result (λ m. m ≡ price_curvature_value (priced_bucket_view bucket.now) (name_volatilities (priced_class at.kind) at.bucket at.product factors.now)) }
     ensures sizes { IfOk result (IsSized (λ _. (priced_bucket_view bucket.now).sigma) (name_volatilities (priced_class at.kind) at.bucket at.product factors.now)) }
     ensures steps { let n = length (names_of (name_volatilities (priced_class at.kind) at.bucket at.product factors.now)) in steps.new ≤ steps.old + n * n }
 {
-    let terms = bucket.terms;
-    let names = name_sums(alloc, factors, at, TenorScale::Curved)?;
-    let sums = sums_of(alloc, names.as_slice())?;
+    let sums = sums_of(alloc, factors, at)?;
+    let sums = sums.as_slice();
     let rho = EvenRho {
         count: sums.len(),
-        rho: in_millionths(terms.rho),
+        rho: in_millionths(bucket.terms.rho),
     };
     curved_bucket(
         alloc,
-        volatility_in(&terms, bucket.sigma),
-        sums.as_slice(),
+        volatility_in(&bucket.terms, bucket.sigma),
+        sums,
         &rho,
         steps,
     )
 }
 
-// The sums, side by side.
-fn sums_of(alloc: Global, names: &[NameSum]) -> Result<Vec<i128>, AllocError>
+// What the volatilities of each name come to, by how near their tenors are.
+fn sums_of(alloc: Global, factors: &Factors, at: PricedAt) -> Result<Vec<i128>, AllocError>
+    requires { sum_by (λ a. unsigned_abs a.amount) (name_volatilities (priced_class at.kind) at.bucket at.product factors.now) ≤ 2 * 10 ^ 20 }
+    ensures { let amounts = name_volatilities (priced_class at.kind) at.bucket at.product factors.now in
+        IfOk result (λ sums. sums.items ≡ map (name_total scale.Curved amounts) (names_of amounts)) }
+{
+    let names = name_sums(alloc, factors, at, TenorScale::Curved)?;
+    amounts_of(alloc, names.as_slice())
+}
+
+fn amounts_of(alloc: Global, names: &[NameSum]) -> Result<Vec<i128>, AllocError>
     ensures { IfOk result (λ sums. sums.items ≡ map (λ name. name.sum) names.now) }
 {
     names.iter().map(|name| name.sum).collect(alloc)

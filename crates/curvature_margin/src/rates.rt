@@ -33,10 +33,11 @@ pub fn currency_bucket<L: Ledger>(
     params.rate_facts();
     factors.facts();
     let volatilities = volatility_sums(alloc, factors, at, TenorScale::Curved)?;
-    let sums = sums_of(alloc, volatilities.as_slice())?;
+    let volatilities = volatilities.as_slice();
+    let sums = sums_of(alloc, volatilities)?;
     let rho = VolatilityRho {
         params,
-        sums: volatilities.as_slice(),
+        sums: volatilities,
     };
     curved_bucket(alloc, UNIT, sums.as_slice(), &rho, steps)
 }

@@ -2,6 +2,7 @@ use Rattle.std.proofs.Common.{◌≡◌, ◌∙◌, ◌+◌, ◌*◌, ◌≤◌,
 use Rattle.std.specs.Prelude.{sum_by}
 use Rattle.std.specs.Int.{w64}
 use Rattle.std.proofs.lemmas.Int.{ints}
+use Rattle.std.proofs.lemmas.Result.{IfOk-weaker}
 use Rattle.mh_units.proofs.Integers.{same64}
 use Rattle.simm_rules.specs.declared.values.BucketMargin.{BucketMargin}
 use Rattle.simm_rules.specs.Concentration.{one}
@@ -14,41 +15,32 @@ use Rattle.name_delta.specs.Points.{issuer_rho}
 use Rattle.name_delta.proofs.Numbers.{issuer_rho-symmetric, issuer_rho-small}
 use Rattle.vol_factors.specs.Places.{points_of}
 use Rattle.vol_factors.specs.Ranges.{alone}
-use Rattle.vol_factors.proofs.VolatilePoints.{points_ascend, points_grouped}
+use Rattle.vol_factors.proofs.InRange.{amounts_small}
+use Rattle.vol_factors.proofs.VolatilePoints.{points_ascend}
 use Rattle.curvature_margin.specs.Risk.{curved_by, IsCurved}
 use Rattle.curvature_margin.specs.Values.{IsSized}
-use Rattle.curvature_margin.proofs.Risks.{amounts_small, sums_small, sums_few, sums_in_range, sized, if_ok, chosen_within, chosen_size, unit_within}
-use Rattle.curvature_margin.proofs.CreditValues.{groups_count, sums_count, sums_sizes, points_value}
+use Rattle.curvature_margin.proofs.Risks.{sums_small, sums_few, sums_in_range, sized, chosen_within, chosen_size, unit_within}
+use Rattle.curvature_margin.proofs.CreditValues.{points_grouped, groups_count, sums_count, points_summed, points_value}
 use Rattle.curvature_margin.proofs.credit.points_value.Goals as goal
 
 pub point_sums-requires : goal.point_sums-requires
-point_sums-requires g c =
-    let class = credit_class c.args.at.kind in
-    let at = c.args.at.bucket in
-    let product = c.args.at.product in
-    let points = points_of class at product c.args.factors.now in
-    amounts_small points c.requires.in_range
+point_sums-requires g c = omega (arith, amounts_small (points_of (credit_class c.args.at.kind) c.args.at.bucket c.args.at.product c.args.factors.now) c.requires.in_range)
 
 pub invariant_of-rho : goal.invariant_of-rho
 invariant_of-rho g c = record {
-  symmetric = issuer_rho-symmetric c.in_millionths.result.0 c.in_millionths-2.result.0 c.as_slice.result.now;
-  at_most_one = λ i j. issuer_rho-small c.in_millionths.result.0 c.in_millionths-2.result.0 c.as_slice.result.now i j c.in_millionths.ensures.size c.in_millionths-2.ensures.size;
+  symmetric = issuer_rho-symmetric c.in_millionths.result.0 c.in_millionths-2.result.0 c.as_slice-grouped.result.now;
+  at_most_one = λ i j. issuer_rho-small c.in_millionths.result.0 c.in_millionths-2.result.0 c.as_slice-grouped.result.now i j c.in_millionths.ensures.size c.in_millionths-2.ensures.size;
 }
 
 pub curved_bucket-requires-clause-size : goal.curved_bucket-requires-clause-size
 curved_bucket-requires-clause-size g c =
-    let class = credit_class c.args.at.kind in
-    let at = c.args.at.bucket in
-    let product = c.args.at.product in
-    let points = points_of class at product c.args.factors.now in
-    let held = c.in_ok-sums.sums.items in
-    let sums = c.as_slice-2.result.now in
+    let points = points_of (credit_class c.args.at.kind) c.args.at.bucket c.args.at.product c.args.factors.now in
     let b = credit_bucket_view c.args.bucket.now in
+    let ascends = points_ascend (credit_class c.args.at.kind) c.args.at.bucket c.args.at.product c.args.factors.now c.requires.book in
     let threshold = c.args.bucket.now.terms.thresholds.vega in
     let fits : FitsSigned w64 threshold = search rules in
-    let groups = points_grouped threshold _ class at product c.args.factors.now _ c.as_slice.result.now c.in_ok-grouped.grouped.items c.as_slice.ensures.value c.in_ok-grouped.ensures (same64 threshold fits) c.place-place.ensures in
-    let ascends = points_ascend class at product c.args.factors.now c.requires.book in
-    groups_count points held sums c.as_slice-2.ensures.value c.in_ok-sums.ensures b threshold c.requires.weighed.terms.vega c.requires.in_range ascends c.as_slice.result.now groups
+    let groups = points_grouped threshold _ (credit_class c.args.at.kind) c.args.at.bucket c.args.at.product c.args.factors.now _ c.as_slice-grouped.result.now c.in_ok-grouped.grouped.items (same64 threshold fits) c.place-place.ensures c.as_slice-grouped.ensures.value c.in_ok-grouped.ensures in
+    groups_count points c.as_slice-sums.result.now (c.as_slice-sums.ensures.value ∙ c.in_ok-sums.ensures) b c.requires.weighed c.requires.in_range ascends c.as_slice-grouped.result.now groups
 
 pub curved_bucket-requires-clause-sigma : goal.curved_bucket-requires-clause-sigma
 curved_bucket-requires-clause-sigma g c =
@@ -56,97 +48,47 @@ curved_bucket-requires-clause-sigma g c =
 
 pub curved_bucket-requires-clause-few : goal.curved_bucket-requires-clause-few
 curved_bucket-requires-clause-few g c =
-    let class = credit_class c.args.at.kind in
-    let at = c.args.at.bucket in
-    let product = c.args.at.product in
-    let points = points_of class at product c.args.factors.now in
-    let held = c.in_ok-sums.sums.items in
-    let sums = c.as_slice-2.result.now in
-    let b = credit_bucket_view c.args.bucket.now in
-    let s = c.volatility_in.result.0 in
-    let sizes : sum_by (λ x. unsigned_abs x) sums ≤ 10950 * sum_by (λ a. unsigned_abs a.amount) points = sums_sizes points held sums c.as_slice-2.ensures.value c.in_ok-sums.ensures in
-    let count : length sums ≡ length points = sums_count points held sums c.as_slice-2.ensures.value c.in_ok-sums.ensures in
-    let fewer : length sums ≤ length points = omega (arith, count) in
-    let less : unsigned_abs s ≤ 10000 = subst (λ z. unsigned_abs z ≤ 10000) (sym c.volatility_in.ensures) (chosen_size (b.terms).curvature (pos 10000)) in
-    sums_few (pos 10000) (omega (arith, ints)) points c.requires.in_range s less sums sizes fewer
+    let points = points_of (credit_class c.args.at.kind) c.args.at.bucket c.args.at.product c.args.factors.now in
+    let sums = c.as_slice-sums.result.now in
+    sums_few points sums (points_summed points sums (c.as_slice-sums.ensures.value ∙ c.in_ok-sums.ensures)) c.requires.in_range.few
 
 pub curved_bucket-requires-clause-small : goal.curved_bucket-requires-clause-small
 curved_bucket-requires-clause-small g c =
-    let class = credit_class c.args.at.kind in
-    let at = c.args.at.bucket in
-    let product = c.args.at.product in
-    let points = points_of class at product c.args.factors.now in
-    let held = c.in_ok-sums.sums.items in
-    let sums = c.as_slice-2.result.now in
-    let b = credit_bucket_view c.args.bucket.now in
-    let s = c.volatility_in.result.0 in
-    let sizes : sum_by (λ x. unsigned_abs x) sums ≤ 10950 * sum_by (λ a. unsigned_abs a.amount) points = sums_sizes points held sums c.as_slice-2.ensures.value c.in_ok-sums.ensures in
-    let count : length sums ≡ length points = sums_count points held sums c.as_slice-2.ensures.value c.in_ok-sums.ensures in
-    let fewer : length sums ≤ length points = omega (arith, count) in
-    let less : unsigned_abs s ≤ 10000 = subst (λ z. unsigned_abs z ≤ 10000) (sym c.volatility_in.ensures) (chosen_size (b.terms).curvature (pos 10000)) in
-    sums_small sums (sum_by (λ a. unsigned_abs a.amount) points) sizes (amounts_small points c.requires.in_range)
+    let points = points_of (credit_class c.args.at.kind) c.args.at.bucket c.args.at.product c.args.factors.now in
+    let sums = c.as_slice-sums.result.now in
+    sums_small points sums (points_summed points sums (c.as_slice-sums.ensures.value ∙ c.in_ok-sums.ensures)) (omega (arith, amounts_small points c.requires.in_range))
 
 pub curved_bucket-requires-clause-in_range : goal.curved_bucket-requires-clause-in_range
 curved_bucket-requires-clause-in_range g c =
-    let class = credit_class c.args.at.kind in
-    let at = c.args.at.bucket in
-    let product = c.args.at.product in
-    let points = points_of class at product c.args.factors.now in
-    let held = c.in_ok-sums.sums.items in
-    let sums = c.as_slice-2.result.now in
-    let b = credit_bucket_view c.args.bucket.now in
-    let s = c.volatility_in.result.0 in
-    let sizes : sum_by (λ x. unsigned_abs x) sums ≤ 10950 * sum_by (λ a. unsigned_abs a.amount) points = sums_sizes points held sums c.as_slice-2.ensures.value c.in_ok-sums.ensures in
-    let count : length sums ≡ length points = sums_count points held sums c.as_slice-2.ensures.value c.in_ok-sums.ensures in
-    let fewer : length sums ≤ length points = omega (arith, count) in
-    let less : unsigned_abs s ≤ 10000 = subst (λ z. unsigned_abs z ≤ 10000) (sym c.volatility_in.ensures) (chosen_size (b.terms).curvature (pos 10000)) in
-    sums_in_range (pos 10000) (omega (arith, ints)) points c.requires.in_range s less sums sizes fewer
+    let points = points_of (credit_class c.args.at.kind) c.args.at.bucket c.args.at.product c.args.factors.now in
+    let sums = c.as_slice-sums.result.now in
+    let less = subst (λ z. unsigned_abs z ≤ 10000) (sym c.volatility_in.ensures) (chosen_size c.args.bucket.now.terms.curvature (pos 10000)) in
+    sums_in_range (pos 10000) (omega (arith, ints)) points c.requires.in_range c.volatility_in.result.0 less sums (points_summed points sums (c.as_slice-sums.ensures.value ∙ c.in_ok-sums.ensures))
 
 pub returns-clause-value : goal.returns-clause-value
 returns-clause-value g c =
-    let class = credit_class c.args.at.kind in
-    let at = c.args.at.bucket in
-    let product = c.args.at.product in
-    let points = points_of class at product c.args.factors.now in
-    let held = c.in_ok-sums.sums.items in
-    let sums = c.as_slice-2.result.now in
+    let points = points_of (credit_class c.args.at.kind) c.args.at.bucket c.args.at.product c.args.factors.now in
+    let sums = c.as_slice-sums.result.now in
+    let grouped = c.as_slice-grouped.result.now in
     let b = credit_bucket_view c.args.bucket.now in
+    let ascends = points_ascend (credit_class c.args.at.kind) c.args.at.bucket c.args.at.product c.args.factors.now c.requires.book in
     let threshold = c.args.bucket.now.terms.thresholds.vega in
     let fits : FitsSigned w64 threshold = search rules in
-    let groups = points_grouped threshold _ class at product c.args.factors.now _ c.as_slice.result.now c.in_ok-grouped.grouped.items c.as_slice.ensures.value c.in_ok-grouped.ensures (same64 threshold fits) c.place-place.ensures in
-    let ascends = points_ascend class at product c.args.factors.now c.requires.book in
+    let groups = points_grouped threshold _ (credit_class c.args.at.kind) c.args.at.bucket c.args.at.product c.args.factors.now _ c.as_slice-grouped.result.now c.in_ok-grouped.grouped.items (same64 threshold fits) c.place-place.ensures c.as_slice-grouped.ensures.value c.in_ok-grouped.ensures in
     subst (λ v. IfOk c.curved_bucket.result (λ (m : BucketMargin). m ≡ v))
-    (ap (λ z. bucket_value scaling.Squared (map (curved_by z) sums) (issuer_rho c.in_millionths.result.0 c.in_millionths-2.result.0 c.as_slice.result.now) (record { 0 = one })) c.volatility_in.ensures
-    ∙ points_value points held sums c.as_slice-2.ensures.value c.in_ok-sums.ensures b threshold c.requires.weighed.terms.vega c.requires.in_range ascends c.as_slice.result.now groups c.in_millionths.result.0 c.in_millionths-2.result.0 c.in_millionths.ensures.value c.in_millionths-2.ensures.value) c.curved_bucket.ensures.value
+    (ap (λ z. bucket_value scaling.Squared (map (curved_by z) sums) (issuer_rho c.in_millionths.result.0 c.in_millionths-2.result.0 grouped) (record { 0 = one })) c.volatility_in.ensures
+    ∙ points_value points sums (c.as_slice-sums.ensures.value ∙ c.in_ok-sums.ensures) b c.requires.weighed c.requires.in_range ascends grouped groups c.in_millionths.result.0 c.in_millionths-2.result.0 c.in_millionths.ensures.value c.in_millionths-2.ensures.value) c.curved_bucket.ensures.value
 
 pub returns-clause-sizes : goal.returns-clause-sizes
 returns-clause-sizes g c =
-    let class = credit_class c.args.at.kind in
-    let at = c.args.at.bucket in
-    let product = c.args.at.product in
-    let points = points_of class at product c.args.factors.now in
-    let held = c.in_ok-sums.sums.items in
-    let sums = c.as_slice-2.result.now in
-    let b = credit_bucket_view c.args.bucket.now in
+    let points = points_of (credit_class c.args.at.kind) c.args.at.bucket c.args.at.product c.args.factors.now in
+    let sums = c.as_slice-sums.result.now in
     let s = c.volatility_in.result.0 in
-    let sizes : sum_by (λ x. unsigned_abs x) sums ≤ 10950 * sum_by (λ a. unsigned_abs a.amount) points = sums_sizes points held sums c.as_slice-2.ensures.value c.in_ok-sums.ensures in
-    let count : length sums ≡ length points = sums_count points held sums c.as_slice-2.ensures.value c.in_ok-sums.ensures in
-    let fewer : length sums ≤ length points = omega (arith, count) in
-    let less : unsigned_abs s ≤ 10000 = subst (λ z. unsigned_abs z ≤ 10000) (sym c.volatility_in.ensures) (chosen_size (b.terms).curvature (pos 10000)) in
-    if_ok (IsCurved (sum_by (λ x. unsigned_abs x * unsigned_abs s) sums) (length sums)) (IsSized alone points) (sized (pos 10000) (omega (arith, ints)) points c.requires.in_range s less sums sizes fewer) c.curved_bucket.result c.curved_bucket.ensures.sizes
+    let less = subst (λ z. unsigned_abs z ≤ 10000) (sym c.volatility_in.ensures) (chosen_size c.args.bucket.now.terms.curvature (pos 10000)) in
+    IfOk-weaker c.curved_bucket.result (IsCurved (sum_by (λ x. unsigned_abs x * unsigned_abs s) sums) (length sums)) (IsSized alone points)
+    (sized (pos 10000) (omega (arith, ints)) points c.requires.in_range s less sums (points_summed points sums (c.as_slice-sums.ensures.value ∙ c.in_ok-sums.ensures))) c.curved_bucket.ensures.sizes
 
 pub returns-clause-steps : goal.returns-clause-steps
 returns-clause-steps g c =
-    let class = credit_class c.args.at.kind in
-    let at = c.args.at.bucket in
-    let product = c.args.at.product in
-    let points = points_of class at product c.args.factors.now in
-    let held = c.in_ok-sums.sums.items in
-    let sums = c.as_slice-2.result.now in
-    let b = credit_bucket_view c.args.bucket.now in
-    let s = c.volatility_in.result.0 in
-    let sizes : sum_by (λ x. unsigned_abs x) sums ≤ 10950 * sum_by (λ a. unsigned_abs a.amount) points = sums_sizes points held sums c.as_slice-2.ensures.value c.in_ok-sums.ensures in
-    let count : length sums ≡ length points = sums_count points held sums c.as_slice-2.ensures.value c.in_ok-sums.ensures in
-    let fewer : length sums ≤ length points = omega (arith, count) in
-    let less : unsigned_abs s ≤ 10000 = subst (λ z. unsigned_abs z ≤ 10000) (sym c.volatility_in.ensures) (chosen_size (b.terms).curvature (pos 10000)) in
-    subst (λ n. c.curved_bucket.new.steps ≤ c.args.steps.now + n * n) count c.curved_bucket.ensures.steps
+    let points = points_of (credit_class c.args.at.kind) c.args.at.bucket c.args.at.product c.args.factors.now in
+    subst (λ n. c.curved_bucket.new.steps ≤ c.args.steps.now + n * n) (sums_count points c.as_slice-sums.result.now (c.as_slice-sums.ensures.value ∙ c.in_ok-sums.ensures)) c.curved_bucket.ensures.steps
