@@ -25,7 +25,7 @@ use Rattle.class_delta.specs.Buckets.{bucket_at}
 use Rattle.vega_margin.specs.Combine.{volatility_buckets}
 use Rattle.curvature_margin.specs.Combine.{curvature_by_class, margins_size, gross_size, AreParts}
 use Rattle.curvature_margin.specs.Combine.{HasBucket as HasCurved}
-use Rattle.curvature_margin.specs.Curvature.{IsReady}
+use Rattle.vol_factors.specs.Ranges.{IsReady}
 use Rattle.class_vega.proofs.InBook.{own_each, parts_have}
 use Rattle.class_vega.proofs.Listed.{Whole, ids}
 use Rattle.class_curvature.specs.Class.{class_curvature_of, IsValued}

@@ -11,7 +11,7 @@ use Rattle.name_delta.specs.Values.{nets_in}
 use Rattle.name_delta.proofs.Shrinking.{SizesAreNetted}
 use Rattle.class_delta.specs.Buckets.{bucket_at}
 use Rattle.vega_margin.specs.Combine.{volatility_buckets}
-use Rattle.curvature_margin.specs.Curvature.{IsReady}
+use Rattle.vol_factors.specs.Ranges.{IsReady}
 use Rattle.class_vega.proofs.Listed.{Whole}
 use Rattle.class_curvature.specs.Class.{IsValued}
 use Rattle.class_curvature.proofs.Classes.{IsDone, all_ready, done}

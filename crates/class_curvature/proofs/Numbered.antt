@@ -37,8 +37,9 @@ use Rattle.name_delta.proofs.Shrinking.{SizesAreNetted}
 use Rattle.class_delta.proofs.Bounds.{HasClass}
 use Rattle.vega_margin.specs.Combine.{volatility_buckets}
 use Rattle.vol_factors.specs.Places.{points_of, name_volatilities}
-use Rattle.vol_factors.specs.Ranges.{alone, IsPricedInRange}
-use Rattle.curvature_margin.specs.Curvature.{credit_curvature_at, priced_curvature_at, IsCreditReady, IsPricedReady, IsCreditSized, IsPricedSized}
+use Rattle.vol_factors.specs.Buckets.{credit_bucket_at, priced_bucket_at}
+use Rattle.vol_factors.specs.Ranges.{alone, IsPricedInRange, IsReadyIn}
+use Rattle.curvature_margin.specs.Curvature.{curvature_in, IsCurvatureSizedIn}
 use Rattle.curvature_margin.specs.Values.{IsSizedBy, IsSized}
 use Rattle.curvature_margin.proofs.Idle.{credit_kept, priced_kept}
 use Rattle.class_vega.proofs.Bounds.{nets_few, names_sizes, credit_class, priced_class}
@@ -126,15 +127,15 @@ module _ (p : Params) (facts : IsParams p) (held : List CrifRow) (bounded : IsBo
     abbrev pub credit_owned : Whole → Type 0
     credit_owned = IsOwned (λ (b : CreditBucket). (b.terms).id) (λ b. pos 10000) points (credit_params p c).buckets its_credit credit_curvature_value (IsSizedIn (λ b. pos 10000))
 
-    credit_found : (b : Bucket) → lists (listed_credit (credit_params p c)) b ≡ true → IsCreditReady p c (Some b) product fs
+    credit_found : (b : Bucket) → lists (listed_credit (credit_params p c)) b ≡ true → IsReadyIn p (credit_bucket_at c (Some b) product) fs
     credit_found b h = ready (λ (x : CreditBucket). (x.terms).id) (λ x. pos 10000) points (credit_params p c).buckets its_credit b h
 
-    pub credit_ready : (k : BucketId) → IsListed (listed_credit (credit_params p c)) (listed_id k) → IsCreditReady p c (listed_id k) product (factors_of held)
-    credit_ready = at_listed (listed_credit (credit_params p c)) (λ k o. IsCreditReady p c o product fs) credit_found
+    pub credit_ready : (k : BucketId) → IsListed (listed_credit (credit_params p c)) (listed_id k) → IsReadyIn p (credit_bucket_at c (listed_id k) product) (factors_of held)
+    credit_ready = at_listed (listed_credit (credit_params p c)) (λ k o. IsReadyIn p (credit_bucket_at c o product) fs) credit_found
 
-    pub credit_owns : (part : Whole) → IsListed (listed_credit (credit_params p c)) (listed_id part.0) → Some part.1 ≡ credit_curvature_at p c (listed_id part.0) product (factors_of held) → IsCreditSized c (listed_id part.0) product (factors_of held) part.1 → credit_owned part
+    pub credit_owns : (part : Whole) → IsListed (listed_credit (credit_params p c)) (listed_id part.0) → Some part.1 ≡ curvature_in p (credit_bucket_at c (listed_id part.0) product) (factors_of held) → IsCurvatureSizedIn p (credit_bucket_at c (listed_id part.0) product) (factors_of held) part.1 → credit_owned part
     credit_owns part =
-        at_listed (listed_credit (credit_params p c)) (λ k o. Some part.1 ≡ credit_curvature_at p c o product fs → IsCreditSized c o product fs part.1 → credit_owned (k, part.1))
+        at_listed (listed_credit (credit_params p c)) (λ k o. Some part.1 ≡ curvature_in p (credit_bucket_at c o product) fs → IsCurvatureSizedIn p (credit_bucket_at c o product) fs part.1 → credit_owned (k, part.1))
         (λ b h value known. owned (λ (x : CreditBucket). (x.terms).id) (λ x. pos 10000) points (credit_params p c).buckets its_credit credit_curvature_value (IsSizedIn (λ x. pos 10000)) b part.1 h value
         (some_and (λ (x : CreditBucket). IsInRange alone (points b)) (λ x. IsSized alone (points b) part.1) (λ x r. known) _ (credit_found b h)))
         part.0
@@ -165,17 +166,17 @@ module _ (p : Params) (facts : IsParams p) (held : List CrifRow) (bounded : IsBo
     abbrev pub priced_owned : Whole → Type 0
     priced_owned = IsOwned (λ (b : PricedBucket). (b.terms).id) (λ b. b.sigma) names (priced_params p c).buckets its_priced price_curvature_value (IsSizedIn (λ b. b.sigma))
 
-    priced_found : (b : Bucket) → lists (listed_priced (priced_params p c)) b ≡ true → IsPricedReady p c (Some b) product fs
+    priced_found : (b : Bucket) → lists (listed_priced (priced_params p c)) b ≡ true → IsReadyIn p (priced_bucket_at c (Some b) product) fs
     priced_found b h =
         some_and (λ (x : PricedBucket). IsInRange (λ _. x.sigma) (names b)) (λ x. IsPricedInRange x (names b)) (λ x r. record { weighed = r; sizes = names_sizes p facts held bounded amounts product netted c b }) _
         (ready (λ (x : PricedBucket). (x.terms).id) (λ x. x.sigma) names (priced_params p c).buckets its_priced b h)
 
-    pub priced_ready : (k : BucketId) → IsListed (listed_priced (priced_params p c)) (listed_id k) → IsPricedReady p c (listed_id k) product (factors_of held)
-    priced_ready = at_listed (listed_priced (priced_params p c)) (λ k o. IsPricedReady p c o product fs) priced_found
+    pub priced_ready : (k : BucketId) → IsListed (listed_priced (priced_params p c)) (listed_id k) → IsReadyIn p (priced_bucket_at c (listed_id k) product) (factors_of held)
+    priced_ready = at_listed (listed_priced (priced_params p c)) (λ k o. IsReadyIn p (priced_bucket_at c o product) fs) priced_found
 
-    pub priced_owns : (part : Whole) → IsListed (listed_priced (priced_params p c)) (listed_id part.0) → Some part.1 ≡ priced_curvature_at p c (listed_id part.0) product (factors_of held) → IsPricedSized p c (listed_id part.0) product (factors_of held) part.1 → priced_owned part
+    pub priced_owns : (part : Whole) → IsListed (listed_priced (priced_params p c)) (listed_id part.0) → Some part.1 ≡ curvature_in p (priced_bucket_at c (listed_id part.0) product) (factors_of held) → IsCurvatureSizedIn p (priced_bucket_at c (listed_id part.0) product) (factors_of held) part.1 → priced_owned part
     priced_owns part =
-        at_listed (listed_priced (priced_params p c)) (λ k o. Some part.1 ≡ priced_curvature_at p c o product fs → IsPricedSized p c o product fs part.1 → priced_owned (k, part.1))
+        at_listed (listed_priced (priced_params p c)) (λ k o. Some part.1 ≡ curvature_in p (priced_bucket_at c o product) fs → IsCurvatureSizedIn p (priced_bucket_at c o product) fs part.1 → priced_owned (k, part.1))
         (λ b h value known. owned (λ (x : PricedBucket). (x.terms).id) (λ x. x.sigma) names (priced_params p c).buckets its_priced price_curvature_value (IsSizedIn (λ x. x.sigma)) b part.1 h value known)
         part.0
 

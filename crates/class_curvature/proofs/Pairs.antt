@@ -30,12 +30,13 @@ use Rattle.name_delta.specs.Values.{nets_in}
 use Rattle.name_delta.proofs.Shrinking.{SizesAreNetted}
 use Rattle.class_delta.proofs.Bounds.{was_value}
 use Rattle.vega_margin.specs.Combine.{volatility_buckets}
-use Rattle.vega_margin.specs.Pairs.{ArePairsInRange}
+use Rattle.vol_factors.specs.Buckets.{pairs_bucket_at}
 use Rattle.vol_factors.specs.Pairs.{pair_nets_among}
 use Rattle.vol_factors.specs.Places.{pair_volatilities}
+use Rattle.vol_factors.specs.Ranges.{ArePairsInRange, IsReadyIn}
 use Rattle.vol_factors.proofs.PairsTogether.{nets_are}
 use Rattle.curvature_margin.specs.Combine.{over_single}
-use Rattle.curvature_margin.specs.Curvature.{fx_curvature_at, IsFxReady, IsFxSized}
+use Rattle.curvature_margin.specs.Curvature.{curvature_in, IsCurvatureSizedIn}
 use Rattle.curvature_margin.specs.Values.{IsSizedBy}
 use Rattle.curvature_margin.proofs.Idle.{pairs_none}
 use Rattle.class_vega.proofs.Bounds.{pairs_range}
@@ -69,8 +70,8 @@ module _ (p : Params) (facts : IsParams p) (held : List CrifRow) (bounded : IsBo
   range : ArePairsInRange p pairs
   range = pairs_range p facts held bounded amounts product netted
 
-  pub single_ready : (k : BucketId) → k ≡ id.Single → IsFxReady p k product (factors_of held)
-  single_ready k is = subst (λ l. IsFxReady p l product fs) (sym is) (record { weighed = range.weighed; sizes = range.sizes })
+  pub single_ready : (k : BucketId) → k ≡ id.Single → IsReadyIn p (pairs_bucket_at k product) (factors_of held)
+  single_ready k is = subst (λ l. IsReadyIn p (pairs_bucket_at l product) fs) (sym is) range
 
   -- ---- a book without volatilities of pairs
 
@@ -86,10 +87,10 @@ module _ (p : Params) (facts : IsParams p) (held : List CrifRow) (bounded : IsBo
   pair_count part = length pairs
 
   is_value : (part : Whole) → part.0 ≡ id.Single → IsValued p pairs_at fs part → part.1 ≡ fx_curvature_value p pairs
-  is_value part is v = was_value part.1 (fx_curvature_value p pairs) (v.value ∙ ap (λ k. fx_curvature_at p k product fs) is)
+  is_value part is v = was_value part.1 (fx_curvature_value p pairs) (v.value ∙ ap (λ k. curvature_in p (pairs_bucket_at k product) fs) is)
 
   is_sized : (part : Whole) → part.0 ≡ id.Single → IsValued p pairs_at fs part → IsSizedBy (pair_size part) (pair_count part) part.1
-  is_sized part is v = subst (λ k. IsFxSized p k product fs part.1) is v.sized
+  is_sized part is v = subst (λ k. IsCurvatureSizedIn p (pairs_bucket_at k product) fs part.1) is v.sized
 
   abbrev margin_of : BucketId → BucketMargin → ℤ
   margin_of k v = curvature_part p.lambda_base (record { at = k; value = v } ∷ []) v.k

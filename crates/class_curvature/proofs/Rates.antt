@@ -34,10 +34,11 @@ use Rattle.class_delta.specs.Buckets.{bucket_at}
 use Rattle.class_delta.proofs.Bounds.{was_value}
 use Rattle.vega_margin.specs.Combine.{volatility_buckets}
 use Rattle.vega_margin.proofs.RateBuckets.{buckets_are}
-use Rattle.vol_factors.specs.Ranges.{alone}
+use Rattle.vol_factors.specs.Buckets.{currency_bucket_at, count_in}
+use Rattle.vol_factors.specs.Ranges.{alone, IsReady}
 use Rattle.vol_factors.proofs.Currencies.{counts, sizes}
 use Rattle.curvature_margin.specs.Combine.{curvature_by_class, currency_buckets}
-use Rattle.curvature_margin.specs.Curvature.{rate_curvature_at, rate_count, IsReady, IsRateSized}
+use Rattle.curvature_margin.specs.Curvature.{curvature_in, IsCurvatureSizedIn}
 use Rattle.curvature_margin.specs.Values.{IsSizedBy}
 use Rattle.curvature_margin.proofs.Idle.{whole}
 use Rattle.class_vega.proofs.Bounds.{rates_range}
@@ -85,13 +86,13 @@ module _ (p : Params) (facts : IsParams p) (held : List CrifRow) (bounded : IsBo
   rate_size (id.Currency currency) = size_by alone (of currency)
   rate_size id.Single = pos 0
 
-  one_sized : (k : BucketId) (m : BucketMargin) → IsRateSized k product fs m → IsSizedBy (rate_size k) (rate_count k product fs) m
+  one_sized : (k : BucketId) (m : BucketMargin) → IsCurvatureSizedIn p (currency_bucket_at k product) fs m → IsSizedBy (rate_size k) (count_in (currency_bucket_at k product) fs) m
   one_sized (id.Number n) m h = absurd h
   one_sized id.Residual m h = absurd h
   one_sized (id.Currency currency) m h = h
   one_sized id.Single m h = absurd h
 
-  is_currency : (k : BucketId) (m : BucketMargin) → IsRateSized k product fs m → IsCurrency k
+  is_currency : (k : BucketId) (m : BucketMargin) → IsCurvatureSizedIn p (currency_bucket_at k product) fs m → IsCurrency k
   is_currency (id.Number n) m h = absurd h
   is_currency id.Residual m h = absurd h
   is_currency (id.Currency currency) m h = tt
@@ -107,13 +108,13 @@ module _ (p : Params) (facts : IsParams p) (held : List CrifRow) (bounded : IsBo
   size_of part = rate_size part.0
 
   abbrev count_of : Whole → ℕ
-  count_of part = rate_count part.0 product fs
+  count_of part = count_in (currency_bucket_at part.0 product) fs
 
   module _ (parts : List Whole) (are : ids parts ≡ volatility_buckets rates_at fs) (values : AllByRecursion (IsValued p rates_at fs) parts) where
     made : parts ≡ currency_buckets p ss
     made =
         by_currency value_of parts (volatility_currencies ss) (are ∙ buckets_are product fs)
-        (each_weaker (IsValued p rates_at fs) (IsCurrencyPart value_of) (λ part v currency e. was_value part.1 (value_of currency) (v.value ∙ ap (λ k. rate_curvature_at p k product fs) e)) parts values)
+        (each_weaker (IsValued p rates_at fs) (IsCurrencyPart value_of) (λ part v currency e. was_value part.1 (value_of currency) (v.value ∙ ap (λ k. curvature_in p (currency_bucket_at k product) fs) e)) parts values)
 
     pub rates_are : AllByRecursion (λ part. IsCurrency part.0) parts
     rates_are = each_weaker (IsValued p rates_at fs) (λ part. IsCurrency part.0) (λ part v. is_currency part.0 part.1 v.sized) parts values

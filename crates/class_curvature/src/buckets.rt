@@ -3,7 +3,7 @@ ghost use Rattle.std.specs.Prelude.{◌≡◌, map, IfOk};
 ghost use Rattle.std.specs.List.{AllByRecursion};
 ghost use Rattle.class_delta.specs.Buckets.{bucket_at};
 ghost use Rattle.vega_margin.specs.Combine.{volatility_buckets};
-ghost use Rattle.curvature_margin.specs.Curvature.{IsReady};
+ghost use Rattle.vol_factors.specs.Ranges.{IsReady};
 ghost use Rattle.class_curvature.specs.Class.{IsValued};
 
 use class_vega::{bucket_at, volatility_buckets};

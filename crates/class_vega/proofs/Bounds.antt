@@ -29,26 +29,22 @@ use Rattle.factor_book.specs.Places.{factors_at}
 use Rattle.book_range.specs.Bounded.{IsBounded}
 use Rattle.name_delta.specs.Points.{as_issuer}
 use Rattle.name_delta.specs.Values.{nets_in}
-use Rattle.name_delta.proofs.CreditPoints.{issuer_amount}
 use Rattle.name_delta.proofs.Lists.{each_always, each_weaker}
 use Rattle.name_delta.proofs.Shrinking.{SizesAreNetted, nets_shrink}
 use Rattle.class_delta.proofs.Bounds.{HasClass}
 use Rattle.class_delta.proofs.Lists.{filter-length, select-length}
+use Rattle.vol_factors.specs.Credit.{issuer_net}
+use Rattle.vol_factors.specs.Names.{as_name_volatility}
+use Rattle.vol_factors.specs.Places.{currency_place, points_place, names_place, pairs_place, points_of, name_volatilities, pair_volatilities}
+use Rattle.vol_factors.specs.Ranges.{alone, ArePairsInRange}
+use Rattle.vol_factors.specs.Rates.{as_volatility, alone_of}
+use Rattle.vol_factors.proofs.NamesTogether.{nets_are as name_nets_are}
+use Rattle.vol_factors.proofs.PairsTogether.{nets_are as pair_nets_are}
+use Rattle.vol_factors.proofs.RateNets.{nets_are as rate_nets_are}
+use Rattle.vol_factors.proofs.Sigmas.{sigma_low}
+use Rattle.vol_factors.proofs.VolatilePoints.{points_nets}
 use Rattle.vega_margin.specs.Combine.{IsRateClass}
-use Rattle.vega_margin.specs.Credit.{points_place, points_of}
-use Rattle.vega_margin.specs.Pairs.{pairs_place, pair_volatilities, as_pair, ArePairsInRange}
-use Rattle.vega_margin.specs.Priced.{names_place, name_volatilities, as_name}
-use Rattle.vega_margin.specs.Rates.{currency_place, as_volatility}
-use Rattle.vega_margin.specs.Values.{alone}
 use Rattle.vega_margin.proofs.Bounded.{nets_bounded}
-use Rattle.vega_margin.proofs.Categories.{sigma_low}
-use Rattle.vega_margin.proofs.NamesTogether.{by_name}
-use Rattle.vega_margin.proofs.NamesTogether.{nets_are as name_nets_are}
-use Rattle.vega_margin.proofs.PairsTogether.{by_pair}
-use Rattle.vega_margin.proofs.PairsTogether.{nets_are as pair_nets_are}
-use Rattle.vega_margin.proofs.RateNets.{alone_of}
-use Rattle.vega_margin.proofs.RateNets.{nets_are as rate_nets_are}
-use Rattle.vega_margin.proofs.VolatilePoints.{points_nets}
 
 one_low : {A : Type 0} (x : A) → pos 0 ≤ℤ alone x
 one_low x = omega (arith, ints)
@@ -92,8 +88,7 @@ module _ (p : Params) (facts : IsParams p) (held : List CrifRow) (bounded : IsBo
       omega (
         arith,
         ap length (pair_nets_are product fs),
-        length-map (pair_volatilities product fs) by_pair,
-        select-length as_pair (map net_of (factors_at place fs)),
+        select-length as_pair_volatility (map net_of (factors_at place fs)),
         length-map (factors_at place fs) net_of,
         bounded.each place,
       )
@@ -141,7 +136,7 @@ module _ (p : Params) (facts : IsParams p) (held : List CrifRow) (bounded : IsBo
       omega (
         arith,
         ap length (points_nets class b product fs),
-        length-map (points_of class b product fs) issuer_amount,
+        length-map (points_of class b product fs) issuer_net,
         select-length as_issuer (map net_of (factors_at place fs)),
         length-map (factors_at place fs) net_of,
         bounded.each place,
@@ -153,8 +148,7 @@ module _ (p : Params) (facts : IsParams p) (held : List CrifRow) (bounded : IsBo
       omega (
         arith,
         ap length (name_nets_are class b product fs),
-        length-map (name_volatilities class b product fs) by_name,
-        select-length as_name (map net_of (factors_at place fs)),
+        select-length as_name_volatility (map net_of (factors_at place fs)),
         length-map (factors_at place fs) net_of,
         bounded.each place,
       )

@@ -39,11 +39,12 @@ use Rattle.name_delta.proofs.Shrinking.{SizesAreNetted}
 use Rattle.class_delta.specs.Buckets.{bucket_at}
 use Rattle.class_delta.proofs.Bounds.{was_value, HasClass}
 use Rattle.class_delta.proofs.Totals.{alike_margin}
+use Rattle.vol_factors.specs.Buckets.{currency_bucket_at, credit_bucket_at, priced_bucket_at}
+use Rattle.vol_factors.specs.Places.{points_of, name_volatilities}
+use Rattle.vol_factors.specs.Ranges.{alone, IsPricedInRange, IsReadyIn, IsReady}
 use Rattle.vega_margin.specs.Combine.{vega_over, AreParts, currency_buckets, volatility_buckets, IsRateClass}
-use Rattle.vega_margin.specs.Credit.{points_of}
-use Rattle.vega_margin.specs.Priced.{name_volatilities, IsPricedInRange}
-use Rattle.vega_margin.specs.Values.{alone, IsSized}
-use Rattle.vega_margin.specs.Vega.{rate_vega_at, credit_vega_at, priced_vega_at, IsCreditReady, IsPricedReady, IsReady, IsCreditSized, IsPricedSized}
+use Rattle.vega_margin.specs.Values.{IsSized}
+use Rattle.vega_margin.specs.Vega.{vega_in, IsVegaSizedIn}
 use Rattle.vega_margin.proofs.Idle.{credit_kept, priced_kept}
 use Rattle.class_vega.specs.Class.{class_vega_of, HasBuckets, IsValued}
 use Rattle.class_vega.proofs.Bounds.{rates_range, names_sizes, credit_class, priced_class}
@@ -99,7 +100,7 @@ module _ (p : Params) (facts : IsParams p) (laws : AreRateLaws p) (held : List C
   rates_done : (parts : List Whole) → ids parts ≡ volatility_buckets (class_at class.IR) fs → AllByRecursion (IsValued p (class_at class.IR) fs) parts → IsDone p class.IR ss parts
   rates_done parts are values =
       let own : AllByRecursion (IsCurrencyPart value_of) parts = each_weaker (IsValued p (class_at class.IR) fs) (IsCurrencyPart value_of)
-      (λ part v currency e. was_value part.1 (value_of currency) (v.value ∙ ap (λ b. rate_vega_at p b product fs) e)) parts values in
+      (λ part v currency e. was_value part.1 (value_of currency) (v.value ∙ ap (λ b. vega_in p (currency_bucket_at b product) fs) e)) parts values in
       let made : parts ≡ currency_buckets p ss = by_currency value_of parts (volatility_currencies ss) (are ∙ laws.stand product fs) own in
       let its : AreRateParts (currency_buckets p ss) = laws.parts ss (rates_range p facts held bounded amounts product sizes) in
       record {
@@ -120,15 +121,15 @@ module _ (p : Params) (facts : IsParams p) (laws : AreRateLaws p) (held : List C
     abbrev credit_owned : Whole → Type 0
     credit_owned = IsOwned (λ (b : CreditBucket). (b.terms).id) (λ b. pos_one) points (credit_params p c).buckets its_credit credit_vega_value (IsSizedIn (λ b. pos_one))
 
-    credit_found : (b : Bucket) → lists (listed_credit (credit_params p c)) b ≡ true → IsCreditReady p c (Some b) product fs
+    credit_found : (b : Bucket) → lists (listed_credit (credit_params p c)) b ≡ true → IsReadyIn p (credit_bucket_at c (Some b) product) fs
     credit_found b h = ready (λ (x : CreditBucket). (x.terms).id) (λ x. pos_one) points (credit_params p c).buckets its_credit b h
 
-    credit_ready : (k : BucketId) → IsListed (listed_credit (credit_params p c)) (listed_id k) → IsCreditReady p c (listed_id k) product fs
-    credit_ready = at_listed (listed_credit (credit_params p c)) (λ k o. IsCreditReady p c o product fs) credit_found
+    credit_ready : (k : BucketId) → IsListed (listed_credit (credit_params p c)) (listed_id k) → IsReadyIn p (credit_bucket_at c (listed_id k) product) fs
+    credit_ready = at_listed (listed_credit (credit_params p c)) (λ k o. IsReadyIn p (credit_bucket_at c o product) fs) credit_found
 
-    credit_owns : (part : Whole) → IsListed (listed_credit (credit_params p c)) (listed_id part.0) → Some part.1 ≡ credit_vega_at p c (listed_id part.0) product fs → IsCreditSized c (listed_id part.0) product fs part.1 → credit_owned part
+    credit_owns : (part : Whole) → IsListed (listed_credit (credit_params p c)) (listed_id part.0) → Some part.1 ≡ vega_in p (credit_bucket_at c (listed_id part.0) product) fs → IsVegaSizedIn p (credit_bucket_at c (listed_id part.0) product) fs part.1 → credit_owned part
     credit_owns part =
-        at_listed (listed_credit (credit_params p c)) (λ k o. Some part.1 ≡ credit_vega_at p c o product fs → IsCreditSized c o product fs part.1 → credit_owned (k, part.1))
+        at_listed (listed_credit (credit_params p c)) (λ k o. Some part.1 ≡ vega_in p (credit_bucket_at c o product) fs → IsVegaSizedIn p (credit_bucket_at c o product) fs part.1 → credit_owned (k, part.1))
         (λ b h value sized. owned (λ (x : CreditBucket). (x.terms).id) (λ x. pos_one) points (credit_params p c).buckets its_credit credit_vega_value (IsSizedIn (λ x. pos_one)) b part.1 h value
         (some_and (λ (x : CreditBucket). IsInRange alone (points b)) (λ x. IsSized alone (points b) part.1) (λ x r. sized) _ (credit_found b h)))
         part.0
@@ -155,17 +156,17 @@ module _ (p : Params) (facts : IsParams p) (laws : AreRateLaws p) (held : List C
     abbrev priced_owned : Whole → Type 0
     priced_owned = IsOwned (λ (b : PricedBucket). (b.terms).id) (λ b. b.sigma) names (priced_params p c).buckets its_priced name_value (IsSizedIn (λ b. b.sigma))
 
-    priced_found : (b : Bucket) → lists (listed_priced (priced_params p c)) b ≡ true → IsPricedReady p c (Some b) product fs
+    priced_found : (b : Bucket) → lists (listed_priced (priced_params p c)) b ≡ true → IsReadyIn p (priced_bucket_at c (Some b) product) fs
     priced_found b h =
         some_and (λ (x : PricedBucket). IsInRange (λ _. x.sigma) (names b)) (λ x. IsPricedInRange x (names b)) (λ x r. record { weighed = r; sizes = names_sizes p facts held bounded amounts product sizes c b }) _
         (ready (λ (x : PricedBucket). (x.terms).id) (λ x. x.sigma) names (priced_params p c).buckets its_priced b h)
 
-    priced_ready : (k : BucketId) → IsListed (listed_priced (priced_params p c)) (listed_id k) → IsPricedReady p c (listed_id k) product fs
-    priced_ready = at_listed (listed_priced (priced_params p c)) (λ k o. IsPricedReady p c o product fs) priced_found
+    priced_ready : (k : BucketId) → IsListed (listed_priced (priced_params p c)) (listed_id k) → IsReadyIn p (priced_bucket_at c (listed_id k) product) fs
+    priced_ready = at_listed (listed_priced (priced_params p c)) (λ k o. IsReadyIn p (priced_bucket_at c o product) fs) priced_found
 
-    priced_owns : (part : Whole) → IsListed (listed_priced (priced_params p c)) (listed_id part.0) → Some part.1 ≡ priced_vega_at p c (listed_id part.0) product fs → IsPricedSized p c (listed_id part.0) product fs part.1 → priced_owned part
+    priced_owns : (part : Whole) → IsListed (listed_priced (priced_params p c)) (listed_id part.0) → Some part.1 ≡ vega_in p (priced_bucket_at c (listed_id part.0) product) fs → IsVegaSizedIn p (priced_bucket_at c (listed_id part.0) product) fs part.1 → priced_owned part
     priced_owns part =
-        at_listed (listed_priced (priced_params p c)) (λ k o. Some part.1 ≡ priced_vega_at p c o product fs → IsPricedSized p c o product fs part.1 → priced_owned (k, part.1))
+        at_listed (listed_priced (priced_params p c)) (λ k o. Some part.1 ≡ vega_in p (priced_bucket_at c o product) fs → IsVegaSizedIn p (priced_bucket_at c o product) fs part.1 → priced_owned (k, part.1))
         (λ b h value sized. owned (λ (x : PricedBucket). (x.terms).id) (λ x. x.sigma) names (priced_params p c).buckets its_priced name_value (IsSizedIn (λ x. x.sigma)) b part.1 h value sized)
         part.0
 

@@ -34,15 +34,14 @@ use Rattle.factor_book.proofs.Sorting.{any_different, different_ascends}
 use Rattle.ir_delta.proofs.Lists.{filter_agrees}
 use Rattle.name_delta.specs.Combine.{IsNamed, HasBucket}
 use Rattle.name_delta.specs.Points.{issuer_nets}
-use Rattle.name_delta.proofs.CreditPoints.{issuer_amount}
 use Rattle.name_delta.proofs.Lists.{each_weaker, each_both, each_map, each_unmap, each_kept, kept_pass}
 use Rattle.class_delta.proofs.Lists.{filter_twice, different_each}
+use Rattle.vol_factors.specs.Credit.{issuer_net}
+use Rattle.vol_factors.specs.Names.{nets_among}
+use Rattle.vol_factors.specs.Places.{points_place, names_place, points_of, name_volatilities}
+use Rattle.vol_factors.proofs.NamesTogether.{nets_are as name_nets_are}
+use Rattle.vol_factors.proofs.VolatilePoints.{points_nets}
 use Rattle.vega_margin.specs.Combine.{volatility_buckets}
-use Rattle.vega_margin.specs.Credit.{points_place, points_of}
-use Rattle.vega_margin.specs.Priced.{names_place, name_volatilities, name_nets}
-use Rattle.vega_margin.proofs.NamesTogether.{by_name}
-use Rattle.vega_margin.proofs.NamesTogether.{nets_are as name_nets_are}
-use Rattle.vega_margin.proofs.VolatilePoints.{points_nets}
 use Rattle.class_vega.specs.Class.{volatility_side}
 use Rattle.class_vega.proofs.Listed.{Whole, ids, has}
 
@@ -97,10 +96,10 @@ nothing f (x ∷ xs) e = absurd (cc)
 
 module _ (product : ProductClass) (fs : List (FactorKey × Holding)) where
   pub no_points : (c : CreditClass) (b : Bucket) → factors_at (points_place c b product) fs ≡ [] → points_of c b product fs ≡ []
-  no_points c b e = nothing issuer_amount (points_of c b product fs) (sym (points_nets c b product fs) ∙ ap issuer_nets e)
+  no_points c b e = nothing issuer_net (points_of c b product fs) (sym (points_nets c b product fs) ∙ ap issuer_nets e)
 
   pub no_names : (c : PricedClass) (b : Bucket) → factors_at (names_place c b product) fs ≡ [] → name_volatilities c b product fs ≡ []
-  no_names c b e = nothing by_name (name_volatilities c b product fs) (sym (name_nets_are c b product fs) ∙ ap name_nets e)
+  no_names c b e = sym (name_nets_are c b product fs) ∙ ap nets_among e
 
 -- ---- what the parameters admit
 

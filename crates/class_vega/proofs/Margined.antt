@@ -13,9 +13,9 @@ use Rattle.book_range.specs.Bounded.{IsMarginable}
 use Rattle.name_delta.specs.Values.{nets_in}
 use Rattle.name_delta.proofs.Shrinking.{SizesAreNetted}
 use Rattle.class_delta.specs.Buckets.{bucket_at}
+use Rattle.vol_factors.specs.Places.{pair_volatilities}
+use Rattle.vol_factors.specs.Ranges.{ArePairsInRange, IsReady}
 use Rattle.vega_margin.specs.Combine.{volatility_buckets}
-use Rattle.vega_margin.specs.Pairs.{pair_volatilities, ArePairsInRange}
-use Rattle.vega_margin.specs.Vega.{IsReady}
 use Rattle.class_vega.specs.Class.{HasBuckets, IsValued}
 use Rattle.class_vega.proofs.Bounds.{pairs_range}
 use Rattle.class_vega.proofs.Classes.{IsDone, AreRateLaws, all_ready, done}

@@ -2,8 +2,8 @@
 ghost use Rattle.std.specs.Prelude.{◌≡◌, map, IfOk};
 ghost use Rattle.std.specs.List.{AllByRecursion};
 ghost use Rattle.class_delta.specs.Buckets.{bucket_at};
+ghost use Rattle.vol_factors.specs.Ranges.{IsReady};
 ghost use Rattle.vega_margin.specs.Combine.{volatility_buckets};
-ghost use Rattle.vega_margin.specs.Vega.{IsReady};
 ghost use Rattle.class_vega.specs.Class.{volatility_side, IsValued};
 
 use factor_book::{BookSide, BucketAt, ClassAt, Factors, SideAt};
