@@ -1,7 +1,9 @@
 -- The place of a trade among trades, through a change of one of them and a new one behind them, and the newest that stands apart.
-use Rattle.std.proofs.Common.{◌≡◌, ◌≢◌, ◌∷◌, [], ◌++◌, ℕ, suc, zero, ◌<◌, Bool, true, false, cond, inl, inr, List, length, get_or, set, Option, Some, None, option_map, unwrap_or, refl, ap, sym, ◌∙◌, arith}
+use Rattle.std.proofs.Common.{◌≡◌, ◌≢◌, ◌∷◌, [], ◌++◌, ℕ, suc, zero, ◌<◌, ◌==◌, Bool, true, false, cond, inl, inr, List, length, get_or, set, Option, Some, None, option_map, unwrap_or, refl, ap, sym, ◌∙◌, arith}
+use Rattle.std.specs.Bool.{one_answer}
+use Rattle.std.specs.Cmp.Lexicographic.{pointwise, bytes_decides}
+use Rattle.std.specs.Map.{lookup}
 use Rattle.std.specs.Str.{bytes_eq}
-use Rattle.std.specs.BTreeMap.{get}
 use Rattle.std.proofs.lemmas.Map.Text.{is_eq-slice_cmp}
 use Rattle.std.proofs.lemmas.List.{append-nil}
 use Rattle.std.proofs.lemmas.Bool.{cases_Bool}
@@ -9,10 +11,10 @@ use Rattle.std.proofs.lemmas.Slice.Eq.{bytes_eq-Decides}
 use Rattle.std.proofs.lemmas.Bool.Decides.{same_from_decides}
 use Rattle.simm_kinds.specs.declared.row.CrifRow.{CrifRow}
 use Rattle.simm_kinds.specs.declared.row.TradeRows.{TradeRows}
-use Rattle.simm_kinds.specs.Order.{name_cmp, same_name}
+use Rattle.simm_kinds.specs.Order.{same_name}
 use Rattle.crif_reader.specs.declared.gather.Gathering.{Gathering}
 use Rattle.crif_reader.specs.Row.{Entry}
-use Rattle.crif_reader.specs.Growth.{with_entry, place_of, is_newest, newest_of, grown, IsApart, IsIndex}
+use Rattle.crif_reader.specs.Growth.{with_entry, place_of, noted_at, is_newest, newest_of, grown, IsApart, IsIndex}
 
 -- ---- names
 
@@ -171,6 +173,25 @@ pub place_of-new : (name : List ℕ) (ts made : List TradeRows) (trade new : Lis
     → cond (same_name trade name) (Some place) (place_of name ts) ≡ place_of name (made ++ record { trade = new; rows = rows } ∷ [])
 place_of-new name ts made trade new rows place nowhere m t p = rw (m, t, p) (sym (place_of-push name ts (record { trade = trade; rows = rows }) nowhere))
 
+-- ---- the map of places
+
+-- the test of its keys
+key_test : (a b : List ℕ) → pointwise ◌==◌ a b ≡ same_name a b
+key_test a b = one_answer (pointwise ◌==◌ a b) (same_name a b) (bytes_decides a b) (λ h. same_name-equal a b h, λ e. ap (same_name a) (sym e) ∙ same_name-refl a)
+
+-- a look-up in it
+pub found : (name : List ℕ) (places : List (List ℕ × ℕ)) → lookup (pointwise ◌==◌ name) places ≡ noted_at places name
+found name [] = refl
+found name (p ∷ ps) = ap (λ t. cond t (Some p.1) (lookup (pointwise ◌==◌ name) ps)) (key_test name p.0) ∙ ap (cond (same_name name p.0) (Some p.1)) (found name ps)
+
+-- and one more place
+pub found_more : (key trade name : List ℕ) (old new : List (List ℕ × ℕ)) (place : ℕ) → key ≡ trade → lookup (pointwise ◌==◌ name) new ≡ cond (pointwise ◌==◌ key name) (Some place) (lookup (pointwise ◌==◌ name) old)
+    → noted_at new name ≡ cond (same_name trade name) (Some place) (noted_at old name)
+found_more key trade name old new place same updated =
+    sym (found name new) ∙ updated
+    ∙ ap (λ t. cond t (Some place) (lookup (pointwise ◌==◌ name) old)) (key_test key name ∙ ap (λ k. same_name k name) same)
+    ∙ ap (cond (same_name trade name) (Some place)) (found name old)
+
 -- what is looked up in the index
-pub looked_up : (g : Gathering) (name : List ℕ) (place count : ℕ) → IsIndex g → count ≡ length (grown g) → place ≡ unwrap_or (get name_cmp g.places name) count → IsPlaceOrEnd (grown g) name place
+pub looked_up : (g : Gathering) (name : List ℕ) (place count : ℕ) → IsIndex g → count ≡ length (grown g) → place ≡ unwrap_or (noted_at g.places.entries name) count → IsPlaceOrEnd (grown g) name place
 looked_up g name place count index c p = place_or_end (grown g) name place (p ∙ ap (λ o. unwrap_or o count) (index.found name) ∙ ap (unwrap_or (place_of name (grown g))) c)

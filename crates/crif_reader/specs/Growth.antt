@@ -1,9 +1,9 @@
 -- Trades that grow row by row, and an index of their places.
 use Rattle.std.specs.Prelude.{◌≡◌, ℕ, suc, List, [], ◌∷◌, ◌++◌, Bool, false, Option, Some, None, option_map, if◌then◌else◌}
-use Rattle.std.specs.BTreeMap.{get}
+use Rattle.std.specs.Map.{lookup}
 use Rattle.simm_kinds.specs.declared.row.CrifRow.{CrifRow}
 use Rattle.simm_kinds.specs.declared.row.TradeRows.{TradeRows}
-use Rattle.simm_kinds.specs.Order.{name_cmp, same_name}
+use Rattle.simm_kinds.specs.Order.{same_name}
 use Rattle.crif_reader.specs.declared.gather.Gathering.{Gathering}
 use Rattle.crif_reader.specs.Row.{Entry}
 
@@ -38,7 +38,11 @@ abbrev pub IsApart : List TradeRows → Option (List ℕ) → List CrifRow → T
 IsApart trades None rows = rows ≡ []
 IsApart trades (Some newest) rows = place_of newest trades ≡ None
 
+-- the place that is noted under a name
+abbrev pub noted_at : List (List ℕ × ℕ) → List ℕ → Option ℕ
+noted_at places name = lookup (same_name name) places
+
 -- the map has the place of each trade under its name, and no other name
 pub record IsIndex (g : Gathering) : Type 0 where
-  pub found : (name : List ℕ) → get name_cmp g.places name ≡ place_of name (grown g)
+  pub found : (name : List ℕ) → noted_at g.places.entries name ≡ place_of name (grown g)
   pub apart : IsApart g.trades.items g.newest g.rows.items

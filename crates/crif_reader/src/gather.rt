@@ -1,14 +1,13 @@
 //! Rows gathered by trade.
 ghost use Rattle.std.specs.Prelude.{◌≡◌, ◌∷◌, [], ℕ, List, length, unwrap_or, Some, None, IfOk, OnOk, if◌then◌else◌};
-ghost use Rattle.std.specs.BTreeMap.{get};
 ghost use Rattle.simm_kinds.specs.NameText.{IsName};
-ghost use Rattle.simm_kinds.specs.Order.{name_cmp, same_name};
-ghost use Rattle.crif_reader.specs.Growth.{with_entry, grown, is_newest, IsApart, IsIndex};
+ghost use Rattle.simm_kinds.specs.Order.{same_name};
+ghost use Rattle.crif_reader.specs.Growth.{with_entry, noted_at, grown, is_newest, IsApart, IsIndex};
 
 use crate::row::Entry;
+use indexmap::IndexMap;
 use simm_kinds::{CrifRow, Listed, Name, TradeRows};
 use std::alloc::{AllocError, Global};
-use std::collections::BTreeMap;
 use std::mem;
 
 /// A trade's rows are moved to a list of their size where they are at most so many; a longer list is kept as it is.
@@ -21,19 +20,19 @@ pub struct Gathering {
     trades: Vec<TradeRows>,
     newest: Option<Name>,
     rows: Vec<CrifRow>,
-    places: BTreeMap<Name, usize>,
+    places: IndexMap<Name, usize>,
 }
 
 /// The place of the trade with this name; a new one is noted at the end of so many.
 fn place_or_end(
     alloc: Global,
-    places: &mut BTreeMap<Name, usize>,
+    places: &mut IndexMap<Name, usize>,
     trade: &[u8],
     count: usize,
 ) -> Result<usize, AllocError>
     requires { IsName trade.now }
-    ensures place { IfOk result (λ place. place ≡ unwrap_or (get name_cmp places.old trade.now) count) }
-    ensures noted { IfOk result (λ place. (name : List ℕ) → get name_cmp places.new name ≡ (if same_name trade.now name then Some place else get name_cmp places.old name)) }
+    ensures place { IfOk result (λ place. place ≡ unwrap_or (noted_at places.old.entries trade.now) count) }
+    ensures noted { IfOk result (λ place. (name : List ℕ) → noted_at places.new.entries name ≡ (if same_name trade.now name then Some place else noted_at places.old.entries name)) }
 {
     let name = Name::of_bytes(alloc, trade)?;
     Ok(*places.entry(name)?.or_insert(count))
@@ -62,7 +61,7 @@ impl Gathering {
             trades: Vec::new(alloc),
             newest: None,
             rows: Vec::new(alloc),
-            places: BTreeMap::new(alloc),
+            places: IndexMap::new(alloc),
         }
     }
 

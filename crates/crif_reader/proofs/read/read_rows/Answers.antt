@@ -1,4 +1,4 @@
-use Rattle.std.proofs.Common.{◌∙◌, ◌≡◌, ◌≢◌, ◌∷◌, [], length, Some, Ok, sym, ap, arith, rules, vec_len}
+use Rattle.std.proofs.Common.{◌∙◌, ◌≡◌, ◌≢◌, ◌∷◌, [], length, sym, ap, arith, vec_len}
 use Rattle.std.proofs.lemmas.Bool.{eqb-false, eqb-true, not-true, not-false}
 use Rattle.csv.specs.Records.{fields_of}
 use Rattle.crif_reader.specs.declared.fault.CrifFault.TheVariants.{Row}

@@ -1,8 +1,7 @@
 use Rattle.std.proofs.Common.{◌≡◌, ◌≢◌, ◌∷◌, [], ◌++◌, cond, length, true, false, Some, set, refl, ap, sym, ◌∙◌, arith}
-use Rattle.std.specs.BTreeMap.{get}
-use Rattle.simm_kinds.specs.Order.{name_cmp, same_name}
+use Rattle.simm_kinds.specs.Order.{same_name}
 use Rattle.simm_kinds.specs.declared.row.TradeRows.{TradeRows}
-use Rattle.crif_reader.specs.Growth.{grown, newest_of, is_newest, place_of}
+use Rattle.crif_reader.specs.Growth.{noted_at, grown, newest_of, is_newest, place_of}
 use Rattle.crif_reader.specs.Row.{Entry}
 use Rattle.crif_reader.proofs.Places.{with_entry_newest, place_of-newest, apart_more, looked_up, found_elsewhere, found_again, place_of-set, apart-set, grown_new, place_of-new}
 use Rattle.crif_reader.proofs.gather.Gathering.add.Goals as goal
@@ -85,7 +84,7 @@ returns-in_ok-push-2-clause-index c =
     let nowhere = (looked_up g trade place _ c.requires.index c.count-count.ensures c.in_ok-place.ensures.place).nowhere end in
     record {
       found = λ name.
-          ap (λ m. get name_cmp m name) c.in_ok-finish.ensures.places
+          ap (λ m. noted_at m.entries name) c.in_ok-finish.ensures.places
           ∙ c.in_ok-place.ensures.noted name
           ∙ ap (λ o. cond (same_name trade name) (Some place) o) (c.requires.index.found name)
           ∙ place_of-new name (grown g) made trade c.in_ok-of_bytes.field-0 c.push-then-place-count.new.self.items place nowhere c.in_ok-finish.ensures.trades c.in_ok-of_bytes.ensures end;
