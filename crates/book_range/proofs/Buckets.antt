@@ -30,7 +30,7 @@ use Rattle.book_range.proofs.Lists.{each_unmap, each_weaker, filter_agrees, filt
 use Rattle.book_range.proofs.Tests.{IsNone, not_above}
 
 -- a bucket that no item is of has no key
-none_kept : {X : Type 0} (xs : List X) → any_is xs ≡ false → xs ≡ []
+pub none_kept : {X : Type 0} (xs : List X) → any_is xs ≡ false → xs ≡ []
 none_kept [] h = refl
 none_kept (x ∷ xs) h = absurd (false≢true (sym h))
 

@@ -7,7 +7,8 @@ use Rattle.simm_rules.specs.Range.{above}
 use Rattle.factor_book.specs.declared.holding.Holding.{Holding}
 use Rattle.factor_book.specs.Factors.{factors_of, IsWithin}
 use Rattle.factor_book.proofs.Rows.{all_within}
-use Rattle.book_range.specs.Faults.{AreOf, AreSmall}
+use Rattle.book_range.specs.Faults.{AreOf}
+use Rattle.book_range.specs.Gross.{AreSmall}
 use Rattle.book_range.proofs.Lists.{each_weaker}
 use Rattle.book_range.proofs.Tests.{not_above}
 

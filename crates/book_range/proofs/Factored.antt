@@ -1,10 +1,8 @@
 -- The range of a book is that of the factors that it nets to.
-use Rattle.std.proofs.Common.{◌≡◌, ◌^◌, ℕ, List, [], ◌∷◌, ◌++◌, map, length, Bool, true, ◌||◌, cond, Option, Some, None, refl, sym, ap, ◌∙◌, subst, pos}
+use Rattle.std.proofs.Common.{◌≡◌, ◌^◌, ℕ, List, [], ◌∷◌, ◌++◌, map, length, Bool, ◌||◌, Option, Some, None, refl, sym, ap, ◌∙◌, pos}
 use Rattle.std.specs.Ordering.{is_eq}
 use Rattle.std.specs.declared.cmp.Ordering.TheVariants.{Equal}
 use Rattle.std.specs.List.{filter, flat_map, list_any}
-use Rattle.std.specs.List.Sorted.{IsStrictlySortedBy}
-use Rattle.std.specs.Map.{keys_of as entry_keys}
 use Rattle.std.specs.BTreeMap.{is_at}
 use Rattle.std.proofs.lemmas.Cmp.{alike_right}
 use Rattle.std.proofs.lemmas.Simd.{map-map}
@@ -17,7 +15,6 @@ use Rattle.simm_kinds.specs.declared.row.CrifRow.{CrifRow}
 use Rattle.simm_kinds.specs.Factors.{bucket_of}
 use Rattle.simm_kinds.specs.Order.{same_bucket_id, bucket_id_cmp, key_cmp}
 use Rattle.simm_kinds.proofs.Orders.{exact_keys}
-use Rattle.simm_kinds.proofs.Variants.{is_eq-Equal}
 use Rattle.simm_rules.specs.declared.values.RangeFault.{RangeFault}
 use Rattle.simm_rules.specs.declared.values.RangeKind.TheVariants as range_kind
 use Rattle.simm_rules.specs.Params.{Params}
@@ -34,17 +31,20 @@ use Rattle.factor_book.specs.declared.place.BookSide.TheVariants as side
 use Rattle.factor_book.specs.Factors.{factor_of, factors_in, factors_of}
 use Rattle.factor_book.specs.Places.{is_on, place_in, factors_at, buckets_on}
 use Rattle.factor_book.proofs.Netting.{parts}
-use Rattle.factor_book.proofs.Sorting.{any_different, different_ascends, same_entries, keys-graph, lookup-graph}
+use Rattle.factor_book.proofs.Sorting.{any_different, different_ascends, same_items}
 use Rattle.factor_book.proofs.Standing.{exact_ids}
-use Rattle.book_range.specs.declared.class_test.ClassTest.{ClassTest}
-use Rattle.book_range.specs.declared.class_test.ClassTest.TheVariants as test
-use Rattle.book_range.specs.Faults.{either_first, place_fault, keys_fault, side_at, class_fault, product_fault, test_fault, tests_fault}
+use Rattle.book_range.specs.declared.sizes.GrossSizes.{GrossSizes}
+use Rattle.book_range.specs.Gross.{side_at}
+use Rattle.book_range.specs.Sizes.{sizes_in}
+use Rattle.book_range.specs.Faults.{either_first, count_fault, place_fault, keys_fault, size_fault, side_fault, book_fault}
 use Rattle.book_range.proofs.Firsts.{first_some-cons, first_some-append, either_none}
 use Rattle.book_range.proofs.Tests.{row_fault, key_fault, of_buckets, of_delta, of_vega, range_is}
 use Rattle.book_range.proofs.Buckets.{id_total, sided, side_are}
 use Rattle.book_range.proofs.Bounds.{length-factors, factors_there}
 use Rattle.book_range.proofs.Weighed.{delta_is, vega_is}
 use Rattle.book_range.proofs.Grouped.{gross_is}
+use Rattle.book_range.proofs.Crowded.{side_keys, class_keys, keys_by_class}
+use Rattle.book_range.proofs.Sizing.{size_at-sizes_in}
 
 -- ---- the first of several answers
 
@@ -63,28 +63,12 @@ map-agree : {X A : Type 0} (f g : X → A) → ((x : X) → f x ≡ g x) → (xs
 map-agree f g h [] = refl
 map-agree f g h (x ∷ xs) = λ i. h x i ∷ map-agree f g h xs i
 
-one_id : (q b : BucketId) → is_at (bucket_id_cmp q) b ≡ true → q ≡ b
-one_id q b e = exact_ids q b (is_eq-Equal (bucket_id_cmp q b) e)
-
 tied_id : (q k l : BucketId) → bucket_id_cmp k l ≡ Equal → is_at (bucket_id_cmp q) k ≡ is_at (bucket_id_cmp q) l
 tied_id q k l e = ap is_eq (alike_right id_total k l q e)
 
-abbrev graph : List BucketId → List (BucketId × Bool)
-graph bs = map (λ b. (b, true)) bs
-
--- ids in order are known by which there are
-same_ids : (xs ys : List BucketId) → IsStrictlySortedBy bucket_id_cmp xs → IsStrictlySortedBy bucket_id_cmp ys → ((q : BucketId) → list_any (is_at (bucket_id_cmp q)) xs ≡ list_any (is_at (bucket_id_cmp q)) ys) → xs ≡ ys
-same_ids xs ys s t h =
-    sym (keys-graph (λ b. true) xs) ∙ ap entry_keys graphs ∙ keys-graph (λ b. true) ys
-  where
-    graphs : graph xs ≡ graph ys
-    graphs =
-        same_entries id_total exact_ids (graph xs) (graph ys) (subst (IsStrictlySortedBy bucket_id_cmp) (sym (keys-graph (λ b. true) xs)) s) (subst (IsStrictlySortedBy bucket_id_cmp) (sym (keys-graph (λ b. true) ys)) t)
-        (λ q. lookup-graph (λ b. true) (is_at (bucket_id_cmp q)) q (one_id q) xs ∙ ap (λ b. cond b (Some true) None) (h q) ∙ sym (lookup-graph (λ b. true) (is_at (bucket_id_cmp q)) q (one_id q) ys))
-
 different-keys : (g : FactorKey → BucketId) (ks : List FactorKey) → different bucket_id_cmp (map g (different key_cmp ks)) ≡ different bucket_id_cmp (map g ks)
 different-keys g ks =
-    same_ids (different bucket_id_cmp (map g (different key_cmp ks))) (different bucket_id_cmp (map g ks)) (different_ascends bucket_id_cmp id_total (map g (different key_cmp ks))) (different_ascends bucket_id_cmp id_total (map g ks))
+    same_items id_total exact_ids (different bucket_id_cmp (map g (different key_cmp ks))) (different bucket_id_cmp (map g ks)) (different_ascends bucket_id_cmp id_total (map g (different key_cmp ks))) (different_ascends bucket_id_cmp id_total (map g ks))
     (λ q.
     any_different bucket_id_cmp (is_at (bucket_id_cmp q)) (tied_id q) (map g (different key_cmp ks)) ∙ any-map (is_at (bucket_id_cmp q)) g (different key_cmp ks)
     ∙ any_different key_cmp (λ k. is_at (bucket_id_cmp q) (g k)) (λ k l e. ap (λ x. is_at (bucket_id_cmp q) (g x)) (exact_keys k l e)) ks
@@ -110,7 +94,7 @@ module _ (product : ProductClass) (c : RiskClass) (b : BookSide) (ss : List Sens
       ∙ ap (different bucket_id_cmp) (map-map key_bucket (λ (s : Sensitivity). s.key) T)
       ∙ ap (λ xs. different bucket_id_cmp (map (λ (s : Sensitivity). bucket_of s.key.factor) xs)) (side_are product c b ss)
 
-  pub keys_are : keys_fault (factors_in ss) at ≡ first_some (bucket_keys own)
+  keys_are : side_keys (factors_in ss) at ≡ first_some (bucket_keys own)
   keys_are =
       ap first_some
       (map-map place_fault (λ q. (place_in at q, factors_at (place_in at q) (factors_in ss))) (buckets_on at (factors_in ss))
@@ -124,7 +108,7 @@ module _ (p : Params) (facts : IsParams p) (ss : List Sensitivity) where
   abbrev fs : List (FactorKey × Holding)
   fs = factors_in ss
 
-  buckets_fault : (product : ProductClass) (c : RiskClass) → first_some (of_buckets (in_product product ss) c) ≡ class_fault test.BucketKeys p fs product c
+  buckets_fault : (product : ProductClass) (c : RiskClass) → first_some (of_buckets (in_product product ss) c) ≡ class_keys fs product c
   buckets_fault product c =
       let delta = bucket_keys (on_side c Delta_side (in_product product ss)) in
       let volatility = bucket_keys (on_side c Volatility_side (in_product product ss)) in
@@ -132,51 +116,56 @@ module _ (p : Params) (facts : IsParams p) (ss : List Sensitivity) where
       ∙ ap (either_first (first_some delta)) (first_some-append volatility [] ∙ either_none (first_some volatility))
       ∙ sym (λ i. either_first (keys_are product c side.Delta ss i) (keys_are product c side.Volatility ss i))
 
-  delta_fault : (product : ProductClass) (c : RiskClass) → first_some (of_delta p (in_product product ss) c) ≡ class_fault test.DeltaGross p fs product c
+  delta_fault : (product : ProductClass) (c : RiskClass) → first_some (of_delta p (in_product product ss) c) ≡ size_fault (sizes_in p fs) (side_at product c side.Delta)
   delta_fault product c =
       first_some-cons (above range_kind.DeltaGross (up (delta_size p (in_product product ss) c) (pos 10000)) (pos (10 ^ 13))) []
       ∙ either_none (above range_kind.DeltaGross (up (delta_size p (in_product product ss) c) (pos 10000)) (pos (10 ^ 13)))
-      ∙ ap (λ z. above range_kind.DeltaGross (up z (pos 10000)) (pos (10 ^ 13))) (delta_is p facts c (in_product product ss) ∙ sym (gross_is p facts product c side.Delta ss))
+      ∙ ap (λ z. above range_kind.DeltaGross (up z (pos 10000)) (pos (10 ^ 13)))
+      (delta_is p facts c (in_product product ss) ∙ sym (gross_is p facts product c side.Delta ss) ∙ sym (size_at-sizes_in p fs (side_at product c side.Delta)))
 
-  vega_fault : (product : ProductClass) (c : RiskClass) → first_some (of_vega p (in_product product ss) c) ≡ class_fault test.VegaGross p fs product c
+  vega_fault : (product : ProductClass) (c : RiskClass) → first_some (of_vega p (in_product product ss) c) ≡ size_fault (sizes_in p fs) (side_at product c side.Volatility)
   vega_fault product c =
       first_some-cons (above range_kind.VegaGross (up (vega_size p (in_product product ss) c) (pos 10000)) (pos (10 ^ 13))) []
       ∙ either_none (above range_kind.VegaGross (up (vega_size p (in_product product ss) c) (pos 10000)) (pos (10 ^ 13)))
-      ∙ ap (λ z. above range_kind.VegaGross (up z (pos 10000)) (pos (10 ^ 13))) (vega_is p facts c (in_product product ss) ∙ sym (gross_is p facts product c side.Volatility ss))
+      ∙ ap (λ z. above range_kind.VegaGross (up z (pos 10000)) (pos (10 ^ 13)))
+      (vega_is p facts c (in_product product ss) ∙ sym (gross_is p facts product c side.Volatility ss) ∙ sym (size_at-sizes_in p fs (side_at product c side.Volatility)))
 
   -- of all classes
-  all_classes : (f : List Sensitivity → RiskClass → List (Option RangeFault)) (t : ClassTest) → ((product : ProductClass) (c : RiskClass) → first_some (f (in_product product ss) c) ≡ class_fault t p fs product c)
-      → first_some (each_class ss f) ≡ test_fault p fs t
-  all_classes f t h =
-      first_some-flat_map (λ product. flat_map (f (in_product product ss)) classes) (product_fault t p fs)
-      (λ product. first_some-flat_map (f (in_product product ss)) (class_fault t p fs product) (h product) classes) products
+  all_classes : (f : List Sensitivity → RiskClass → List (Option RangeFault)) (g : ProductClass → RiskClass → Option RangeFault) → ((product : ProductClass) (c : RiskClass) → first_some (f (in_product product ss) c) ≡ g product c)
+      → first_some (each_class ss f) ≡ first_some (map (λ product. first_some (map (g product) classes)) products)
+  all_classes f g h =
+      first_some-flat_map (λ product. flat_map (f (in_product product ss)) classes) (λ product. first_some (map (g product) classes))
+      (λ product. first_some-flat_map (f (in_product product ss)) (g product) (h product) classes) products
+
+  buckets_are_first : first_some (each_class ss of_buckets) ≡ keys_fault fs
+  buckets_are_first = all_classes of_buckets (class_keys fs) buckets_fault ∙ keys_by_class fs
+
+  deltas_first : first_some (each_class ss (of_delta p)) ≡ side_fault (sizes_in p fs) side.Delta
+  deltas_first = all_classes (of_delta p) (λ product c. size_fault (sizes_in p fs) (side_at product c side.Delta)) delta_fault
+
+  vegas_first : first_some (each_class ss (of_vega p)) ≡ side_fault (sizes_in p fs) side.Volatility
+  vegas_first = all_classes (of_vega p) (λ product c. size_fault (sizes_in p fs) (side_at product c side.Volatility)) vega_fault
 
 either_assoc : {A : Type 0} (a b c : Option A) → either_first (either_first a b) c ≡ either_first a (either_first b c)
 either_assoc None b c = refl
 either_assoc (Some x) b c = refl
 
-in_order : {A : Type 0} (a b : Option A) (xs ys zs : List (Option A)) → first_some (a ∷ b ∷ xs ++ ys ++ zs) ≡ either_first a (either_first b (either_first (first_some xs) (either_first (first_some ys) (first_some zs))))
+in_order : {A : Type 0} (a b : Option A) (xs ys zs : List (Option A)) → first_some (a ∷ b ∷ xs ++ ys ++ zs) ≡ either_first (either_first a b) (either_first (first_some xs) (either_first (first_some ys) (first_some zs)))
 in_order a b xs ys zs =
     first_some-cons a (b ∷ (xs ++ ys) ++ zs)
     ∙ ap (either_first a) (first_some-cons b ((xs ++ ys) ++ zs)
     ∙ ap (either_first b) (first_some-append (xs ++ ys) zs ∙ ap (λ o. either_first o (first_some zs)) (first_some-append xs ys) ∙ either_assoc (first_some xs) (first_some ys) (first_some zs)))
+    ∙ sym (either_assoc a b (either_first (first_some xs) (either_first (first_some ys) (first_some zs))))
 
-in_three : {A : Type 0} (a b c : Option A) → first_some (a ∷ b ∷ c ∷ []) ≡ either_first a (either_first b c)
-in_three a b c = first_some-cons a (b ∷ c ∷ []) ∙ ap (either_first a) (first_some-cons b (c ∷ []) ∙ ap (either_first b) (first_some-cons c [] ∙ either_none c))
-
-pub range_factors : (p : Params) (facts : IsParams p) (rows : List CrifRow)
-    → range p rows ≡ either_first (row_fault rows) (either_first (above range_kind.KeyCount (pos (length (factors_of rows))) (pos 20000)) (tests_fault p (factors_of rows)))
+pub range_factors : (p : Params) (facts : IsParams p) (rows : List CrifRow) → range p rows ≡ book_fault (length rows) (factors_of rows) (sizes_in p (factors_of rows))
 range_factors p facts rows =
     let S = sensitivities rows in
     range_is p rows
     ∙ in_order (row_fault rows) (key_fault S) (each_class S of_buckets) (each_class S (of_delta p)) (each_class S (of_vega p))
-    ∙ ap (λ n. either_first (row_fault rows) (either_first (above range_kind.KeyCount (pos n) (pos 20000)) (either_first (first_some (each_class S of_buckets)) (either_first (first_some (each_class S (of_delta p))) (first_some (each_class S (of_vega p))))))) (sym (length-factors S))
-    ∙ ap (λ o. either_first (row_fault rows) (either_first (above range_kind.KeyCount (pos (length (factors_of rows))) (pos 20000)) o))
-    ((λ i. either_first (all_classes p facts S of_buckets test.BucketKeys (buckets_fault p facts S) i) (either_first (all_classes p facts S (of_delta p) test.DeltaGross (delta_fault p facts S) i) (all_classes p facts S (of_vega p) test.VegaGross (vega_fault p facts S) i)))
-    ∙ sym (in_three (test_fault p (factors_of rows) test.BucketKeys) (test_fault p (factors_of rows) test.DeltaGross) (test_fault p (factors_of rows) test.VegaGross)))
+    ∙ ap (λ n. either_first (count_fault (length rows) n) (either_first (first_some (each_class S of_buckets)) (either_first (first_some (each_class S (of_delta p))) (first_some (each_class S (of_vega p)))))) (sym (length-factors S))
+    ∙ (λ i. either_first (count_fault (length rows) (length (factors_of rows))) (either_first (buckets_are_first p facts S i) (either_first (deltas_first p facts S i) (vegas_first p facts S i))))
 
--- the range of rows that have these factors
-pub range_whole : (p : Params) (facts : IsParams p) (factors : List (FactorKey × Holding)) (count : ℕ) (rows : List CrifRow) → factors ≡ factors_of rows → count ≡ length rows
-    → either_first (above range_kind.RowCount (pos count) (pos 200000)) (either_first (above range_kind.KeyCount (pos (length factors)) (pos 20000)) (tests_fault p factors)) ≡ range p rows
-range_whole p facts factors count rows e f =
-    (λ i. either_first (above range_kind.RowCount (pos (f i)) (pos 200000)) (either_first (above range_kind.KeyCount (pos (length (e i))) (pos 20000)) (tests_fault p (e i)))) ∙ sym (range_factors p facts rows)
+-- the range of rows that have these factors and sizes
+pub range_whole : (p : Params) (facts : IsParams p) (factors : List (FactorKey × Holding)) (count : ℕ) (sizes : GrossSizes) (rows : List CrifRow) → factors ≡ factors_of rows → count ≡ length rows → sizes ≡ sizes_in p (factors_of rows)
+    → book_fault count factors sizes ≡ range p rows
+range_whole p facts factors count sizes rows e f g = (λ i. book_fault (f i) (e i) (g i)) ∙ sym (range_factors p facts rows)

@@ -30,6 +30,11 @@ pub either_chosen : {A : Type 0} (a b : Option A) → is_some a ≡ true → eit
 either_chosen None b h = absurd (cc)
 either_chosen (Some x) b h = refl
 
+-- neither has one
+pub neither : {A : Type 0} (a b : Option A) → either_first a b ≡ None → (a ≡ None) × (b ≡ None)
+neither None b h = (refl, h)
+neither (Some x) b h = absurd (cc)
+
 -- ---- over a list
 
 module _ {X A : Type 0} (f : X → Option A) where

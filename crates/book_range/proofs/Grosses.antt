@@ -21,7 +21,7 @@ use Rattle.factor_book.proofs.Standing.{one_place, at_place}
 use Rattle.book_range.specs.Weighing.{weight_at}
 use Rattle.book_range.proofs.Placed.{weight_there}
 use Rattle.book_range.specs.Weights.{factor_weight}
-use Rattle.book_range.specs.Faults.{AreSmall, place_size, side_size}
+use Rattle.book_range.specs.Gross.{AreSmall, place_size, side_size}
 use Rattle.book_range.proofs.Lists.{each_always, each_map}
 
 -- a product, as it is computed

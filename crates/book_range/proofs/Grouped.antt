@@ -30,7 +30,8 @@ use Rattle.factor_book.proofs.Netting.{sizes}
 use Rattle.factor_book.proofs.Sorting.{any_different, different_ascends}
 use Rattle.factor_book.proofs.Sums.{total_by-map, total_by-agree, total_by-add, total_by-kept}
 use Rattle.book_range.specs.Weights.{factor_weight}
-use Rattle.book_range.specs.Faults.{side_size, side_at}
+use Rattle.book_range.specs.Gross.{side_size, side_at}
+use Rattle.book_range.specs.Sizes.{sensitivity_size}
 use Rattle.book_range.proofs.Lists.{each_weaker, filter_agrees, filter_twice}
 use Rattle.book_range.proofs.Buckets.{id_total}
 use Rattle.book_range.proofs.Weighed.{sized, total_zero, weight_on}
@@ -115,10 +116,7 @@ module _ (at : SideAt) (fs : List (FactorKey × Holding)) where
       ∙ total_by-agree (λ b. total_by v (factors_at (place_in at b) fs)) (λ b. total_by v (filter (λ f. same_bucket_id (bucket_of f.0.factor) b) on)) (λ b. ap (total_by v) (place_is b)) (buckets_on at fs)
       ∙ all_groups v (λ f. bucket_of f.0.factor) on
 
-module _ (p : Params) (facts : IsParams p) (product : ProductClass) (c : RiskClass) (b : BookSide) (ss : List Sensitivity) where
-  abbrev at : SideAt
-  at = side_at product c b
-
+module _ (p : Params) (at : SideAt) (ss : List Sensitivity) where
   abbrev weight : FactorKey → ℤ
   weight k = cond (is_on at k) (factor_weight p k.factor) (pos 0)
 
@@ -126,17 +124,23 @@ module _ (p : Params) (facts : IsParams p) (product : ProductClass) (c : RiskCla
   cond_times true z w = refl
   cond_times false z w = omega (arith, ints)
 
-  cond_both : (s t : Bool) (z w : ℤ) → cond s (z *ℤ cond t w (pos 0)) (pos 0) ≡ z *ℤ cond (s && t) w (pos 0)
-  cond_both true t z w = refl
-  cond_both false t z w = omega (arith, ints)
-
-  -- the size of a side by its factors is that of the amounts of its class
-  pub gross_is : side_size p (factors_in ss) at ≡ total_by (sized (weight_on p facts c b)) (in_product product ss)
-  gross_is =
+  -- the size of a side by its factors is that of the amounts on it
+  pub side_rows : side_size p (factors_in ss) at ≡ total_by (sensitivity_size p at) ss
+  side_rows =
       side_total at (factors_in ss) (λ f. (f.1).size *ℤ factor_weight p f.0.factor)
       ∙ kept_total (λ (f : FactorKey × Holding). (f.1).size *ℤ factor_weight p f.0.factor) (λ f. is_on at f.0) (factors_in ss)
       ∙ total_by-agree (λ (f : FactorKey × Holding). cond (is_on at f.0) ((f.1).size *ℤ factor_weight p f.0.factor) (pos 0)) (λ f. (f.1).size *ℤ weight f.0) (λ f. cond_times (is_on at f.0) (f.1).size (factor_weight p f.0.factor)) (factors_in ss)
       ∙ sizes weight ss
+
+module _ (p : Params) (facts : IsParams p) (product : ProductClass) (c : RiskClass) (b : BookSide) (ss : List Sensitivity) where
+  cond_both : (s t : Bool) (z w : ℤ) → cond s (z *ℤ cond t w (pos 0)) (pos 0) ≡ z *ℤ cond (s && t) w (pos 0)
+  cond_both true t z w = refl
+  cond_both false t z w = omega (arith, ints)
+
+  -- and that of the amounts of its class
+  pub gross_is : side_size p (factors_in ss) (side_at product c b) ≡ total_by (sized (weight_on p facts c b)) (in_product product ss)
+  gross_is =
+      side_rows p (side_at product c b) ss
       ∙ sym (kept_total (sized (weight_on p facts c b)) (λ s. same_product s.key.product product) ss
-      ∙ total_by-agree (λ s. cond (same_product s.key.product product) (sized (weight_on p facts c b) s) (pos 0)) (λ s. size_in s *ℤ weight s.key)
+      ∙ total_by-agree (λ s. cond (same_product s.key.product product) (sized (weight_on p facts c b) s) (pos 0)) (sensitivity_size p (side_at product c b))
       (λ s. cond_both (same_product s.key.product product) (same_class (class_of s.key.factor) c && same_side (book_side (side_of s.key.factor)) b) (size_in s) (factor_weight p s.key.factor)) ss)

@@ -13,3 +13,5 @@ pub mod Placed
 pub mod Grosses
 pub mod Counted
 pub mod Pairs
+pub mod Sizing
+pub mod Crowded

@@ -1,16 +1,15 @@
--- The tests of the range of a book, by the factors that it nets to.
-use Rattle.std.specs.Prelude.{ℕ, ◌≡◌, ◌^◌, List, [], ◌∷◌, map, length, true, Option, Some, None, ℤ, pos, ◌*ℤ◌}
-use Rattle.std.specs.List.{list_all, AllByRecursion}
+-- The tests of the range of a book, by the number of its rows, the factors that it nets to and its gross sizes.
+use Rattle.std.specs.Prelude.{ℕ, ◌≡◌, ◌^◌, List, map, length, true, Option, Some, None, pos}
+use Rattle.std.specs.List.{list_all}
 use Rattle.mh_units.specs.Rounding.{up}
 use Rattle.simm_kinds.specs.declared.kinds.ProductClass.{ProductClass}
-use Rattle.simm_kinds.specs.declared.kinds.RiskClass.{RiskClass}
 use Rattle.simm_kinds.specs.declared.key.FactorKey.{FactorKey}
 use Rattle.simm_kinds.specs.declared.row.CrifRow.{CrifRow}
 use Rattle.simm_kinds.specs.Batch.{is_in_range}
 use Rattle.simm_rules.specs.declared.values.RangeFault.{RangeFault}
+use Rattle.simm_rules.specs.declared.values.RangeKind.{RangeKind}
 use Rattle.simm_rules.specs.declared.values.RangeKind.TheVariants as range_kind
-use Rattle.simm_rules.specs.Params.{Params}
-use Rattle.simm_rules.specs.Sums.{total_by, first_some}
+use Rattle.simm_rules.specs.Sums.{first_some}
 use Rattle.simm_rules.specs.Simm.{products, classes}
 use Rattle.simm_rules.specs.Range.{above}
 use Rattle.factor_book.specs.declared.at.SideAt.{SideAt}
@@ -18,11 +17,11 @@ use Rattle.factor_book.specs.declared.holding.Holding.{Holding}
 use Rattle.factor_book.specs.declared.place.BookSide.{BookSide}
 use Rattle.factor_book.specs.declared.place.BookSide.TheVariants as side
 use Rattle.factor_book.specs.declared.place.Place.{Place}
-use Rattle.factor_book.specs.Factors.{factors_of, IsWithin}
-use Rattle.factor_book.specs.Places.{by_bucket}
-use Rattle.book_range.specs.declared.class_test.ClassTest.{ClassTest}
-use Rattle.book_range.specs.declared.class_test.ClassTest.TheVariants as test
-use Rattle.book_range.specs.Weights.{factor_weight}
+use Rattle.factor_book.specs.Factors.{factors_of}
+use Rattle.factor_book.specs.Places.{by_place}
+use Rattle.book_range.specs.declared.sizes.GrossSizes.{GrossSizes}
+use Rattle.book_range.specs.Gross.{side_at}
+use Rattle.book_range.specs.Sizes.{size_at}
 
 -- the first answer, or else the second
 abbrev pub either_first : {A : Type 0} → Option A → Option A → Option A
@@ -36,46 +35,39 @@ pub record AreOf (rows : ℕ) (factors : List (FactorKey × Holding)) : Type 0 w
   pub count : rows ≡ length held
   pub amounts : list_all is_in_range held ≡ true
 
--- as small as what 200,000 rows of a batch come to
-abbrev pub AreSmall : List (FactorKey × Holding) → Type 0
-AreSmall factors = AllByRecursion (λ f. IsWithin 200000 f.1) factors
+-- so many rows, and so many keys
+abbrev pub count_fault : ℕ → ℕ → Option RangeFault
+count_fault rows keys = either_first (above range_kind.RowCount (pos rows) (pos 200000)) (above range_kind.KeyCount (pos keys) (pos 20000))
 
-abbrev pub side_at : ProductClass → RiskClass → BookSide → SideAt
-side_at product class side = record { product = product; class = class; side = side }
+-- so many keys of a bucket
+abbrev pub bucket_fault : ℕ → Option RangeFault
+bucket_fault keys = above range_kind.BucketKeys (pos keys) (pos 2000)
 
--- the keys of a place
 abbrev pub place_fault : Place × List (FactorKey × Holding) → Option RangeFault
-place_fault e = above range_kind.BucketKeys (pos (length e.1)) (pos 2000)
+place_fault e = bucket_fault (length e.1)
 
--- those of each bucket of a side, in order
-abbrev pub keys_fault : List (FactorKey × Holding) → SideAt → Option RangeFault
-keys_fault factors at = first_some (map place_fault (by_bucket at factors))
+-- the keys of each bucket, in the order of places
+abbrev pub keys_fault : List (FactorKey × Holding) → Option RangeFault
+keys_fault factors = first_some (map place_fault (by_place factors))
 
--- sizes times weights, in ten-thousandths of a cent
-abbrev pub place_size : Params → List (FactorKey × Holding) → ℤ
-place_size p factors = total_by (λ f. (f.1).size *ℤ factor_weight p f.0.factor) factors
+abbrev pub gross_kind : BookSide → RangeKind
+gross_kind side.Delta = range_kind.DeltaGross
+gross_kind side.Volatility = range_kind.VegaGross
 
-abbrev pub side_size : Params → List (FactorKey × Holding) → SideAt → ℤ
-side_size p factors at = total_by (λ e. place_size p e.1) (by_bucket at factors)
+-- the size of a side of a class, in cents, upwards
+abbrev pub size_fault : GrossSizes → SideAt → Option RangeFault
+size_fault sizes at = above (gross_kind at.side) (up (size_at sizes at) (pos 10000)) (pos (10 ^ 13))
 
--- one test of one class
-abbrev pub class_fault : ClassTest → Params → List (FactorKey × Holding) → ProductClass → RiskClass → Option RangeFault
-class_fault test.BucketKeys p factors product class =
-    either_first (keys_fault factors (side_at product class side.Delta)) (keys_fault factors (side_at product class side.Volatility))
-class_fault test.DeltaGross p factors product class =
-    above range_kind.DeltaGross (up (side_size p factors (side_at product class side.Delta)) (pos 10000)) (pos (10 ^ 13))
-class_fault test.VegaGross p factors product class =
-    above range_kind.VegaGross (up (side_size p factors (side_at product class side.Volatility)) (pos 10000)) (pos (10 ^ 13))
+abbrev pub product_fault : GrossSizes → BookSide → ProductClass → Option RangeFault
+product_fault sizes side product = first_some (map (λ class. size_fault sizes (side_at product class side)) classes)
 
-abbrev pub product_fault : ClassTest → Params → List (FactorKey × Holding) → ProductClass → Option RangeFault
-product_fault test p factors product = first_some (map (class_fault test p factors product) classes)
+-- of all classes
+abbrev pub side_fault : GrossSizes → BookSide → Option RangeFault
+side_fault sizes side = first_some (map (product_fault sizes side) products)
 
-abbrev pub test_fault : Params → List (FactorKey × Holding) → ClassTest → Option RangeFault
-test_fault p factors test = first_some (map (product_fault test p factors) products)
+abbrev pub gross_fault : GrossSizes → Option RangeFault
+gross_fault sizes = either_first (side_fault sizes side.Delta) (side_fault sizes side.Volatility)
 
-abbrev pub tests : List ClassTest
-tests = test.BucketKeys ∷ test.DeltaGross ∷ test.VegaGross ∷ []
-
--- each test of all classes, in order
-abbrev pub tests_fault : Params → List (FactorKey × Holding) → Option RangeFault
-tests_fault p factors = first_some (map (test_fault p factors) tests)
+-- all tests, in order
+abbrev pub book_fault : ℕ → List (FactorKey × Holding) → GrossSizes → Option RangeFault
+book_fault rows factors sizes = either_first (count_fault rows (length factors)) (either_first (keys_fault factors) (gross_fault sizes))

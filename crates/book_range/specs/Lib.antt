@@ -1,4 +1,7 @@
 pub mod Bounded
 pub mod Weights
 pub mod Weighing
+pub mod Gross
+pub mod Sizes
 pub mod Faults
+pub mod Firsts

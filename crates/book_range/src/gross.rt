@@ -1,22 +1,69 @@
 //! Gross sizes: the sizes of amounts, each times its weight.
-ghost use Rattle.std.specs.Prelude.{◌≡◌, ◌*◌, ◌^◌, ◌≤◌, length, pos, ◌*ℤ◌, unsigned_abs};
+ghost use Rattle.std.specs.Prelude.{◌≡◌, ◌*◌, ◌^◌, ◌≤◌, length, ◌*ℤ◌, unsigned_abs};
 ghost use Rattle.std.specs.List.{AllByRecursion};
-ghost use Rattle.mh_units.specs.Rounding.{up};
 ghost use Rattle.factor_book.specs.Place.{place_of};
-ghost use Rattle.book_range.specs.Faults.{AreSmall, place_size, side_size};
+ghost use Rattle.book_range.specs.Gross.{AreSmall, place_size, side_size};
+ghost use Rattle.book_range.specs.Sizes.{side_sizes, class_sizes, sizes_in};
 
+use crate::sizes::{ClassSizes, GrossSizes, SideSizes};
 use crate::weighing::Weighing;
-use factor_book::{Factors, Place, PlaceFactors, SideAt};
-use mh_units::{Rate4, div_up};
+use factor_book::{BookSide, Factors, Place, PlaceFactors, SideAt};
+use mh_units::Rate4;
+use simm_kinds::{ProductClass, RiskClass};
 use simm_params::Params;
 
-/// The gross size of a side of a class in cents, upwards.
-pub fn gross_size(params: &Params, factors: &Factors, at: SideAt) -> i128
+/// The gross sizes of the factors of a book.
+pub fn gross_sizes(params: &Params, factors: &Factors) -> GrossSizes
     requires small { AreSmall factors.now }
     requires few { length factors.now ≤ 20000 }
-    ensures { result ≡ up (side_size params.now factors.now at) (pos 10000) }
+    ensures { result ≡ sizes_in params.now factors.now }
 {
-    div_up(side_size(params, factors, at), 10_000)
+    GrossSizes {
+        rates_fx: class_sizes(params, factors, ProductClass::RatesFX),
+        credit: class_sizes(params, factors, ProductClass::Credit),
+        equity: class_sizes(params, factors, ProductClass::Equity),
+        commodity: class_sizes(params, factors, ProductClass::Commodity),
+    }
+}
+
+fn class_sizes(params: &Params, factors: &Factors, product: ProductClass) -> ClassSizes
+    requires small { AreSmall factors.now }
+    requires few { length factors.now ≤ 20000 }
+    ensures { result ≡ class_sizes params.now factors.now product }
+{
+    ClassSizes {
+        ir: side_sizes(params, factors, product, RiskClass::IR),
+        credit_q: side_sizes(params, factors, product, RiskClass::CreditQ),
+        credit_nonq: side_sizes(params, factors, product, RiskClass::CreditNonQ),
+        equity: side_sizes(params, factors, product, RiskClass::Equity),
+        commodity: side_sizes(params, factors, product, RiskClass::Commodity),
+        fx: side_sizes(params, factors, product, RiskClass::FX),
+    }
+}
+
+fn side_sizes(
+    params: &Params,
+    factors: &Factors,
+    product: ProductClass,
+    class: RiskClass,
+) -> SideSizes
+    requires small { AreSmall factors.now }
+    requires few { length factors.now ≤ 20000 }
+    ensures { result ≡ side_sizes params.now factors.now product class }
+{
+    let delta = SideAt {
+        product,
+        class,
+        side: BookSide::Delta,
+    };
+    let volatility = SideAt {
+        side: BookSide::Volatility,
+        ..delta
+    };
+    SideSizes {
+        delta: side_size(params, factors, delta),
+        volatility: side_size(params, factors, volatility),
+    }
 }
 
 // In ten-thousandths of a cent.
@@ -47,7 +94,8 @@ fn place_size(params: &Params, place: &Place, lent: &PlaceFactors) -> i128
     total
 }
 
-fn weigh_size(size: i128, weight: Rate4) -> i128
+/// The size of amounts to a factor times its weight, in ten-thousandths of a cent.
+pub fn weigh_size(size: i128, weight: Rate4) -> i128
     requires size { unsigned_abs size ≤ 2 * 10 ^ 20 }
     requires weight { unsigned_abs weight.0 ≤ 10 ^ 8 }
     ensures value { result ≡ size *ℤ weight.0 }

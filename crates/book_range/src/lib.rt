@@ -1,12 +1,14 @@
 //! The range of a book: the counts and weighted sizes up to which margins are calculated, by the factors that it nets to.
 #![tactic(auto)]
 
-mod class_test;
+mod faults;
 mod gross;
 mod laws;
 mod range;
+mod sizes;
 mod weighing;
 mod weight;
 
 pub use laws::{fewer_are_in_range, range_bounds};
 pub use range::range_fault;
+pub use sizes::{ClassSizes, GrossSizes, SideSizes};

@@ -1,4 +1,4 @@
-use Rattle.book_range.specs.Faults.{side_size}
+use Rattle.book_range.specs.Gross.{side_size}
 use Rattle.book_range.proofs.Grosses.{SideSummed}
 use Rattle.book_range.proofs.gross.side_size.Given as goal
 

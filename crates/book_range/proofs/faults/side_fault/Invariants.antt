@@ -2,7 +2,7 @@ use Rattle.std.proofs.Common.{◌≡◌, None, map, take}
 use Rattle.simm_rules.specs.Sums.{first_some}
 use Rattle.simm_rules.specs.Simm.{products}
 use Rattle.book_range.specs.Faults.{product_fault}
-use Rattle.book_range.proofs.range.test_fault.Given as goal
+use Rattle.book_range.proofs.faults.side_fault.Given as goal
 
 abbrev pub invariant-loop-product : goal.invariant-loop-product
-invariant-loop-product l = first_some (map (product_fault l.test l.params l.factors) (take l.product-index products)) ≡ None
+invariant-loop-product l = first_some (map (product_fault l.sizes l.side) (take l.product-index products)) ≡ None
