@@ -14,4 +14,5 @@ pub mod Grosses
 pub mod Counted
 pub mod Pairs
 pub mod Sizing
+pub mod Rated
 pub mod Crowded

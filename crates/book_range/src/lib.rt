@@ -5,6 +5,7 @@ mod faults;
 mod gross;
 mod laws;
 mod range;
+mod row_size;
 mod sizes;
 mod weighing;
 mod weight;

@@ -1,9 +1,17 @@
 //! The gross sizes of a book, side by side: what the sizes of its amounts weigh.
-ghost use Rattle.std.specs.Prelude.{◌≡◌};
-ghost use Rattle.book_range.specs.Sizes.{side_part, class_part, product_part, size_at};
+ghost use Rattle.std.specs.Prelude.{◌≡◌, ℕ, ◌+◌, ◌*◌, ◌^◌, ◌≤◌, ◌++◌, List, [], length, true, FitsSigned, ◌+ℤ◌, unsigned_abs};
+ghost use Rattle.std.specs.Int.{w128};
+ghost use Rattle.std.specs.List.{list_all};
+ghost use Rattle.simm_kinds.specs.declared.row.CrifRow.{CrifRow as Row};
+ghost use Rattle.simm_kinds.specs.Batch.{is_in_range};
+ghost use Rattle.simm_rules.specs.Params.{Params as Rules};
+ghost use Rattle.factor_book.specs.Factors.{factors_of};
+ghost use Rattle.book_range.specs.Sizes.{side_part, class_part, product_part, size_at, side_grown, class_grown, grown, sizes_in, HasSizeRoom, AreSized};
 
+use crate::row_size::row_size;
 use factor_book::{BookSide, SideAt};
-use simm_kinds::{ProductClass, RiskClass};
+use simm_kinds::{CrifRow, ProductClass, RiskClass};
+use simm_params::Params;
 
 /// The gross sizes of the sides of a risk class, in ten-thousandths of a cent.
 #[derive(Clone, Copy, Debug, PartialEq, Eq)]
@@ -15,12 +23,27 @@ pub struct SideSizes {
 }
 
 impl SideSizes {
+    const NONE: SideSizes = SideSizes {
+        delta: 0,
+        volatility: 0,
+    };
+
     fn size(&self, side: BookSide) -> i128
         ensures { result ≡ side_part self.now side }
     {
         match side {
             BookSide::Delta => self.delta,
             BookSide::Volatility => self.volatility,
+        }
+    }
+
+    fn grow(&mut self, side: BookSide, by: i128)
+        requires { FitsSigned w128 (side_part self.old side +ℤ by) }
+        ensures { self.new ≡ side_grown self.old side by }
+    {
+        match side {
+            BookSide::Delta => self.delta += by,
+            BookSide::Volatility => self.volatility += by,
         }
     }
 }
@@ -43,6 +66,15 @@ pub struct ClassSizes {
 }
 
 impl ClassSizes {
+    const NONE: ClassSizes = ClassSizes {
+        ir: SideSizes::NONE,
+        credit_q: SideSizes::NONE,
+        credit_nonq: SideSizes::NONE,
+        equity: SideSizes::NONE,
+        commodity: SideSizes::NONE,
+        fx: SideSizes::NONE,
+    };
+
     fn class(&self, class: RiskClass) -> &SideSizes
         ensures { result.now ≡ class_part self.now class }
     {
@@ -55,10 +87,25 @@ impl ClassSizes {
             RiskClass::FX => &self.fx,
         }
     }
+
+    fn grow(&mut self, class: RiskClass, side: BookSide, by: i128)
+        requires { FitsSigned w128 (side_part (class_part self.old class) side +ℤ by) }
+        ensures { self.new ≡ class_grown self.old class side by }
+    {
+        match class {
+            RiskClass::IR => self.ir.grow(side, by),
+            RiskClass::CreditQ => self.credit_q.grow(side, by),
+            RiskClass::CreditNonQ => self.credit_nonq.grow(side, by),
+            RiskClass::Equity => self.equity.grow(side, by),
+            RiskClass::Commodity => self.commodity.grow(side, by),
+            RiskClass::FX => self.fx.grow(side, by),
+        }
+    }
 }
 
 /// The gross sizes of a book: of each side of each risk class in each product class, the sum of the sizes of its amounts, each
-/// times its weight, in ten-thousandths of a cent. They do not net.
+/// times its weight, in ten-thousandths of a cent. They do not net, and are kept as rows come and go at the cost of a look-up
+/// a row. They take no memory.
 #[derive(Clone, Copy, Debug, PartialEq, Eq)]
 pub struct GrossSizes {
     /// Of rates and foreign exchange.
@@ -72,11 +119,58 @@ pub struct GrossSizes {
 }
 
 impl GrossSizes {
+    const NONE: GrossSizes = GrossSizes {
+        rates_fx: ClassSizes::NONE,
+        credit: ClassSizes::NONE,
+        equity: ClassSizes::NONE,
+        commodity: ClassSizes::NONE,
+    };
+
+    /// The sizes of no rows.
+    pub fn new() -> GrossSizes
+        ensures { (p : Rules) → result ≡ sizes_in p [] }
+    {
+        GrossSizes::NONE
+    }
+
     /// The size of a side, in ten-thousandths of a cent.
     pub fn size(&self, at: SideAt) -> i128
         ensures { result ≡ size_at self.now at }
     {
         self.product(at.product).class(at.class).size(at.side)
+    }
+
+    /// Adds rows, whose amounts are those that a batch can have; fewer than 2^32 rows are held afterwards.
+    pub fn add_rows(&mut self, params: &Params, rows: &[CrifRow])
+        requires room { HasSizeRoom params.now self.old (length rows.now) }
+        requires amounts { list_all is_in_range rows.now ≡ true }
+        ensures { (held : List Row) → self.old ≡ sizes_in params.now (factors_of held) → self.new ≡ sizes_in params.now (factors_of (held ++ rows.now)) }
+    {
+        params.facts();
+        params.rate_facts();
+        params.credit_facts();
+        params.priced_facts();
+        for row in rows {
+            if let Some(weighed) = row_size(params, row) {
+                self.grow(weighed.at, weighed.size);
+            }
+        }
+    }
+
+    /// Takes rows that are held, of fewer than 2^32.
+    pub fn take_rows(&mut self, params: &Params, rows: &[CrifRow])
+        requires { AreSized params.now rows.now self.old }
+        ensures { (before after : List Row) → self.old ≡ sizes_in params.now (factors_of (before ++ rows.now ++ after)) → self.new ≡ sizes_in params.now (factors_of (before ++ after)) }
+    {
+        params.facts();
+        params.rate_facts();
+        params.credit_facts();
+        params.priced_facts();
+        for row in rows {
+            if let Some(weighed) = row_size(params, row) {
+                self.grow(weighed.at, -weighed.size);
+            }
+        }
     }
 
     fn product(&self, product: ProductClass) -> &ClassSizes
@@ -87,6 +181,18 @@ impl GrossSizes {
             ProductClass::Credit => &self.credit,
             ProductClass::Equity => &self.equity,
             ProductClass::Commodity => &self.commodity,
+        }
+    }
+
+    fn grow(&mut self, at: SideAt, by: i128)
+        requires { FitsSigned w128 (size_at self.old at +ℤ by) }
+        ensures { self.new ≡ grown self.old at by }
+    {
+        match at.product {
+            ProductClass::RatesFX => self.rates_fx.grow(at.class, at.side, by),
+            ProductClass::Credit => self.credit.grow(at.class, at.side, by),
+            ProductClass::Equity => self.equity.grow(at.class, at.side, by),
+            ProductClass::Commodity => self.commodity.grow(at.class, at.side, by),
         }
     }
 }
