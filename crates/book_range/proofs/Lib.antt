@@ -16,3 +16,4 @@ pub mod Pairs
 pub mod Sizing
 pub mod Rated
 pub mod Crowded
+pub mod Coming

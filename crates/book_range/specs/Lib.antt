@@ -4,4 +4,5 @@ pub mod Weighing
 pub mod Gross
 pub mod Sizes
 pub mod Faults
+pub mod After
 pub mod Firsts

@@ -1,6 +1,8 @@
-//! The range of a book: the counts and weighted sizes up to which margins are calculated, by the factors that it nets to.
+//! The range of a book: the counts and weighted sizes up to which margins are calculated, by the factors that it nets to, from
+//! scratch or after a batch.
 #![tactic(auto)]
 
+mod after;
 mod faults;
 mod gross;
 mod laws;
@@ -10,6 +12,7 @@ mod sizes;
 mod weighing;
 mod weight;
 
+pub use after::range_after;
 pub use laws::{fewer_are_in_range, range_bounds};
 pub use range::range_fault;
 pub use sizes::{ClassSizes, GrossSizes, SideSizes};

@@ -1,0 +1,15 @@
+use Rattle.std.proofs.Common.{◌≡◌, List}
+use Rattle.std.specs.Prelude.{is_some}
+use Rattle.std.specs.List.{find}
+use Rattle.std.specs.Map.{keys_of}
+use Rattle.simm_kinds.specs.declared.key.FactorKey.{FactorKey}
+use Rattle.factor_book.specs.declared.holding.Holding.{Holding}
+use Rattle.factor_book.specs.Factors.{IsWithout}
+use Rattle.factor_book.specs.Places.{places_of}
+use Rattle.book_range.specs.Firsts.{fault_at}
+use Rattle.book_range.proofs.after.crowded_left.Given as goal
+
+abbrev pub invariant-loop-place : goal.invariant-loop-place
+invariant-loop-place l =
+    (left : List (FactorKey × Holding)) → IsWithout l.factors l.leaving left
+    → find (λ q. is_some (fault_at left q)) (keys_of l.place-iterator) ≡ find (λ q. is_some (fault_at left q)) (places_of l.leaving)
