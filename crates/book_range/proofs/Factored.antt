@@ -3,8 +3,10 @@ use Rattle.std.proofs.Common.{◌≡◌, ◌^◌, ℕ, List, [], ◌∷◌, ◌+
 use Rattle.std.specs.Ordering.{is_eq}
 use Rattle.std.specs.declared.cmp.Ordering.TheVariants.{Equal}
 use Rattle.std.specs.List.{filter, flat_map, list_any}
+use Rattle.std.specs.List.Sorted.{IsPermutation}
 use Rattle.std.specs.BTreeMap.{is_at}
 use Rattle.std.proofs.lemmas.Cmp.{alike_right}
+use Rattle.std.proofs.lemmas.List.Sorted.{length_permutation}
 use Rattle.std.proofs.lemmas.Simd.{map-map}
 use Rattle.mh_units.specs.Rounding.{up}
 use Rattle.simm_kinds.specs.declared.kinds.ProductClass.{ProductClass}
@@ -31,6 +33,7 @@ use Rattle.factor_book.specs.declared.place.BookSide.TheVariants as side
 use Rattle.factor_book.specs.Factors.{factor_of, factors_in, factors_of}
 use Rattle.factor_book.specs.Places.{is_on, place_in, factors_at, buckets_on}
 use Rattle.factor_book.proofs.Netting.{parts}
+use Rattle.factor_book.proofs.Rows.{permuted}
 use Rattle.factor_book.proofs.Sorting.{any_different, different_ascends, same_items}
 use Rattle.factor_book.proofs.Standing.{exact_ids}
 use Rattle.book_range.specs.declared.sizes.GrossSizes.{GrossSizes}
@@ -169,3 +172,10 @@ range_factors p facts rows =
 pub range_whole : (p : Params) (facts : IsParams p) (factors : List (FactorKey × Holding)) (count : ℕ) (sizes : GrossSizes) (rows : List CrifRow) → factors ≡ factors_of rows → count ≡ length rows → sizes ≡ sizes_in p (factors_of rows)
     → book_fault count factors sizes ≡ range p rows
 range_whole p facts factors count sizes rows e f g = (λ i. book_fault (f i) (e i) (g i)) ∙ sym (range_factors p facts rows)
+
+-- it does not depend on their order
+pub range_permuted : (p : Params) (facts : IsParams p) (xs ys : List CrifRow) → IsPermutation xs ys → range p xs ≡ range p ys
+range_permuted p facts xs ys h =
+    let same : factors_of xs ≡ factors_of ys = permuted xs ys h in
+    sym (range_whole p facts (factors_of xs) (length xs) (sizes_in p (factors_of xs)) xs refl refl refl)
+    ∙ range_whole p facts (factors_of xs) (length xs) (sizes_in p (factors_of xs)) ys same (sym (length_permutation xs ys h)) (ap (sizes_in p) same)

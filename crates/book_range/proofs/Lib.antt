@@ -16,4 +16,5 @@ pub mod Pairs
 pub mod Sizing
 pub mod Rated
 pub mod Crowded
+pub mod Elsewhere
 pub mod Coming

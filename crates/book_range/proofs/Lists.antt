@@ -1,6 +1,7 @@
 -- Lists of which each element has a fact, and the first of several answers.
-use Rattle.std.proofs.Common.{◌≡◌, List, [], ◌∷◌, ◌++◌, map, Option, Some, None, Bool, true, false, ◌&&◌, cond, refl, ap, ◌∙◌}
-use Rattle.std.specs.List.{filter, flat_map, AllByRecursion}
+use Rattle.std.proofs.Common.{◌≡◌, List, [], ◌∷◌, ◌++◌, map, Option, Some, None, Bool, true, false, ◌&&◌, ◌||◌, cond, refl, sym, ap, ◌∙◌}
+use Rattle.std.specs.List.{filter, flat_map, list_any, AllByRecursion}
+use Rattle.std.proofs.lemmas.Bool.{false≢true}
 use Rattle.simm_kinds.specs.declared.kinds.ProductClass.{ProductClass}
 use Rattle.simm_kinds.specs.declared.kinds.ProductClass.TheVariants as product
 use Rattle.simm_kinds.specs.declared.kinds.RiskClass.{RiskClass}
@@ -80,3 +81,11 @@ filter_twice p q (x ∷ xs) = by (q x) (filter_twice p q xs)
     by : (t : Bool) → filter p (filter q xs) ≡ filter (λ y. q y && p y) xs → filter p (cond t (x ∷ filter q xs) (filter q xs)) ≡ cond (t && p x) (x ∷ filter (λ y. q y && p y) xs) (filter (λ y. q y && p y) xs)
     by true i = ap (λ ys. cond (p x) (x ∷ ys) ys) i
     by false i = i
+
+pub filter_none : {X : Type 0} (test : X → Bool) (xs : List X) → list_any test xs ≡ false → filter test xs ≡ []
+filter_none test [] h = refl
+filter_none test (x ∷ xs) h = by (test x) h (filter_none test xs)
+  where
+    by : (t : Bool) → (t || list_any test xs) ≡ false → (list_any test xs ≡ false → filter test xs ≡ []) → cond t (x ∷ filter test xs) (filter test xs) ≡ []
+    by true e i = absurd (false≢true (sym e))
+    by false e i = i e

@@ -13,6 +13,6 @@ mod weighing;
 mod weight;
 
 pub use after::range_after;
-pub use laws::{fewer_are_in_range, range_bounds};
+pub use laws::{elsewhere_few, fewer_are_in_range, range_bounds, range_order_is_free};
 pub use range::range_fault;
 pub use sizes::{ClassSizes, GrossSizes, SideSizes};
