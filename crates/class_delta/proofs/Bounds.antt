@@ -47,6 +47,7 @@ use Rattle.name_delta.proofs.Names.{names_nets}
 use Rattle.name_delta.proofs.Sizes.{away_size_close}
 use Rattle.name_delta.proofs.Shrinking.{SizesAreNetted, nets_shrink, filter_shrinks}
 use Rattle.class_delta.proofs.Lists.{filter-length, select-length}
+use Rattle.class_delta.proofs.Counts as counts
 
 -- ---- sums that are not negative
 
@@ -122,7 +123,7 @@ module _ (p : Params) (facts : IsParams p) (held : List CrifRow) (bounded : IsBo
   indices_range =
       let class_low = total_low (λ b. size_by (λ point. (b.terms).weight) (select (as_credit Qualifying (b.terms).id) ss)) p.credit_q.buckets (each_low p.credit_q.buckets (weights_low Qualifying facts.credit_q)) in
       record {
-        few = omega (arith, ap length (indices_at product fs), length-map (indices_of product fs) (λ (a : Amount (List ℕ)). a.amount), length-map (factors_at (base_place product) fs) (λ (f : FactorKey × Holding). (f.1).net), bounded.each (base_place product));
+        few = omega (arith, counts.indices_few product fs, bounded.each (base_place product));
         small = omega (arith, ints, nets_shrink as_index (index_weight p) (λ x. omega (arith, ints, facts.base_weight.low)) held sizes product, bounded.delta product class.CreditQ, class_low);
       }
     where
@@ -131,8 +132,7 @@ module _ (p : Params) (facts : IsParams p) (held : List CrifRow) (bounded : IsBo
       each_low (b ∷ bs) h = (size_low (λ point. (b.terms).weight) (λ point. h.0) (select (as_credit Qualifying (b.terms).id) ss), each_low bs h.1)
 
   currencies_few : length (currencies_in p product fs) ≤ 2000
-  currencies_few =
-      omega (arith, ap length (currencies_at p product fs), select-length (as_risky p) (map net_of (factors_at (currency_place product) fs)), length-map (factors_at (currency_place product) fs) net_of, bounded.each (currency_place product))
+  currencies_few = omega (arith, counts.currencies_few product fs p, bounded.each (currency_place product))
 
   pub currencies_range : ((currency : List ℕ) → pos 0 ≤ℤ fx_weight p currency) → IsInRange (fx_weight p) (currencies_in p product fs)
   currencies_range low = record {
@@ -149,9 +149,7 @@ module _ (p : Params) (facts : IsParams p) (held : List CrifRow) (bounded : IsBo
   -- ---- interest rates
 
   rates_few : (currency : List ℕ) → length (rates_in currency (nets_in product fs)) ≤ 2000
-  rates_few currency =
-      let place = rate_place product currency in
-      omega (arith, ap length (standing product currency fs), select-length as_rate (map net_of (factors_at place fs)), length-map (factors_at place fs) net_of, bounded.each place)
+  rates_few currency = omega (arith, counts.rates_few product fs currency, bounded.each (rate_place product currency))
 
   pub rates_range : IsClass p (nets_in product fs)
   rates_range = record {
@@ -192,21 +190,10 @@ module _ (p : Params) (facts : IsParams p) (held : List CrifRow) (bounded : IsBo
   priced_small Commodities = bounded.delta product class.Commodity
 
   points_few : (class : CreditClass) (b : Bucket) → length (points_in class b product fs) ≤ 2000
-  points_few class b =
-      let place = points_place class b product in
-      omega (
-        arith,
-        ap length (points_nets class b product fs),
-        length-map (points_in class b product fs) issuer_amount,
-        select-length as_issuer (map net_of (factors_at place fs)),
-        length-map (factors_at place fs) net_of,
-        bounded.each place,
-      )
+  points_few class b = omega (arith, counts.points_few product fs class b, bounded.each (points_place class b product))
 
   names_few : (class : PricedClass) (b : Bucket) → length (names_in class b product fs) ≤ 2000
-  names_few class b =
-      let place = names_place class b product in
-      omega (arith, ap length (names_nets class b product fs), length-map (names_in class b product fs) (λ (a : Amount (List ℕ)). a.amount), length-map (factors_at place fs) (λ (f : FactorKey × Holding). (f.1).net), bounded.each place)
+  names_few class b = omega (arith, counts.names_few product fs class b, bounded.each (names_place class b product))
 
   pub credit_class : (class : CreditClass) → HasClass (λ b. (b.terms).id) (λ b. (b.terms).weight) (λ b. points_in class b product fs) (credit_params p class).buckets
   credit_class class =

@@ -30,7 +30,7 @@ use Rattle.factor_book.specs.Factors.{factors_of}
 use Rattle.factor_book.specs.Places.{factors_at}
 use Rattle.book_range.specs.Bounded.{IsBounded}
 use Rattle.name_delta.specs.Combine.{parts_in, combined_by_class, IsListed, HasBucket, AreSized, AreParts}
-use Rattle.name_delta.specs.Delta.{credit_delta, priced_delta, IsCreditReady, IsPricedReady, IsReady, IsCreditSized, IsPricedSized}
+use Rattle.name_delta.specs.Delta.{credit_delta, priced_delta, delta_value, IsCreditReady, IsPricedReady, IsReady, IsCreditSized, IsPricedSized, IsDeltaSized}
 use Rattle.name_delta.specs.Ids.{listed_id}
 use Rattle.name_delta.specs.Names.{names_place, names_in}
 use Rattle.name_delta.specs.Points.{points_place, points_in, issuer_nets}
@@ -41,13 +41,11 @@ use Rattle.name_delta.proofs.Lists.{each_weaker, each_both, each_unmap}
 use Rattle.name_delta.proofs.Names.{names_nets}
 use Rattle.name_delta.proofs.Shrinking.{SizesAreNetted}
 use Rattle.class_delta.specs.Class.{class_delta_of}
-use Rattle.class_delta.specs.Buckets.{listed_buckets, bucket_at, IsNumbered, IsValued}
+use Rattle.class_delta.specs.Buckets.{listed_buckets, bucket_at, IsNumbered}
 use Rattle.class_delta.proofs.Bounds.{gross_low, credit_class, priced_class}
 use Rattle.class_delta.proofs.InBook.{place_in, listed_ascend, none_at, listed_each}
+use Rattle.class_delta.proofs.Valued.{Whole, ids}
 use Rattle.class_delta.proofs.Listed.{ready, IsOwned, owned, margin_of_parts, parts_small, parts_sized}
-
-abbrev Whole : Type 0
-Whole = BucketId × BucketMargin
 
 nothing : {X Y : Type 0} (f : X → Y) (xs : List X) → map f xs ≡ [] → xs ≡ []
 nothing f [] e = refl
@@ -58,6 +56,11 @@ points_gross b points = gross_low (map (weighted_point (b.terms).weight ((b.term
 
 names_gross : (b : PricedBucket) (names : List (Amount (List ℕ))) → pos 0 ≤ℤ (price_value b names).gross
 names_gross b names = gross_low (map (λ (a : Amount (List ℕ)). weighted_name (b.terms).weight ((b.terms).thresholds).delta a.of a.amount) names)
+
+-- a bucket that the file lists, with its value
+pub record IsListedPart (p : Params) (at : ClassAt) (factors : List (FactorKey × Holding)) (part : Whole) : Type 0 where
+  pub value : Some part.1 ≡ delta_value p (bucket_at at part.0) factors
+  pub sized : IsDeltaSized p (bucket_at at part.0) factors part.1
 
 -- what the parts of a class come to
 pub record IsDone (p : Params) (c : RiskClass) (ss : List Sensitivity) (parts : List Whole) : Type 0 where
@@ -74,9 +77,6 @@ module _ (p : Params) (facts : IsParams p) (held : List CrifRow) (bounded : IsBo
 
   abbrev ss : List Sensitivity
   ss = nets_in product fs
-
-  abbrev ids : List Whole → List BucketId
-  ids parts = map (λ part. part.0) parts
 
   -- ---- credit
 
@@ -146,7 +146,7 @@ module _ (p : Params) (facts : IsParams p) (held : List CrifRow) (bounded : IsBo
 
   -- ---- each class
 
-  one_ready : (c : RiskClass) → IsNumbered c → (k : BucketId) → HasBucket p c k → IsReady p (bucket_at (record { product = product; class = c }) k) fs
+  pub one_ready : (c : RiskClass) → IsNumbered c → (k : BucketId) → HasBucket p c k → IsReady p (bucket_at (record { product = product; class = c }) k) (factors_of held)
   one_ready class.IR n k h = absurd n
   one_ready class.CreditQ n k h = credit_ready Qualifying k h
   one_ready class.CreditNonQ n k h = credit_ready Non_qualifying k h
@@ -155,20 +155,15 @@ module _ (p : Params) (facts : IsParams p) (held : List CrifRow) (bounded : IsBo
   one_ready class.FX n k h = absurd n
 
   module _ (admitted : list_all (admits p) held ≡ true) where
-    pub all_ready : (c : RiskClass) → IsNumbered c → AllByRecursion (λ k. IsReady p (bucket_at (record { product = product; class = c }) k) fs) (listed_buckets (record { product = product; class = c }) fs)
-    all_ready c n =
-        each_weaker (HasBucket p c) (λ k. IsReady p (bucket_at (record { product = product; class = c }) k) fs) (one_ready c n) (listed_buckets (record { product = product; class = c }) fs)
-        (listed_each p (record { product = product; class = c }) n held admitted)
-
     module _ (parts : List Whole) where
       has_buckets : (c : RiskClass) → IsNumbered c → ids parts ≡ listed_buckets (record { product = product; class = c }) fs → AllByRecursion (λ part. HasBucket p c part.0) parts
       has_buckets c n are = each_unmap (HasBucket p c) (λ (part : Whole). part.0) parts (subst (AllByRecursion (HasBucket p c)) (sym are) (listed_each p (record { product = product; class = c }) n held admitted))
 
       abbrev Both : RiskClass → Whole → Type 0
-      Both c part = HasBucket p c part.0 × IsValued p (record { product = product; class = c }) fs part
+      Both c part = HasBucket p c part.0 × IsListedPart p (record { product = product; class = c }) fs part
 
-      both : (c : RiskClass) → IsNumbered c → ids parts ≡ listed_buckets (record { product = product; class = c }) fs → AllByRecursion (IsValued p (record { product = product; class = c }) fs) parts → AllByRecursion (Both c) parts
-      both c n are values = each_both (λ part. HasBucket p c part.0) (IsValued p (record { product = product; class = c }) fs) parts (has_buckets c n are) values
+      both : (c : RiskClass) → IsNumbered c → ids parts ≡ listed_buckets (record { product = product; class = c }) fs → AllByRecursion (IsListedPart p (record { product = product; class = c }) fs) parts → AllByRecursion (Both c) parts
+      both c n are values = each_both (λ part. HasBucket p c part.0) (IsListedPart p (record { product = product; class = c }) fs) parts (has_buckets c n are) values
 
       ascend : (c : RiskClass) → ids parts ≡ listed_buckets (record { product = product; class = c }) fs → IsStrictlySortedBy bucket_id_cmp (ids parts)
       ascend c are = subst (IsStrictlySortedBy bucket_id_cmp) (sym are) (listed_ascend (record { product = product; class = c }) fs)
@@ -188,7 +183,7 @@ module _ (p : Params) (facts : IsParams p) (held : List CrifRow) (bounded : IsBo
         priced_small : sum_by (λ part. unsigned_abs (part.1).k) parts ≤ 4 * 10 ^ 15
         priced_small = parts_small (λ (b : PricedBucket). (b.terms).id) (λ b. (b.terms).weight) price_value names_gross (names c) (priced_params p c).buckets (priced_class p facts held bounded product sizes c) parts own s
 
-      pub done : (c : RiskClass) → IsNumbered c → ids parts ≡ listed_buckets (record { product = product; class = c }) fs → AllByRecursion (IsValued p (record { product = product; class = c }) fs) parts → IsDone p c ss parts
+      pub done : (c : RiskClass) → IsNumbered c → ids parts ≡ listed_buckets (record { product = product; class = c }) fs → AllByRecursion (IsListedPart p (record { product = product; class = c }) fs) parts → IsDone p c ss parts
       done class.IR n are values = absurd n
       done class.CreditQ n are values =
           let own : AllByRecursion (credit_owned Qualifying) parts = each_weaker (Both class.CreditQ) (credit_owned Qualifying) (λ part h. credit_owns Qualifying part h.0 h.1.value h.1.sized) parts (both class.CreditQ n are values) in

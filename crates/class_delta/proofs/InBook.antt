@@ -1,11 +1,8 @@
 -- The buckets of a class in a book: those that have a factor, each of which the parameters admit.
 use Rattle.std.proofs.Common.{◌≡◌, List, [], ◌∷◌, map, Bool, true, false, not, ◌&&◌, ◌||◌, cond, refl, sym, ap, ◌∙◌}
-use Rattle.std.specs.Ordering.{is_eq}
-use Rattle.std.specs.Cmp.{IsTotalOrder}
 use Rattle.std.specs.List.{filter, list_any, list_all, AllByRecursion}
 use Rattle.std.specs.List.Sorted.{IsStrictlySortedBy}
 use Rattle.std.proofs.lemmas.Bool.{and_parts, false≢true}
-use Rattle.std.proofs.lemmas.Cmp.{nat_list_cmp_total, on_total, alike_right, eq_by_cmp_equiv}
 use Rattle.std.proofs.lemmas.List.Kept.{IsStrictlySortedBy-filter}
 use Rattle.simm_kinds.specs.declared.kinds.RiskClass.{RiskClass}
 use Rattle.simm_kinds.specs.declared.kinds.RiskClass.TheVariants as class
@@ -19,7 +16,7 @@ use Rattle.simm_kinds.specs.declared.key.FactorKey.{FactorKey}
 use Rattle.simm_kinds.specs.declared.row.CrifRow.{CrifRow}
 use Rattle.simm_kinds.specs.declared.row.CrifRow.TheVariants as row
 use Rattle.simm_kinds.specs.Factors.{class_of, side_of, bucket_of, bucket_id_of}
-use Rattle.simm_kinds.specs.Order.{same_product, same_class, bucket_id_numbers, bucket_id_cmp, same_bucket_id, key_cmp}
+use Rattle.simm_kinds.specs.Order.{same_product, same_class, bucket_id_cmp, same_bucket_id, key_cmp}
 use Rattle.simm_rules.specs.Params.{Params}
 use Rattle.simm_rules.specs.Net.{Sensitivity, sensitivities, keys_of}
 use Rattle.simm_rules.specs.Admits.{admits_factor, admits}
@@ -29,25 +26,16 @@ use Rattle.factor_book.specs.declared.place.BookSide.TheVariants as side
 use Rattle.factor_book.specs.declared.place.Place.{Place}
 use Rattle.factor_book.specs.Factors.{factor_of, factors_of}
 use Rattle.factor_book.specs.Place.{book_side}
-use Rattle.factor_book.specs.Places.{same_side, stands_at, factors_at, is_on}
-use Rattle.factor_book.proofs.Grouping.{any_is, any-filter}
-use Rattle.factor_book.proofs.Sorting.{any_different, different_ascends}
-use Rattle.ir_delta.proofs.Lists.{filter_agrees}
+use Rattle.factor_book.specs.Places.{same_side, factors_at, is_on}
+use Rattle.ir_delta.specs.Parts.{IsCurrency}
 use Rattle.name_delta.specs.Combine.{HasBucket}
 use Rattle.name_delta.proofs.Lists.{each_weaker, each_both, each_map, each_kept, kept_pass}
 use Rattle.class_delta.specs.Buckets.{delta_side, delta_buckets, is_single, listed_buckets, IsNumbered}
-use Rattle.class_delta.proofs.Lists.{filter_twice, different_each}
-
-id_total : IsTotalOrder bucket_id_cmp
-id_total = on_total bucket_id_numbers nat_list_cmp_total
-
-abbrev is_delta : ClassAt → FactorKey → Bool
-is_delta at k = is_on (delta_side at) k
+use Rattle.class_delta.proofs.Lists.{different_each}
+use Rattle.class_delta.proofs.OnSide.{buckets_ascend, none_on}
 
 pub listed_ascend : (at : ClassAt) (fs : List (FactorKey × Holding)) → IsStrictlySortedBy bucket_id_cmp (listed_buckets at fs)
-listed_ascend at fs =
-    IsStrictlySortedBy-filter bucket_id_cmp (λ b. not (is_single b)) (delta_buckets at fs)
-    (different_ascends bucket_id_cmp id_total (map (λ f. bucket_of f.0.factor) (filter (λ f. is_delta at f.0) fs)))
+listed_ascend at fs = IsStrictlySortedBy-filter bucket_id_cmp (λ b. not (is_single b)) (delta_buckets at fs) (buckets_ascend (delta_side at) fs)
 
 -- ---- whether a listed bucket has a factor
 
@@ -71,39 +59,19 @@ any_kept t p h (x ∷ xs) = by (p x) (t x) (h x) refl (any_kept t p h xs)
     by false true g e i = absurd (false≢true (g refl))
     by false false g e i = i
 
-and_again : (a b c d : Bool) → ((a && (b && c)) && d) ≡ (a && (b && c) && d)
-and_again true b c d = refl
-and_again false b c d = refl
-
-none_kept : {X : Type 0} (xs : List X) → any_is xs ≡ false → xs ≡ []
-none_kept [] h = refl
-none_kept (x ∷ xs) h = absurd (false≢true (sym h))
-
-module _ (at : ClassAt) (b : Bucket) where
-  abbrev is_it : BucketId → Bool
-  is_it k = same_bucket_id k (bucket_id_of b)
-
-  abbrev bucket_in : FactorKey × Holding → BucketId
-  bucket_in f = bucket_of f.0.factor
-
-  has_is : (fs : List (FactorKey × Holding)) → list_any is_it (listed_buckets at fs) ≡ any_is (factors_at (place_in at b) fs)
-  has_is fs =
-      let kept = filter (λ (f : FactorKey × Holding). is_delta at f.0) fs in
-      any_kept is_it (λ k. not (is_single k)) (not_single b) (delta_buckets at fs)
-      ∙ any_different bucket_id_cmp is_it (λ k l alike. (eq_by_cmp_equiv id_total).symm k (bucket_id_of b) ∙ ap is_eq (alike_right id_total k l (bucket_id_of b) alike) ∙ (eq_by_cmp_equiv id_total).symm (bucket_id_of b) l) (map bucket_in kept)
-      ∙ any-filter is_it bucket_in kept
-      ∙ ap any_is (filter_twice (λ (f : FactorKey × Holding). is_it (bucket_in f)) (λ f. is_delta at f.0) fs
-      ∙ filter_agrees (λ (f : FactorKey × Holding). is_delta at f.0 && is_it (bucket_in f)) (λ f. stands_at (place_in at b) f.0)
-      (λ f. and_again (same_product f.0.product at.product) (same_class (class_of f.0.factor) at.class) (same_side (book_side (side_of f.0.factor)) side.Delta) (is_it (bucket_in f))) fs)
-
-  -- one that is not among the listed ones has none
-  pub none_at : (fs : List (FactorKey × Holding)) → list_any is_it (listed_buckets at fs) ≡ false → factors_at (place_in at b) fs ≡ []
-  none_at fs h = none_kept (factors_at (place_in at b) fs) (sym (has_is fs) ∙ h)
+-- one that is not among the listed ones has none
+pub none_at : (at : ClassAt) (b : Bucket) (fs : List (FactorKey × Holding)) → list_any (λ k. same_bucket_id k (bucket_id_of b)) (listed_buckets at fs) ≡ false → factors_at (place_in at b) fs ≡ []
+none_at at b fs h =
+    none_on (delta_side at) (bucket_id_of b) fs
+    (sym (any_kept (λ k. same_bucket_id k (bucket_id_of b)) (λ k. not (is_single k)) (not_single b) (delta_buckets at fs)) ∙ h)
 
 -- ---- what the parameters admit
 
+abbrev is_delta : ClassAt → FactorKey → Bool
+is_delta at k = is_on (delta_side at) k
+
 module _ (p : Params) where
-  abbrev IsAdmitted : FactorKey → Type 0
+  abbrev pub IsAdmitted : FactorKey → Type 0
   IsAdmitted k = admits_factor p k.factor ≡ true
 
   rows_admitted : (rows : List CrifRow) → list_all (admits p) rows ≡ true → AllByRecursion (λ s. IsAdmitted s.key) (sensitivities rows)
@@ -114,7 +82,7 @@ module _ (p : Params) where
   rows_admitted (row.NotionalFactor qualifier factor ∷ rows) h = rows_admitted rows h
   rows_admitted (row.Multiplier product factor ∷ rows) h = rows_admitted rows h
 
-  factors_admitted : (held : List CrifRow) → list_all (admits p) held ≡ true → AllByRecursion (λ f. IsAdmitted f.0) (factors_of held)
+  pub factors_admitted : (held : List CrifRow) → list_all (admits p) held ≡ true → AllByRecursion (λ f. IsAdmitted f.0) (factors_of held)
   factors_admitted held h =
       let ss = sensitivities held in
       each_map (λ (f : FactorKey × Holding). IsAdmitted f.0) (factor_of ss) (keys_of ss) (different_each key_cmp IsAdmitted (map (λ s. s.key) ss) (each_map IsAdmitted (λ (s : Sensitivity). s.key) ss (rows_admitted held h)))
@@ -142,28 +110,59 @@ module _ (p : Params) where
   commodity_bucket (factor.Commodity n b) a on = a
   commodity_bucket f a on = absurd (false≢true on)
 
-  listed_bucket : (c : RiskClass) → IsNumbered c → (f : Factor) → admits_factor p f ≡ true → is_of c f ≡ true → is_single (bucket_of f) ≡ false → HasBucket p c (bucket_of f)
-  listed_bucket class.IR n f a on s = absurd n
-  listed_bucket class.CreditQ n f a on s = credit_q_bucket f a on s
-  listed_bucket class.CreditNonQ n f a on s = credit_nq_bucket f a on
-  listed_bucket class.Equity n f a on s = equity_bucket f a on
-  listed_bucket class.Commodity n f a on s = commodity_bucket f a on
-  listed_bucket class.FX n f a on s = absurd n
+  currency_bucket : (f : Factor) → is_of class.IR f ≡ true → IsCurrency (bucket_of f)
+  currency_bucket (factor.IrCurve n t u) on = tt
+  currency_bucket (factor.Inflation n) on = tt
+  currency_bucket (factor.XccyBasis n) on = tt
+  currency_bucket f on = absurd (false≢true on)
+
+  single_bucket : (f : Factor) → is_of class.FX f ≡ true → HasBucket p class.FX (bucket_of f)
+  single_bucket (factor.Fx n) on = refl
+  single_bucket f on = absurd (false≢true on)
+
+  -- a bucket that the class has, or that of base correlation
+  abbrev pub IsOwn : RiskClass → BucketId → Type 0
+  IsOwn class.IR k = IsCurrency k
+  IsOwn class.CreditQ k = is_single k ≡ false → HasBucket p class.CreditQ k
+  IsOwn class.CreditNonQ k = HasBucket p class.CreditNonQ k
+  IsOwn class.Equity k = HasBucket p class.Equity k
+  IsOwn class.Commodity k = HasBucket p class.Commodity k
+  IsOwn class.FX k = HasBucket p class.FX k
+
+  own_bucket : (c : RiskClass) → (f : Factor) → admits_factor p f ≡ true → is_of c f ≡ true → IsOwn c (bucket_of f)
+  own_bucket class.IR f a on = currency_bucket f on
+  own_bucket class.CreditQ f a on = credit_q_bucket f a on
+  own_bucket class.CreditNonQ f a on = credit_nq_bucket f a on
+  own_bucket class.Equity f a on = equity_bucket f a on
+  own_bucket class.Commodity f a on = commodity_bucket f a on
+  own_bucket class.FX f a on = single_bucket f on
+
+  -- each bucket of a book of admitted rows is one of these
+  pub own_each : (at : ClassAt) → (held : List CrifRow) → list_all (admits p) held ≡ true → AllByRecursion (IsOwn at.class) (delta_buckets at (factors_of held))
+  own_each at held h =
+      let fs = factors_of held in
+      let Kept : FactorKey × Holding → Type 0 = λ f. (is_delta at f.0 ≡ true) × IsAdmitted f.0 in
+      let kept = filter (λ (f : FactorKey × Holding). is_delta at f.0) fs in
+      let each : AllByRecursion Kept kept = each_both (λ f. is_delta at f.0 ≡ true) (λ f. IsAdmitted f.0) kept (kept_pass (λ f. is_delta at f.0) fs) (each_kept (λ f. IsAdmitted f.0) (λ f. is_delta at f.0) fs (factors_admitted held h)) in
+      let own : AllByRecursion (λ f. IsOwn at.class (bucket_of f.0.factor)) kept = each_weaker Kept (λ f. IsOwn at.class (bucket_of f.0.factor))
+      (λ f both. own_bucket at.class f.0.factor both.1 (and_parts (same_product f.0.product at.product) (is_of at.class f.0.factor) both.0).1) kept each in
+      different_each bucket_id_cmp (IsOwn at.class) (map (λ f. bucket_of f.0.factor) kept) (each_map (IsOwn at.class) (λ (f : FactorKey × Holding). bucket_of f.0.factor) kept own)
 
   not_true : (t : Bool) → not t ≡ true → t ≡ false
   not_true true e = absurd (false≢true e)
   not_true false e = refl
 
-  -- each bucket of a book of admitted rows is one that the file lists
+  own_listed : (c : RiskClass) → IsNumbered c → (k : BucketId) → is_single k ≡ false → IsOwn c k → HasBucket p c k
+  own_listed class.IR n k s o = absurd n
+  own_listed class.CreditQ n k s o = o s
+  own_listed class.CreditNonQ n k s o = o
+  own_listed class.Equity n k s o = o
+  own_listed class.Commodity n k s o = o
+  own_listed class.FX n k s o = absurd n
+
+  -- and each of those that files list is one that the file lists
   pub listed_each : (at : ClassAt) → IsNumbered at.class → (held : List CrifRow) → list_all (admits p) held ≡ true → AllByRecursion (HasBucket p at.class) (listed_buckets at (factors_of held))
   listed_each at numbered held h =
       let fs = factors_of held in
-      let Kept : FactorKey × Holding → Type 0 = λ f. (is_delta at f.0 ≡ true) × IsAdmitted f.0 in
-      let Fits : BucketId → Type 0 = λ k. is_single k ≡ false → HasBucket p at.class k in
-      let kept = filter (λ (f : FactorKey × Holding). is_delta at f.0) fs in
-      let each : AllByRecursion Kept kept = each_both (λ f. is_delta at f.0 ≡ true) (λ f. IsAdmitted f.0) kept (kept_pass (λ f. is_delta at f.0) fs) (each_kept (λ f. IsAdmitted f.0) (λ f. is_delta at f.0) fs (factors_admitted held h)) in
-      let own : AllByRecursion (λ f. Fits (bucket_of f.0.factor)) kept = each_weaker Kept (λ f. Fits (bucket_of f.0.factor))
-      (λ f both s. listed_bucket at.class numbered f.0.factor both.1 (and_parts (same_product f.0.product at.product) (is_of at.class f.0.factor) both.0).1 s) kept each in
-      let there : AllByRecursion Fits (delta_buckets at fs) = different_each bucket_id_cmp Fits (map (λ f. bucket_of f.0.factor) kept) (each_map Fits (λ (f : FactorKey × Holding). bucket_of f.0.factor) kept own) in
-      each_weaker (λ k. (not (is_single k) ≡ true) × Fits k) (HasBucket p at.class) (λ k both. both.1 (not_true (is_single k) both.0)) (listed_buckets at fs)
-      (each_both (λ k. not (is_single k) ≡ true) Fits (listed_buckets at fs) (kept_pass (λ k. not (is_single k)) (delta_buckets at fs)) (each_kept Fits (λ k. not (is_single k)) (delta_buckets at fs) there))
+      each_weaker (λ k. (not (is_single k) ≡ true) × IsOwn at.class k) (HasBucket p at.class) (λ k both. own_listed at.class numbered k (not_true (is_single k) both.0) both.1) (listed_buckets at fs)
+      (each_both (λ k. not (is_single k) ≡ true) (IsOwn at.class) (listed_buckets at fs) (kept_pass (λ k. not (is_single k)) (delta_buckets at fs)) (each_kept (IsOwn at.class) (λ k. not (is_single k)) (delta_buckets at fs) (own_each at held h)))

@@ -1,9 +1,16 @@
 pub mod Lists
+pub mod Alone
+pub mod Places
+pub mod Counts
+pub mod OnSide
 pub mod Bounds
 pub mod Totals
+pub mod Valued
 pub mod Listed
 pub mod InBook
 pub mod Classes
 pub mod Margined
+pub mod Currencies
+pub mod Named
+pub mod OneBucket
 pub mod Lent
-pub mod Valued

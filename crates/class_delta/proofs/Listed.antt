@@ -3,11 +3,10 @@ use Rattle.std.proofs.Common.{◌≡◌, ◌^◌, ◌*◌, ◌<◌, ◌≤◌, L
 use Rattle.std.specs.Prelude.{sum_by, option_map, IsSomeAnd}
 use Rattle.std.specs.declared.cmp.Ordering.TheVariants.{Less}
 use Rattle.std.specs.Ordering.{is_eq}
-use Rattle.std.specs.Cmp.{IsTotalOrder}
 use Rattle.std.specs.List.{filter, find, list_any, AllByRecursion}
 use Rattle.std.specs.List.Sorted.{IsStrictlySortedBy}
 use Rattle.std.proofs.lemmas.Bool.{false≢true}
-use Rattle.std.proofs.lemmas.Cmp.{nat_list_cmp_total, eq_by_cmp_equiv, on_total}
+use Rattle.std.proofs.lemmas.Cmp.{eq_by_cmp_equiv}
 use Rattle.std.proofs.lemmas.Int.{ints}
 use Rattle.std.proofs.lemmas.List.Sums.{sum_by-cons}
 use Rattle.std.proofs.lemmas.Map.Lookups.{exact_bytes}
@@ -15,7 +14,7 @@ use Rattle.simm_kinds.specs.declared.kinds.BucketId.{BucketId}
 use Rattle.simm_kinds.specs.declared.bucket.Bucket.{Bucket}
 use Rattle.simm_kinds.specs.declared.bucket.Bucket.TheVariants as bucket
 use Rattle.simm_kinds.specs.Factors.{bucket_id_of}
-use Rattle.simm_kinds.specs.Order.{bucket_numbers, bucket_id_numbers, same_bucket, bucket_id_cmp, same_bucket_id}
+use Rattle.simm_kinds.specs.Order.{bucket_numbers, same_bucket, bucket_id_cmp, same_bucket_id}
 use Rattle.simm_kinds.proofs.Variants.{is_eq-Equal}
 use Rattle.simm_rules.specs.declared.values.BucketMargin.{BucketMargin}
 use Rattle.simm_rules.specs.Sums.{total_by}
@@ -24,12 +23,14 @@ use Rattle.simm_rules.specs.Across.{Part, margin_over}
 use Rattle.simm_rules.specs.Admits.{lists}
 use Rattle.simm_rules.specs.Gross.{size_by}
 use Rattle.simm_params.specs.Buckets.{bucket_slot, AreInOrder}
+use Rattle.book_range.proofs.Buckets.{id_total}
 use Rattle.name_delta.specs.Combine.{part_in, parts_in, AreSized}
 use Rattle.name_delta.specs.Values.{IsInRange, IsSized}
 use Rattle.name_delta.proofs.Keys.{bucket_ids}
 use Rattle.name_delta.proofs.Listed.{found}
 use Rattle.name_delta.proofs.Lists.{each_weaker, map-filter}
 use Rattle.class_delta.proofs.Bounds.{size_low, total_low, HasClass}
+use Rattle.class_delta.proofs.Valued.{Whole, ids}
 use Rattle.class_delta.proofs.Totals.{Alike, alike_map, alike_margin, total_split}
 
 -- ---- a bucket is known by its numbers
@@ -53,9 +54,6 @@ not_same a b h = by (same_bucket a b) refl
 part_of_listed : (b : Bucket) (m : BucketMargin) → part_in (bucket_id_of b, m) ≡ record { at = b; value = m } ∷ []
 part_of_listed (bucket.Number n) m = refl
 part_of_listed bucket.Residual m = refl
-
-id_total : IsTotalOrder bucket_id_cmp
-id_total = on_total bucket_id_numbers nat_list_cmp_total
 
 -- one that is the first of two in order is not the second
 not_later : (k l m : BucketId) → bucket_id_cmp k l ≡ Less → same_bucket_id k m ≡ true → same_bucket_id l m ≡ false
@@ -175,12 +173,6 @@ module _ {X A : Type 0} (id : X → Bucket) (weight : X → ℤ) (V : X → List
         value = same;
         sized = subst (λ a. IsSized (λ _. weight f.of) (amounts a) m) f.is (subst (λ o. IsSomeAnd o (λ x. IsSized (λ _. weight x) (amounts b) m)) f.found sized);
       }
-
-  abbrev Whole : Type 0
-  Whole = BucketId × BucketMargin
-
-  abbrev ids : List Whole → List BucketId
-  ids parts = map (λ part. part.0) parts
 
   abbrev has : List BucketId → Bucket → Bool
   has ks b = list_any (λ k. same_bucket_id k (bucket_id_of b)) ks

@@ -24,7 +24,7 @@ total-filter t f (x ∷ xs) = by (t x) (total-filter t f xs)
     by true i = ap (λ z. f x +ℤ z) i
     by false i = i ∙ sym (+ℤ_idl (total_by (λ y. if t y then f y else pos 0) xs))
 
-alike_filter : {X : Type 0} (t : X → Bool) (xs ys : List X) → Alike xs ys → Alike (filter t xs) (filter t ys)
+pub alike_filter : {X : Type 0} (t : X → Bool) (xs ys : List X) → Alike xs ys → Alike (filter t xs) (filter t ys)
 alike_filter t xs ys same = λ f. total-filter t f xs ∙ same (λ x. if t x then f x else pos 0) ∙ sym (total-filter t f ys)
 
 pub alike_map : {X Y : Type 0} (g : X → Y) (xs ys : List X) → Alike xs ys → Alike (map g xs) (map g ys)
@@ -33,7 +33,7 @@ alike_map g xs ys same = λ f. total_by-map f g xs ∙ same (λ x. f (g x)) ∙ 
 alike_pairs : {X : Type 0} (g : X → X → ℤ) (xs ys : List X) → Alike xs ys → total_by_pairs g xs ≡ total_by_pairs g ys
 alike_pairs g xs ys same = total_by-ext (λ x. total_by (g x) xs) (λ x. total_by (g x) ys) xs (λ x. same (g x)) ∙ same (λ x. total_by (g x) ys)
 
-alike_outer : (gamma : Part Bucket → Part Bucket → ℤ) (ps qs : List (Part Bucket)) → Alike ps qs → outer same_bucket gamma ps ≡ outer same_bucket gamma qs
+pub alike_outer : (gamma : Part Bucket → Part Bucket → ℤ) (ps qs : List (Part Bucket)) → Alike ps qs → outer same_bucket gamma ps ≡ outer same_bucket gamma qs
 alike_outer gamma ps qs same =
     let pair : Part Bucket → Part Bucket → ℤ = λ b c. if same_bucket b.at c.at then pos 0 else gamma b c *ℤ (b.value).s *ℤ (c.value).s in
     ap (λ z. root_of (one *ℤ z +ℤ total_by_pairs pair ps)) (same (λ b. (b.value).k *ℤ (b.value).k))

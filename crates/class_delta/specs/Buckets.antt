@@ -1,21 +1,19 @@
--- The buckets of a class that have a factor of delta in a book, and their values.
+-- The buckets of a class that have a factor of delta in a book, and where these stand.
 -- (ISDA SIMM methodology, delta margin: aggregation within a bucket.)
-use Rattle.std.specs.Prelude.{◌≡◌, List, Bool, true, false, not, Some}
+use Rattle.std.specs.Prelude.{List, Bool, true, false, not}
 use Rattle.std.specs.List.{filter}
 use Rattle.simm_kinds.specs.declared.kinds.RiskClass.{RiskClass}
 use Rattle.simm_kinds.specs.declared.kinds.RiskClass.TheVariants as class
 use Rattle.simm_kinds.specs.declared.kinds.BucketId.{BucketId}
 use Rattle.simm_kinds.specs.declared.kinds.BucketId.TheVariants as id
 use Rattle.simm_kinds.specs.declared.key.FactorKey.{FactorKey}
-use Rattle.simm_rules.specs.declared.values.BucketMargin.{BucketMargin}
-use Rattle.simm_rules.specs.Params.{Params}
 use Rattle.factor_book.specs.declared.at.BucketAt.{BucketAt}
 use Rattle.factor_book.specs.declared.at.ClassAt.{ClassAt}
 use Rattle.factor_book.specs.declared.at.SideAt.{SideAt}
 use Rattle.factor_book.specs.declared.holding.Holding.{Holding}
+use Rattle.factor_book.specs.declared.place.Place.{Place}
 use Rattle.factor_book.specs.declared.place.BookSide.TheVariants as side
 use Rattle.factor_book.specs.Places.{buckets_on}
-use Rattle.name_delta.specs.Delta.{delta_value, IsDeltaSized}
 
 abbrev pub delta_side : ClassAt → SideAt
 delta_side at = record { product = at.product; class = at.class; side = side.Delta }
@@ -37,6 +35,10 @@ listed_buckets at factors = filter (λ b. not (is_single b)) (delta_buckets at f
 abbrev pub bucket_at : ClassAt → BucketId → BucketAt
 bucket_at at b = record { product = at.product; class = at.class; bucket = b }
 
+-- where the factors of a bucket stand
+abbrev pub delta_place : BucketAt → Place
+delta_place at = record { product = at.product; class = at.class; side = side.Delta; bucket = at.bucket }
+
 -- a class of which files list buckets
 abbrev pub IsNumbered : RiskClass → Type 0
 IsNumbered class.IR = ⊥
@@ -45,8 +47,3 @@ IsNumbered class.CreditNonQ = Unit {0}
 IsNumbered class.Equity = Unit {0}
 IsNumbered class.Commodity = Unit {0}
 IsNumbered class.FX = ⊥
-
--- a bucket with its value
-pub record IsValued (p : Params) (at : ClassAt) (factors : List (FactorKey × Holding)) (part : BucketId × BucketMargin) : Type 0 where
-  pub value : Some part.1 ≡ delta_value p (bucket_at at part.0) factors
-  pub sized : IsDeltaSized p (bucket_at at part.0) factors part.1

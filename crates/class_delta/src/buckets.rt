@@ -1,8 +1,8 @@
 //! The buckets of a class that have a factor of delta in a book.
 ghost use Rattle.std.specs.Prelude.{◌≡◌, IfOk};
-ghost use Rattle.class_delta.specs.Buckets.{delta_side, delta_buckets, listed_buckets, is_single};
+ghost use Rattle.class_delta.specs.Buckets.{delta_side, delta_buckets, is_single, bucket_at};
 
-use factor_book::{BookSide, ClassAt, Factors, SideAt};
+use factor_book::{BookSide, BucketAt, ClassAt, Factors, SideAt};
 use simm_kinds::BucketId;
 use std::alloc::{AllocError, Global};
 
@@ -22,23 +22,6 @@ pub fn delta_buckets(
     Ok(ids)
 }
 
-/// Those that files list: without that of base correlation.
-pub fn listed_buckets(
-    alloc: Global,
-    factors: &Factors,
-    at: ClassAt,
-) -> Result<Vec<BucketId>, AllocError>
-    ensures { IfOk result (λ ids. ids.items ≡ listed_buckets at factors.now) }
-{
-    let mut ids = Vec::new(alloc);
-    for (place, _) in factors.side(delta_side(at)) {
-        if !is_single(&place.bucket) {
-            ids.push(place.bucket)?;
-        }
-    }
-    Ok(ids)
-}
-
 fn delta_side(at: ClassAt) -> SideAt
     ensures { result ≡ delta_side at }
 {
@@ -49,8 +32,20 @@ fn delta_side(at: ClassAt) -> SideAt
     }
 }
 
-fn is_single(bucket: &BucketId) -> bool
+/// Whether a bucket is the single one of a class, or that of base correlation.
+pub fn is_single(bucket: &BucketId) -> bool
     ensures { result ≡ is_single bucket.now }
 {
     matches!(bucket, BucketId::Single)
+}
+
+/// A bucket of a class.
+pub fn bucket_at(at: ClassAt, bucket: BucketId) -> BucketAt
+    ensures { result ≡ bucket_at at bucket }
+{
+    BucketAt {
+        product: at.product,
+        class: at.class,
+        bucket,
+    }
 }

@@ -3,13 +3,11 @@ ghost use Rattle.book_range.specs.Bounded.{IsMarginable};
 ghost use Rattle.name_delta.specs.Values.{nets_in};
 ghost use Rattle.class_delta.specs.Class.{class_delta_of};
 
-use crate::numbered::numbered_delta;
-use crate::rates::rates_delta;
-use crate::single::currency_delta;
+use crate::over::delta_from;
+use crate::values::delta_values;
 use factor_book::{ClassAt, Factors};
 use mh_units::Cents;
 use pair_sum::Steps;
-use simm_kinds::RiskClass;
 use simm_params::Params;
 use std::alloc::{AllocError, Global};
 use std::sync::ledger::Ledger;
@@ -28,10 +26,6 @@ pub fn class_delta<L: Ledger>(
     ensures low { IfOk result (λ m. pos 0 ≤ℤ m.0) }
     ensures size { IfOk result (λ m. m.0 ≤ℤ pos (84 * 10 ^ 14)) }
 {
-    match at.class {
-        RiskClass::IR => rates_delta(alloc, params, factors, at.product, steps),
-        RiskClass::CreditQ | RiskClass::CreditNonQ | RiskClass::Equity | RiskClass::Commodity =>
-            numbered_delta(alloc, params, factors, at, steps),
-        RiskClass::FX => currency_delta(alloc, params, factors, at.product, steps),
-    }
+    let parts = delta_values(alloc, params, factors, at, steps)?;
+    delta_from(alloc, params, at, parts.as_slice())
 }

@@ -1,16 +1,22 @@
 //! Margins of one bucket: foreign exchange, and base correlation.
-ghost use Rattle.std.specs.Prelude.{◌≡◌, ◌*◌, ◌^◌, IfOk, pos, ◌≤ℤ◌};
+ghost use Rattle.std.specs.Prelude.{◌≡◌, ◌*◌, ◌^◌, List, IfOk, pos, ◌≤ℤ◌};
+ghost use Rattle.simm_kinds.specs.declared.key.FactorKey.{FactorKey};
+ghost use Rattle.simm_kinds.specs.declared.kinds.RiskClass.TheVariants as class;
 ghost use Rattle.simm_rules.specs.BaseCorrelation.{base_margin};
-ghost use Rattle.simm_rules.specs.ForeignExchange.{fx_delta};
+ghost use Rattle.factor_book.specs.declared.holding.Holding.{Holding};
 ghost use Rattle.book_range.specs.Bounded.{IsMarginable};
 ghost use Rattle.name_delta.specs.Values.{nets_in};
+ghost use Rattle.class_delta.specs.Class.{class_delta_of};
+ghost use Rattle.class_delta.specs.Delta.{AreDeltaParts, AreBookDeltas, single_k};
 
-use factor_book::{BucketAt, Factors, factors_are_netted};
+use crate::buckets::is_single;
+use factor_book::{ClassAt, Factors, factors_are_netted};
 use mh_units::Cents;
-use name_delta::{base_corr, bucket};
+use name_delta::base_corr;
 use pair_sum::Steps;
-use simm_kinds::{BucketId, ProductClass, RiskClass};
+use simm_kinds::{BucketId, ProductClass};
 use simm_params::Params;
+use simm_rules::BucketMargin;
 use std::alloc::{AllocError, Global};
 use std::sync::ledger::Ledger;
 
@@ -34,27 +40,41 @@ pub fn base_correlation<L: Ledger>(
     Ok(Cents(value.k))
 }
 
-/// The delta margin of foreign exchange in a product class, in cents: that of the one bucket of its currencies. The factors are
-/// those of a book in range. Want of memory is the only error.
-pub fn currency_delta<L: Ledger>(
-    alloc: Global,
-    params: &Params,
-    factors: &Factors,
-    product: ProductClass,
-    steps: &mut Steps<L>,
-) -> Result<Cents, AllocError>
-    requires { IsMarginable params.now factors.now }
-    ensures value { IfOk result (λ m. m.0 ≡ fx_delta params.now (nets_in product factors.now)) }
-    ensures low { IfOk result (λ m. pos 0 ≤ℤ m.0) }
-    ensures size { IfOk result (λ m. m.0 ≤ℤ pos (4 * 10 ^ 15)) }
+/// The base correlation margin of credit that qualifies in a product class, in cents, over the values of the buckets of the
+/// class on the side of delta, as `delta_from` takes them: the margin of the bucket of base correlation, 0 where it has no factor.
+pub fn base_from(params: &Params, at: ClassAt, parts: &[(BucketId, BucketMargin)]) -> Cents
+    requires class { at.class ≡ class.CreditQ }
+    requires parts { AreBookDeltas params.now at parts.now }
+    ensures value { (factors : List (FactorKey × Holding)) → IsMarginable params.now factors → AreDeltaParts params.now at factors parts.now
+        → result.0 ≡ base_margin params.now (nets_in at.product factors) }
+    ensures low { pos 0 ≤ℤ result.0 }
+    ensures size { result.0 ≤ℤ pos (10 ^ 14) }
 {
     params.facts();
     factors_are_netted();
-    let at = BucketAt {
-        product,
-        class: RiskClass::FX,
-        bucket: BucketId::Single,
-    };
-    let value = bucket(alloc, params, factors, at, steps)?;
-    Ok(Cents(value.k))
+    Cents(single_margin(parts))
+}
+
+/// The delta margin of foreign exchange in a product class, in cents.
+pub fn currencies_from(params: &Params, at: ClassAt, parts: &[(BucketId, BucketMargin)]) -> Cents
+    requires class { at.class ≡ class.FX }
+    requires parts { AreBookDeltas params.now at parts.now }
+    ensures value { (factors : List (FactorKey × Holding)) → IsMarginable params.now factors → AreDeltaParts params.now at factors parts.now
+        → result.0 ≡ class_delta_of params.now (nets_in at.product factors) at.class }
+    ensures low { pos 0 ≤ℤ result.0 }
+    ensures size { result.0 ≤ℤ pos (4 * 10 ^ 15) }
+{
+    params.facts();
+    factors_are_netted();
+    Cents(single_margin(parts))
+}
+
+/// The margin of the single bucket, in cents; 0 where there is none.
+pub fn single_margin(parts: &[(BucketId, BucketMargin)]) -> i128
+    ensures { result ≡ single_k parts.now }
+{
+    parts
+        .iter()
+        .find(|part| is_single(&part.0))
+        .map_or(0, |part| part.1.k)
 }

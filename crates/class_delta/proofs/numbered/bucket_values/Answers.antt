@@ -1,7 +1,0 @@
-use Rattle.class_delta.proofs.Valued.{value_next}
-use Rattle.class_delta.proofs.numbered.bucket_values.Goals as goal
-
-pub loop-id-preserved : goal.loop-id-preserved
-loop-id-preserved g c =
-    value_next c.args.params.now c.args.at c.args.factors.now c.deref-id-items.result.now c.loop-id.id-index c.id-item.result c.in_ok-value.value c.bucket_at.result c.loop-id.parts.items c.push.new.self.items
-    c.loop-id-test.true c.id-item.is c.bucket_at.ensures c.in_ok-value.ensures.value c.in_ok-value.ensures.sizes c.loop-id.invariant c.in_ok-push.ensures.items
