@@ -54,6 +54,10 @@ module _ {A : Type 0} (f : A → ℤ) where
   pub adds_range : (whole : ℤ) (left : List A) (sum : ℤ) → whole ≤ℤ pos (2 * 10 ^ 20) → Adds whole left sum → IsAddOn sum
   adds_range whole left sum small h = record { low = h.low; size = omega (arith, ints, adds_most whole left sum h, small) }
 
+  -- with nothing left the sum is the whole
+  pub adds_end : (whole : ℤ) (left : List A) (sum : ℤ) → left ≡ [] → Adds whole left sum → sum ≡ whole
+  adds_end whole left sum none h = omega (arith, ints, h.value, ap (total_by f) none)
+
   pub next_adds : (whole : ℤ) (all : List A) (x : A) (left : List A) (sum : ℤ) → all ≡ x ∷ left → Adds whole all sum → Adds whole left (sum +ℤ f x)
   next_adds whole all x left sum are h = adds_next whole x left sum (adds_along whole all (x ∷ left) sum sum are refl h)
 

@@ -13,6 +13,7 @@ use Rattle.simm_rules.specs.Risks.{Amount}
 use Rattle.simm_rules.specs.Sums.{total_by}
 use Rattle.simm_rules.specs.AddOns.{fixed_amount, fixed_amounts, notional, notional_factor, notional_of}
 use Rattle.class_combine.specs.Notionals.{notional_in, IsFactor}
+use Rattle.class_combine.specs.Whole.{IsAddOn}
 use Rattle.class_combine.proofs.Adding.{AreLow, Adds, adds_start, total_low, total_most, total-flat_map}
 
 -- what holds of each row in range holds of each row of a list in range
@@ -28,14 +29,14 @@ sum_most f rows few each =
 
 -- ---- fixed amounts
 
-fixed_low : (r : CrifRow) → is_in_range r ≡ true → pos 0 ≤ℤ fixed_amount r
+pub fixed_low : (r : CrifRow) → is_in_range r ≡ true → pos 0 ≤ℤ fixed_amount r
 fixed_low (row.Sensitivity key amount) h = omega (arith, ints)
 fixed_low (row.Notional qualifier amount) h = omega (arith, ints)
 fixed_low (row.FixedAmount amount) h = le_from (pos 0) amount.0 (and_parts (int_le (pos 0) amount.0) (is_amount amount.0) h).0
 fixed_low (row.NotionalFactor qualifier factor) h = omega (arith, ints)
 fixed_low (row.Multiplier product factor) h = omega (arith, ints)
 
-fixed_most : (r : CrifRow) → is_in_range r ≡ true → fixed_amount r ≤ℤ pos (10 ^ 15)
+pub fixed_most : (r : CrifRow) → is_in_range r ≡ true → fixed_amount r ≤ℤ pos (10 ^ 15)
 fixed_most (row.Sensitivity key amount) h = omega (arith, ints)
 fixed_most (row.Notional qualifier amount) h = omega (arith, ints)
 fixed_most (row.FixedAmount amount) h =
@@ -46,8 +47,14 @@ fixed_most (row.Multiplier product factor) h = omega (arith, ints)
 pub fixed_each : (rows : List CrifRow) → list_all is_in_range rows ≡ true → AreLow fixed_amount rows
 fixed_each = each_row (λ r. pos 0 ≤ℤ fixed_amount r) fixed_low
 
-pub fixed_small : (rows : List CrifRow) → length rows ≤ 200000 → list_all is_in_range rows ≡ true → fixed_amounts rows ≤ℤ pos (2 * 10 ^ 20)
+pub fixed_sum_low : (rows : List CrifRow) → list_all is_in_range rows ≡ true → pos 0 ≤ℤ fixed_amounts rows
+fixed_sum_low rows h = total_low fixed_amount rows (fixed_each rows h)
+
+fixed_small : (rows : List CrifRow) → length rows ≤ 200000 → list_all is_in_range rows ≡ true → fixed_amounts rows ≤ℤ pos (2 * 10 ^ 20)
 fixed_small rows few h = sum_most fixed_amount rows few (each_row (λ r. fixed_amount r ≤ℤ pos (10 ^ 15)) fixed_most rows h)
+
+pub fixed_range : (rows : List CrifRow) → length rows ≤ 200000 → list_all is_in_range rows ≡ true → IsAddOn (fixed_amounts rows)
+fixed_range rows few h = record { low = fixed_sum_low rows h; size = omega (arith, ints, fixed_small rows few h) }
 
 -- ---- notionals
 
@@ -109,7 +116,7 @@ notional_small rows name few h = omega (arith, ints, kept_le (λ a. same_name a.
 
 -- ---- factors
 
-factor_row : (r : CrifRow) → is_in_range r ≡ true → AllByRecursion (λ f. IsFactor f.amount) (notional_factor r)
+pub factor_row : (r : CrifRow) → is_in_range r ≡ true → AllByRecursion (λ f. IsFactor f.amount) (notional_factor r)
 factor_row (row.Sensitivity key amount) h = tt
 factor_row (row.Notional qualifier amount) h = tt
 factor_row (row.FixedAmount amount) h = tt

@@ -1,8 +1,10 @@
 pub mod Products
 pub mod Totals
-pub mod Lending
 pub mod Adding
 pub mod InRange
-pub mod Keyed
+pub mod Tables
+pub mod Held
+pub mod Sizes
+pub mod Rows
 pub mod Shares
 pub mod Multiplying

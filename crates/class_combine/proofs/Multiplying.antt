@@ -1,6 +1,6 @@
 -- The multiplier of a product class, row by row.
 use Rattle.std.proofs.Common.{◌≡◌, ◌^◌, ◌*◌, ◌≤◌, List, ◌∷◌, Bool, true, false, refl, sym, subst, ◌∙◌, ℤ, pos, negsuc, ◌+ℤ◌, ◌-ℤ◌, ◌*ℤ◌, ◌≤ℤ◌, unsigned_abs, FitsSigned, arith, lit≤}
-use Rattle.std.specs.List.{list_all}
+use Rattle.std.specs.List.{flat_map, list_all}
 use Rattle.std.specs.Option.{unwrap_or}
 use Rattle.std.specs.Int.{w128}
 use Rattle.std.proofs.lemmas.Int.{ints}
@@ -12,9 +12,12 @@ use Rattle.simm_kinds.specs.declared.row.CrifRow.{CrifRow}
 use Rattle.simm_kinds.specs.declared.row.CrifRow.TheVariants as row
 use Rattle.simm_kinds.specs.Batch.{is_in_range}
 use Rattle.simm_kinds.specs.Order.{same_product}
-use Rattle.simm_rules.specs.AddOns.{multiplier_of}
+use Rattle.simm_rules.specs.AddOns.{multiplier, multiplier_of}
+use Rattle.simm_rules.specs.Simm.{products}
+use Rattle.simm_rules.specs.Sums.{total_by}
+use Rattle.class_combine.specs.declared.multipliers.ProductAmounts.{ProductAmounts}
 use Rattle.class_combine.specs.Classes.{IsProductMargin}
-use Rattle.class_combine.specs.Multipliers.{multiplier_at, IsMultiplier, IsMultiplied}
+use Rattle.class_combine.specs.Multipliers.{amount_in, multiplied_in, multiplier_at, IsMultiplier, IsMultiplied}
 use Rattle.class_combine.specs.Whole.{IsAddOn}
 use Rattle.class_combine.proofs.Products.{passed, plus, added}
 
@@ -33,6 +36,13 @@ first_of product (row.Multiplier of factor) rows = at (same_product of product) 
 pub record Searched (product : ProductClass) (rows left : List CrifRow) : Type 0 where
   pub value : multiplier_of left product ≡ multiplier_of rows product
   pub ranged : list_all is_in_range left ≡ true
+
+-- rows with the same multipliers, in their order
+pub same_multipliers : (xs ys : List CrifRow) (m : ProductAmounts) → flat_map multiplier xs ≡ flat_map multiplier ys → multiplied_in xs m ≡ multiplied_in ys m
+same_multipliers xs ys m e = λ i. total_by (λ product. up ((same product i -ℤ pos 10000) *ℤ (amount_in m product).0) (pos 10000)) products
+  where
+    same : (product : ProductClass) → multiplier_of xs product ≡ multiplier_of ys product
+    same product = rw e refl
 
 -- ---- what a multiplier adds
 

@@ -4,8 +4,9 @@ use Rattle.std.proofs.Common.{◌≡◌, ℕ, zero, suc, ◌+◌, ◌*◌, ◌^�
 use Rattle.std.specs.Int.{w64, w128}
 use Rattle.std.specs.List.{flat_map, list_any, list_all, AllByRecursion}
 use Rattle.std.proofs.lemmas.Bool.{or_parts}
-use Rattle.std.proofs.lemmas.Int.{ints, fits_signed_from_abs, to_z_pos}
-use Rattle.std.proofs.lemmas.List.{map-append, drop_more}
+use Rattle.std.proofs.lemmas.Int.{ints, fits_signed_from_abs}
+use Rattle.std.proofs.lemmas.List.{map-append}
+use Rattle.mh_units.specs.declared.quantities.Rate4.{Rate4}
 use Rattle.mh_units.specs.Rounding.{up}
 use Rattle.mh_units.proofs.Integers.{same64, same128, mul-le_ℤ, product_size}
 use Rattle.mh_units.proofs.Roundings.{up_is, up_size}
@@ -17,11 +18,14 @@ use Rattle.simm_kinds.specs.Repeats.{repeats}
 use Rattle.simm_rules.specs.Risks.{Amount}
 use Rattle.simm_rules.specs.Sums.{total_by}
 use Rattle.simm_rules.specs.AddOns.{notional, notional_factor, notional_of, notional_add_on}
-use Rattle.class_combine.specs.declared.notional.LentFactor.{LentFactor}
-use Rattle.class_combine.specs.Notionals.{factor_of, factors_of, share_of, IsFactor}
-use Rattle.class_combine.proofs.Adding.{AreLow, totals_le, total-add}
-use Rattle.class_combine.proofs.InRange.{size_of, notionals_small, notional_low, factors_each}
-use Rattle.class_combine.proofs.Keyed.{same_name-equal}
+use Rattle.class_combine.specs.declared.sums.AddOnSums.{AddOnSums}
+use Rattle.class_combine.specs.Notionals.{share_in, share_of, size_at, AreSizes, IsFactor, IsNotional}
+use Rattle.class_combine.specs.Summed.{size_in}
+use Rattle.class_combine.specs.Sums.{sums_of, AreOfBook, StandFor}
+use Rattle.class_combine.proofs.Adding.{Adds, adds_start, totals_le, total-add, total-flat_map}
+use Rattle.class_combine.proofs.InRange.{each_row, factor_row, size_of, notionals_small, notional_low, notional_small, factors_each}
+use Rattle.class_combine.proofs.Tables.{same_name-equal}
+use Rattle.class_combine.proofs.Held.{get-notionals, size_in-sum}
 use Rattle.class_combine.proofs.Products.{passed}
 
 -- ---- one share
@@ -42,26 +46,30 @@ share_low (pos a) (pos n) h low = omega (arith, ints, (up_is (pos a *ℤ pos n) 
 share_low (pos a) (negsuc n) h low = absurd low.le
 share_low (negsuc a) n h low = absurd (h.low).le
 
--- a share as the code builds it, of a factor a and a notional m that are passed on as f and n
-pub record Share (a f : ℤ) (m n : ℕ) : Type 0 where
-  pub cast : FitsSigned w128 (pos n)
-  pub fits : FitsSigned w128 (passed f *ℤ to_z w128 n)
-  pub value : passed (up (passed (passed f *ℤ to_z w128 n)) (pos 1000000)) ≡ up (a *ℤ pos m) (pos 1000000)
+notional_size : (n : ℤ) → IsNotional n → unsigned_abs n ≤ 2 * 10 ^ 20
+notional_size n h = omega (arith, ints, h.low, h.most)
 
-pub share : (a f : ℤ) (m n : ℕ) → IsFactor a → m ≤ 2 * 10 ^ 20 → f ≡ to_z w64 (of_z w64 a) → n ≡ m → Share a f m n
-share a f m n h most is there =
-    let small : n ≤ 2 * 10 ^ 20 = subst (λ k. k ≤ 2 * 10 ^ 20) (sym there) most in
+-- a notional as it is passed on
+pub passed_notional : (n size : ℤ) → n ≡ size → IsNotional size → passed n ≡ size
+passed_notional n size is h = ap passed is ∙ same128 size (fits_signed_from_abs w128 size (omega (arith, notional_size size h)))
+
+-- a share as the code builds it, of a factor a that is passed on as f, and of a notional
+pub record Share (a f n : ℤ) : Type 0 where
+  pub fits : FitsSigned w128 (passed f *ℤ passed n)
+  pub value : passed (up (passed (passed f *ℤ passed n)) (pos 1000000)) ≡ up (a *ℤ n) (pos 1000000)
+
+pub share : (a f n : ℤ) → IsFactor a → IsNotional n → f ≡ to_z w64 (of_z w64 a) → Share a f n
+share a f n h k is =
     let f_is : f ≡ a = is ∙ same64 a (fits_signed_from_abs w64 a (omega (arith, factor_size a h))) in
-    let n_is : to_z w128 n ≡ pos n = to_z_pos w128 n (omega (arith, small)) in
-    let product_is : passed f *ℤ to_z w128 n ≡ a *ℤ pos n =
-    ap (λ z. passed z *ℤ to_z w128 n) f_is ∙ ap (λ z. z *ℤ to_z w128 n) (same128 a (fits_signed_from_abs w128 a (omega (arith, factor_size a h)))) ∙ ap (λ z. a *ℤ z) n_is in
-    let size : unsigned_abs (a *ℤ pos n) ≤ 1000000 * (2 * 10 ^ 20) = product_size a (pos n) 1000000 (2 * 10 ^ 20) (factor_size a h) small in
-    let fits = fits_signed_from_abs w128 (a *ℤ pos n) (omega (arith, size)) in
-    let quotient = fits_signed_from_abs w128 (up (a *ℤ pos n) (pos 1000000)) (omega (arith, size, up_size (a *ℤ pos n) (pos 1000000) (omega (arith, ints)))) in
+    let n_is : passed n ≡ n = passed_notional n n refl k in
+    let product_is : passed f *ℤ passed n ≡ a *ℤ n =
+    ap (λ z. passed z *ℤ passed n) f_is ∙ ap (λ z. z *ℤ passed n) (same128 a (fits_signed_from_abs w128 a (omega (arith, factor_size a h)))) ∙ ap (λ z. a *ℤ z) n_is in
+    let size : unsigned_abs (a *ℤ n) ≤ 1000000 * (2 * 10 ^ 20) = product_size a n 1000000 (2 * 10 ^ 20) (factor_size a h) (notional_size n k) in
+    let fits = fits_signed_from_abs w128 (a *ℤ n) (omega (arith, size)) in
+    let quotient = fits_signed_from_abs w128 (up (a *ℤ n) (pos 1000000)) (omega (arith, size, up_size (a *ℤ n) (pos 1000000) (omega (arith, ints)))) in
     record {
-      cast = fits_signed_from_abs w128 (pos n) (omega (arith, small));
       fits = subst (FitsSigned w128) (sym product_is) fits;
-      value = ap (λ z. passed (up (passed z) (pos 1000000))) product_is ∙ ap (λ z. passed (up z (pos 1000000))) (same128 (a *ℤ pos n) fits) ∙ same128 (up (a *ℤ pos n) (pos 1000000)) quotient ∙ ap (λ k. up (a *ℤ pos k) (pos 1000000)) there;
+      value = ap (λ z. passed (up (passed z) (pos 1000000))) product_is ∙ ap (λ z. passed (up z (pos 1000000))) (same128 (a *ℤ n) fits) ∙ same128 (up (a *ℤ n) (pos 1000000)) quotient;
     }
 
 -- ---- each qualifier once
@@ -140,13 +148,6 @@ module _ (rows : List CrifRow) where
   shares_le [] h = tt
   shares_le (f ∷ factors) h = (share_most f.amount (notional_of rows f.of) h.0 (notional_low rows f.of), shares_le factors h.1)
 
-  shares_low : (factors : List (Amount (List ℕ))) → AllByRecursion (λ f. IsFactor f.amount) factors → AreLow (share_of (notional_of rows)) factors
-  shares_low [] h = tt
-  shares_low (f ∷ factors) h = (share_low f.amount (notional_of rows f.of) h.0 (notional_low rows f.of), shares_low factors h.1)
-
-  pub shares_each : list_all is_in_range rows ≡ true → AreLow (share_of (notional_of rows)) (flat_map notional_factor rows)
-  shares_each amounts = shares_low (flat_map notional_factor rows) (factors_each rows amounts)
-
   -- no more than all notionals
   pub add_on_small : length rows ≤ 200000 → list_all is_in_range rows ≡ true → repeats same_name (flat_map factor_names rows) ≡ false → notional_add_on rows ≤ℤ pos (2 * 10 ^ 20)
   add_on_small few amounts once =
@@ -160,12 +161,41 @@ module _ (rows : List CrifRow) where
         notionals_small rows few amounts,
       )
 
--- ---- the factors as they are lent
+-- ---- by the sums and the parameters of a book
 
-pub next_factor : (factors : List LentFactor) (i : ℕ) (f : LentFactor) → i < length factors → f ≡ get_or factors i f → factors_of (drop i factors) ≡ factor_of f ∷ factors_of (drop (i + 1) factors)
-next_factor factors i f within is = ap factors_of (drop_more factors i f within) ∙ ap (λ x. factor_of x ∷ factors_of (drop (i + 1) factors)) (sym is)
+pub row_share : (notionals : List ℕ → ℤ) (q : List ℕ) (factor : Rate4) (n : ℤ) (r : CrifRow) → r ≡ row.NotionalFactor q factor → n ≡ notionals q → up (factor.0 *ℤ n) (pos 1000000) ≡ share_in notionals r
+row_share notionals q factor n r is there =
+    ap (λ z. up (factor.0 *ℤ z) (pos 1000000)) there ∙ alone (up (factor.0 *ℤ notionals q) (pos 1000000)) ∙ ap (share_in notionals) (sym is)
+  where
+    alone : (z : ℤ) → z ≡ z +ℤ pos 0
+    alone z = omega (arith, ints)
 
-pub factor_at : (factors : List LentFactor) (i : ℕ) (f : LentFactor) → i < length factors → f ≡ get_or factors i f → AllByRecursion (λ a. IsFactor a.amount) (factors_of factors) → IsFactor f.factor.0
-factor_at [] i f within is all = absurd (omega arith)
-factor_at (g ∷ factors) zero f within is all = subst (λ (x : LentFactor). IsFactor x.factor.0) (sym is) all.0
-factor_at (g ∷ factors) (suc i) f within is all = factor_at factors i f (omega arith) is all.1
+module _ (sums : AddOnSums) (parameters : List CrifRow) where
+  abbrev sizes : List ℕ → ℤ
+  sizes = size_at sums.notionals
+
+  size_is : (held : List CrifRow) → sums ≡ sums_of held → (name : List ℕ) → sizes name ≡ notional_of held name
+  size_is held are name = ap (λ (s : AddOnSums). size_at s.notionals name) are ∙ ap size_in (get-notionals held name) ∙ size_in-sum held name
+
+  pub whole_is : (held : List CrifRow) → StandFor sums parameters held → total_by (share_in sizes) parameters ≡ notional_add_on held
+  whole_is held stand =
+      sym (total-flat_map (share_of sizes) notional_factor parameters) ∙ ap (total_by (share_of sizes)) stand.factors
+      ∙ total-same (share_of sizes) (share_of (notional_of held)) (λ f. ap (λ n. up (f.amount *ℤ n) (pos 1000000)) (size_is held stand.are f.of)) (flat_map notional_factor held)
+
+  module _ (book : AreOfBook sums parameters) where
+    pub are_sizes : AreSizes sums.notionals
+    are_sizes name =
+        subst IsNotional (sym (size_is book.held (book.stand).are name)) record { low = notional_low book.held name; most = notional_small book.held name book.few book.amounts }
+
+    row_low : (r : CrifRow) → is_in_range r ≡ true → pos 0 ≤ℤ share_in sizes r
+    row_low (row.Sensitivity key amount) h = omega (arith, ints)
+    row_low (row.Notional q amount) h = omega (arith, ints)
+    row_low (row.FixedAmount amount) h = omega (arith, ints)
+    row_low (row.NotionalFactor q factor) h = omega (arith, ints, share_low factor.0 (sizes q) (factor_row (row.NotionalFactor q factor) h).0 (are_sizes q).low)
+    row_low (row.Multiplier product factor) h = omega (arith, ints)
+
+    pub shares_start : Adds (share_in sizes) (total_by (share_in sizes) parameters) parameters (pos 0)
+    shares_start = adds_start (share_in sizes) parameters (each_row (λ r. pos 0 ≤ℤ share_in sizes r) row_low parameters book.ranged)
+
+    pub whole_small : total_by (share_in sizes) parameters ≤ℤ pos (2 * 10 ^ 20)
+    whole_small = subst (λ z. z ≤ℤ pos (2 * 10 ^ 20)) (sym (whole_is book.held book.stand)) (add_on_small book.held book.few book.amounts book.once)

@@ -1,5 +1,6 @@
-pub mod Lent
 pub mod Classes
 pub mod Whole
 pub mod Multipliers
+pub mod Summed
 pub mod Notionals
+pub mod Sums

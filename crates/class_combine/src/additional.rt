@@ -1,19 +1,15 @@
-ghost use Rattle.std.specs.Prelude.{◌≡◌, ◌≤◌, false, true, length, IfOk};
-ghost use Rattle.std.specs.List.{flat_map, list_all};
-ghost use Rattle.simm_kinds.specs.Batch.{factor_names, is_in_range};
-ghost use Rattle.simm_kinds.specs.Order.{same_name};
-ghost use Rattle.simm_kinds.specs.Repeats.{repeats};
+ghost use Rattle.std.specs.Prelude.{◌≡◌, List};
+ghost use Rattle.simm_kinds.specs.declared.row.CrifRow.{CrifRow as Row};
 ghost use Rattle.simm_rules.specs.AddOns.{fixed_amounts, notional_add_on};
-ghost use Rattle.class_combine.specs.Lent.{all_rows};
 ghost use Rattle.class_combine.specs.Multipliers.{multiplied_in, AreProductMargins};
+ghost use Rattle.class_combine.specs.Sums.{AreOfBook, StandFor};
 ghost use Rattle.class_combine.specs.Whole.{AreAddOns};
 
-use crate::fixed::fixed_amounts;
-use crate::lent::LentRows;
 use crate::multipliers::{ProductAmounts, multiplied_margins};
 use crate::notional::notional_add_on;
+use crate::sums::AddOnSums;
 use mh_units::Cents;
-use std::alloc::{AllocError, Global};
+use simm_kinds::CrifRow;
 
 /// The additional margins of a book.
 #[derive(Clone, Copy, Debug, PartialEq, Eq)]
@@ -26,25 +22,20 @@ pub struct AddOns {
     pub multiplier: Cents,
 }
 
-/// The additional margins of a book whose product classes have these margins. Want of memory is the only error, and a book
-/// without notional factors takes none.
-pub fn add_ons(
-    alloc: Global,
-    lent: &[LentRows],
-    margins: &ProductAmounts,
-) -> Result<AddOns, AllocError>
-    requires few { length (all_rows lent.now) ≤ 200000 }
-    requires amounts { list_all is_in_range (all_rows lent.now) ≡ true }
-    requires once { repeats same_name (flat_map factor_names (all_rows lent.now)) ≡ false }
+/// The additional margins of a book whose product classes have these margins: by the sums of its rows, and by its parameters, the
+/// rows of the trade without a name, which has all factors of notionals and all multipliers. It takes no memory, and costs the
+/// parameters, each the logarithm of the number of qualifiers.
+pub fn add_ons(sums: &AddOnSums, parameters: &[CrifRow], margins: &ProductAmounts) -> AddOns
+    requires book { AreOfBook sums.now parameters.now }
     requires margins { AreProductMargins margins.now }
-    ensures fixed { IfOk result (λ a. a.fixed.0 ≡ fixed_amounts (all_rows lent.now)) }
-    ensures notional { IfOk result (λ a. a.notional.0 ≡ notional_add_on (all_rows lent.now)) }
-    ensures multiplier { IfOk result (λ a. a.multiplier.0 ≡ multiplied_in (all_rows lent.now) margins.now) }
-    ensures range { IfOk result AreAddOns }
+    ensures fixed { (held : List Row) → StandFor sums.now parameters.now held → result.fixed.0 ≡ fixed_amounts held }
+    ensures notional { (held : List Row) → StandFor sums.now parameters.now held → result.notional.0 ≡ notional_add_on held }
+    ensures multiplier { (held : List Row) → StandFor sums.now parameters.now held → result.multiplier.0 ≡ multiplied_in held margins.now }
+    ensures range { AreAddOns result }
 {
-    Ok(AddOns {
-        fixed: fixed_amounts(lent),
-        notional: notional_add_on(alloc, lent)?,
-        multiplier: multiplied_margins(lent, margins),
-    })
+    AddOns {
+        fixed: sums.fixed(),
+        notional: notional_add_on(sums, parameters),
+        multiplier: multiplied_margins(parameters, margins),
+    }
 }

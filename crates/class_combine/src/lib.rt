@@ -1,18 +1,19 @@
-//! From the margins of the risk classes to a whole margin: the product classes' margins, the add-ons, and the total. Only the
-//! add-on of notional factors takes memory, where a book has such factors.
+//! From the margins of the risk classes to a whole margin: the product classes' margins, the add-ons, and the total. Add-ons
+//! come from sums that are kept as rows come and go, and only a new qualifier takes memory.
 //! (ISDA SIMM methodology, structure: risk classes within a product class; additional margins.)
 #![tactic(auto)]
 
 mod additional;
-mod fixed;
-mod lent;
 mod multipliers;
 mod notional;
+mod notional_sum;
+mod notionals;
 mod product;
+mod sums;
 mod whole;
 
 pub use additional::{AddOns, add_ons};
-pub use lent::LentRows;
 pub use multipliers::ProductAmounts;
 pub use product::product_margin;
+pub use sums::AddOnSums;
 pub use whole::{ProductClasses, breakdown, product_margins};

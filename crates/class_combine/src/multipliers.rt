@@ -4,11 +4,9 @@ ghost use Rattle.std.specs.List.{list_all};
 ghost use Rattle.simm_kinds.specs.Batch.{is_in_range};
 ghost use Rattle.simm_rules.specs.AddOns.{multiplied, multiplier_of};
 ghost use Rattle.class_combine.specs.Classes.{IsProductMargin};
-ghost use Rattle.class_combine.specs.Lent.{all_rows};
 ghost use Rattle.class_combine.specs.Multipliers.{multiplier_at, multiplied_in, AreProductMargins, IsMultiplied, IsMultiplier};
 ghost use Rattle.class_combine.specs.Whole.{IsAddOn};
 
-use crate::lent::LentRows;
 use mh_units::{Cents, Rate4, div_up};
 use simm_kinds::{CrifRow, ProductClass};
 
@@ -25,42 +23,40 @@ pub struct ProductAmounts {
     pub commodity: Cents,
 }
 
-/// What the multipliers of a book add to the margins of its product classes, in cents.
-pub fn multiplied_margins(lent: &[LentRows], margins: &ProductAmounts) -> Cents
-    requires amounts { list_all is_in_range (all_rows lent.now) ≡ true }
+/// What the multipliers among the parameters of a book add to the margins of its product classes, in cents.
+pub fn multiplied_margins(parameters: &[CrifRow], margins: &ProductAmounts) -> Cents
+    requires amounts { list_all is_in_range parameters.now ≡ true }
     requires margins { AreProductMargins margins.now }
-    ensures value { result.0 ≡ multiplied_in (all_rows lent.now) margins.now }
+    ensures value { result.0 ≡ multiplied_in parameters.now margins.now }
     ensures range { IsAddOn result.0 }
 {
-    let rates_fx = multiplied(lent, ProductClass::RatesFX, margins.rates_fx);
-    let credit = multiplied(lent, ProductClass::Credit, margins.credit);
-    let equity = multiplied(lent, ProductClass::Equity, margins.equity);
-    let commodity = multiplied(lent, ProductClass::Commodity, margins.commodity);
+    let rates_fx = multiplied(parameters, ProductClass::RatesFX, margins.rates_fx);
+    let credit = multiplied(parameters, ProductClass::Credit, margins.credit);
+    let equity = multiplied(parameters, ProductClass::Equity, margins.equity);
+    let commodity = multiplied(parameters, ProductClass::Commodity, margins.commodity);
     Cents(rates_fx.0 + credit.0 + equity.0 + commodity.0)
 }
 
 // What the multiplier of a product class adds to its margin, upwards to the cent.
-fn multiplied(lent: &[LentRows], product: ProductClass, margin: Cents) -> Cents
-    requires amounts { list_all is_in_range (all_rows lent.now) ≡ true }
+fn multiplied(parameters: &[CrifRow], product: ProductClass, margin: Cents) -> Cents
+    requires amounts { list_all is_in_range parameters.now ≡ true }
     requires margin { IsProductMargin margin.0 }
-    ensures value { result.0 ≡ multiplied (all_rows lent.now) product margin.0 }
+    ensures value { result.0 ≡ multiplied parameters.now product margin.0 }
     ensures range { IsMultiplied result.0 }
 {
-    let over = i128::from(multiplier_of(lent, product).0) - 10_000;
+    let over = i128::from(multiplier_of(parameters, product).0) - 10_000;
     Cents(div_up(over * margin.0, 10_000))
 }
 
 // The multiplier of a product class, which is 1 where no row gives it.
-fn multiplier_of(lent: &[LentRows], product: ProductClass) -> Rate4
-    requires { list_all is_in_range (all_rows lent.now) ≡ true }
-    ensures value { result.0 ≡ multiplier_of (all_rows lent.now) product }
+fn multiplier_of(parameters: &[CrifRow], product: ProductClass) -> Rate4
+    requires { list_all is_in_range parameters.now ≡ true }
+    ensures value { result.0 ≡ multiplier_of parameters.now product }
     ensures range { IsMultiplier result.0 }
 {
-    for trade in lent {
-        for row in trade.rows {
-            if let Some(factor) = multiplier_at(row, product) {
-                return factor;
-            }
+    for row in parameters {
+        if let Some(factor) = multiplier_at(row, product) {
+            return factor;
         }
     }
     Rate4(10_000)

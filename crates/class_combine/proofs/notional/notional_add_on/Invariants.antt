@@ -1,9 +1,8 @@
 use Rattle.std.proofs.Common.{drop}
-use Rattle.simm_rules.specs.AddOns.{notional_add_on, notional_of}
-use Rattle.class_combine.specs.Lent.{all_rows}
-use Rattle.class_combine.specs.Notionals.{factors_of, share_of}
+use Rattle.simm_rules.specs.Sums.{total_by}
+use Rattle.class_combine.specs.Notionals.{share_in, size_at}
 use Rattle.class_combine.proofs.Adding.{Adds}
 use Rattle.class_combine.proofs.notional.notional_add_on.Given as goal
 
-abbrev pub invariant-loop-factor : goal.invariant-loop-factor
-invariant-loop-factor l = Adds (share_of (notional_of (all_rows l.lent))) (notional_add_on (all_rows l.lent)) (factors_of (drop l.factor-index l.factor-items)) l.sum
+abbrev pub invariant-loop-row : goal.invariant-loop-row
+invariant-loop-row l = Adds (share_in (size_at l.sums.notionals)) (total_by (share_in (size_at l.sums.notionals)) l.parameters) (drop l.row-index l.parameters) l.sum
