@@ -95,6 +95,9 @@ taken_before before taken after =
     (λ name. omega (arith, ints, notional-append (before ++ taken) after name, notional-append before taken name, notional-append taken (before ++ after) name, notional-append before after name))
     (λ name. omega (arith, count-append (before ++ taken) after name, count-append before taken name, count-append taken (before ++ after) name, count-append before after name))
 
+pub unmoved_sums : (before part after : List CrifRow) → sums_of (before ++ part ++ after) ≡ sums_of (before ++ after ++ part)
+unmoved_sums before part after = taken_before before part after ∙ swapped_sums part (before ++ after)
+
 -- ---- one notional more, one less
 
 abbrev sum_rows : ℤ → ℕ → Option NotionalSum

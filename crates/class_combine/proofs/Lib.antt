@@ -4,6 +4,7 @@ pub mod Adding
 pub mod InRange
 pub mod Tables
 pub mod Held
+pub mod Parameters
 pub mod Sizes
 pub mod Rows
 pub mod Shares

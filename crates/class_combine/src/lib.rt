@@ -4,6 +4,7 @@
 #![tactic(auto)]
 
 mod additional;
+mod laws;
 mod multipliers;
 mod notional;
 mod notional_sum;
@@ -13,6 +14,7 @@ mod sums;
 mod whole;
 
 pub use additional::{AddOns, add_ons};
+pub use laws::{parameters_stand_for_book, sums_ignore_order};
 pub use multipliers::ProductAmounts;
 pub use product::product_margin;
 pub use sums::AddOnSums;
