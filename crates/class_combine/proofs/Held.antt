@@ -1,9 +1,8 @@
 -- What the sums of rows are, as rows come and go.
-use Rattle.std.proofs.Common.{◌≡◌, ℕ, zero, suc, ◌+◌, ◌-◌, ◌*◌, ◌^◌, ◌<◌, ◌≤◌, List, [], ◌∷◌, ◌++◌, map, length, filter, Bool, true, false, cond, Option, Some, None, IfSome, IsSomeAnd, refl, sym, ap, ◌∙◌, subst, ℤ, pos, ◌+ℤ◌, ◌-ℤ◌, ◌≤ℤ◌, unsigned_abs, arith, length-append}
+use Rattle.std.proofs.Common.{◌≡◌, ℕ, zero, suc, ◌+◌, ◌-◌, List, [], ◌∷◌, ◌++◌, map, length, filter, Bool, true, false, cond, Option, Some, None, refl, sym, ap, ◌∙◌, ℤ, pos, ◌+ℤ◌, ◌-ℤ◌, unsigned_abs, arith, length-append}
 use Rattle.std.specs.Prelude.{◌==◌}
-use Rattle.std.specs.List.{flat_map, list_all, AllByRecursion}
-use Rattle.std.specs.FinMap.{get, find, from_entries, get-from_entries}
-use Rattle.std.proofs.lemmas.Bool.{and_parts}
+use Rattle.std.specs.List.{flat_map}
+use Rattle.std.specs.FinMap.{get, find, get-from_entries}
 use Rattle.std.proofs.lemmas.Bool.Decides.{nat_tests}
 use Rattle.std.proofs.lemmas.Cmp.{nat_list_cmp_total}
 use Rattle.std.proofs.lemmas.Grind.{flat_map-append}
@@ -11,7 +10,6 @@ use Rattle.std.proofs.lemmas.Int.{ints}
 use Rattle.std.proofs.lemmas.List.Elements.{filter-append}
 use Rattle.simm_kinds.specs.declared.row.CrifRow.{CrifRow}
 use Rattle.simm_kinds.specs.declared.row.CrifRow.TheVariants as row
-use Rattle.simm_kinds.specs.Batch.{is_in_range}
 use Rattle.simm_kinds.specs.Order.{name_cmp, same_name}
 use Rattle.mh_units.specs.declared.quantities.Cents.{Cents}
 use Rattle.simm_rules.specs.Parts.{cents}
@@ -19,12 +17,10 @@ use Rattle.simm_rules.specs.Risks.{Amount}
 use Rattle.simm_rules.specs.Sums.{total_by}
 use Rattle.simm_rules.specs.AddOns.{fixed_amount, fixed_amounts, notional, notional_of}
 use Rattle.class_combine.specs.declared.notional_sum.NotionalSum.{NotionalSum}
-use Rattle.class_combine.specs.declared.sums.AddOnSums.{AddOnSums}
 use Rattle.class_combine.specs.Summed.{grown, shrunk, size_in, with_left}
-use Rattle.class_combine.specs.Notionals.{notional_in}
 use Rattle.class_combine.specs.Sums.{count_of, sum_of, notionals_of, sums_of}
 use Rattle.class_combine.proofs.Adding.{total-append}
-use Rattle.class_combine.proofs.InRange.{size_of, by_row}
+use Rattle.class_combine.proofs.InRange.{size_of, notional_in, by_row}
 use Rattle.class_combine.proofs.Tables.{same_name-refl, same_name-equal, same_name-sym, same_table, get-left}
 
 -- what so many notionals of a size come to

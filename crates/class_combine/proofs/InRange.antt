@@ -12,7 +12,7 @@ use Rattle.simm_params.proofs.Each.{le_from}
 use Rattle.simm_rules.specs.Risks.{Amount}
 use Rattle.simm_rules.specs.Sums.{total_by}
 use Rattle.simm_rules.specs.AddOns.{fixed_amount, fixed_amounts, notional, notional_factor, notional_of}
-use Rattle.class_combine.specs.Notionals.{notional_in, IsFactor}
+use Rattle.class_combine.specs.Notionals.{IsFactor}
 use Rattle.class_combine.specs.Whole.{IsAddOn}
 use Rattle.class_combine.proofs.Adding.{AreLow, Adds, adds_start, total_low, total_most, total-flat_map}
 
@@ -86,6 +86,10 @@ notionals_small rows few h =
 filter-flat_map : {A B : Type 0} (p : B → Bool) (g : A → List B) (xs : List A) → filter p (flat_map g xs) ≡ flat_map (λ x. filter p (g x)) xs
 filter-flat_map p g [] = refl
 filter-flat_map p g (x ∷ xs) = filter-append p (g x) (flat_map g xs) ∙ ap (λ ys. filter p (g x) ++ ys) (filter-flat_map p g xs)
+
+-- the size that a row adds to the notional of a qualifier
+abbrev pub notional_in : List ℕ → CrifRow → ℤ
+notional_in name r = total_by size_of (filter (λ a. same_name a.of name) (notional r))
 
 -- the notional of a qualifier, row by row
 pub by_row : (rows : List CrifRow) (name : List ℕ) → notional_of rows name ≡ total_by (notional_in name) rows

@@ -1,5 +1,5 @@
 -- What rows do to the sums: one row, and the rows of a list one after the other.
-use Rattle.std.proofs.Common.{◌≡◌, ℕ, zero, suc, ◌+◌, ◌*◌, ◌^◌, ◌<◌, ◌≤◌, List, [], ◌∷◌, ◌++◌, length, get_or, take, drop, true, ◌&&◌, Option, Some, IfSome, IsSomeAnd, refl, sym, ap, ◌∙◌, subst, ℤ, pos, ◌+ℤ◌, ◌-ℤ◌, FitsSigned, arith, length-append}
+use Rattle.std.proofs.Common.{◌≡◌, ℕ, zero, suc, ◌+◌, ◌*◌, ◌^◌, ◌<◌, ◌≤◌, List, [], ◌∷◌, ◌++◌, length, get_or, take, drop, true, ◌&&◌, Option, Some, IfSome, IsSomeAnd, refl, sym, ap, ◌∙◌, subst, ℤ, ◌+ℤ◌, ◌-ℤ◌, FitsSigned, arith, length-append}
 use Rattle.std.specs.Int.{w128}
 use Rattle.std.specs.List.{list_all}
 use Rattle.std.specs.FinMap.{get}
@@ -16,7 +16,7 @@ use Rattle.simm_rules.specs.AddOns.{fixed_amounts}
 use Rattle.class_combine.specs.declared.notional_sum.NotionalSum.{NotionalSum}
 use Rattle.class_combine.specs.declared.sums.AddOnSums.{AddOnSums}
 use Rattle.class_combine.specs.Summed.{CanGrow, CanShrink, grown, shrunk, with_left}
-use Rattle.class_combine.specs.Sums.{notionals_of, sums_of, HasRoom, AreHeld, Holds}
+use Rattle.class_combine.specs.Sums.{sums_of, HasRoom, AreHeld, Holds}
 use Rattle.class_combine.proofs.Held.{get-notionals, fixed_more, from_nothing, notional_more, notional_less, swapped_sums, taken_before}
 use Rattle.class_combine.proofs.Products.{passed, plus, Added}
 use Rattle.class_combine.proofs.Sizes.{can_grow, can_shrink, fixed_room, fixed_less, minus, Less}

@@ -1,5 +1,5 @@
 -- How large the sums of rows are, and so what can be added to them and taken.
-use Rattle.std.proofs.Common.{◌≡◌, ℕ, zero, suc, ◌+◌, ◌*◌, ◌^◌, ◌<◌, ◌≤◌, List, [], ◌∷◌, ◌++◌, length, filter, Bool, true, false, cond, Option, Some, IfSome, IsSomeAnd, refl, sym, ap, ◌∙◌, subst, ℤ, pos, negsuc, ◌+ℤ◌, ◌-ℤ◌, ◌≤ℤ◌, unsigned_abs, FitsSigned, arith, lit≤, mul-le-mul_right}
+use Rattle.std.proofs.Common.{◌≡◌, ℕ, zero, suc, ◌+◌, ◌*◌, ◌^◌, ◌<◌, ◌≤◌, List, [], ◌∷◌, ◌++◌, length, filter, Bool, true, false, cond, IfSome, IsSomeAnd, refl, sym, ap, ◌∙◌, subst, ℤ, pos, negsuc, ◌+ℤ◌, ◌-ℤ◌, ◌≤ℤ◌, unsigned_abs, FitsSigned, arith, lit≤, mul-le-mul_right}
 use Rattle.std.specs.Int.{w128}
 use Rattle.std.specs.List.{flat_map, list_all, AllByRecursion}
 use Rattle.std.proofs.lemmas.Bool.{and_parts, leb-true}
@@ -16,7 +16,7 @@ use Rattle.class_combine.specs.Summed.{CanGrow, CanShrink}
 use Rattle.class_combine.specs.Sums.{count_of}
 use Rattle.class_combine.proofs.Adding.{total_most}
 use Rattle.class_combine.proofs.InRange.{each_row, fixed_low, fixed_most, fixed_sum_low, notional_low, size_of}
-use Rattle.class_combine.proofs.Products.{passed, plus, Added, added}
+use Rattle.class_combine.proofs.Products.{passed, Added, added}
 use Rattle.class_combine.proofs.Held.{summed, sum_at, at_key}
 
 -- ---- fixed amounts

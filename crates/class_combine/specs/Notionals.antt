@@ -1,14 +1,13 @@
 -- What factors add for the notionals of their qualifiers.
 -- (ISDA SIMM methodology, additional initial margin: factors of notionals.)
-use Rattle.std.specs.Prelude.{ℕ, ◌*◌, ◌^◌, List, ℤ, pos, ◌*ℤ◌, ◌≤ℤ◌, unsigned_abs}
-use Rattle.std.specs.List.{filter}
+use Rattle.std.specs.Prelude.{ℕ, ◌*◌, ◌^◌, List, ℤ, pos, ◌*ℤ◌, ◌≤ℤ◌}
 use Rattle.std.specs.FinMap.{FinMap, get}
 use Rattle.mh_units.specs.Rounding.{up}
 use Rattle.simm_kinds.specs.declared.row.CrifRow.{CrifRow}
-use Rattle.simm_kinds.specs.Order.{name_cmp, same_name}
+use Rattle.simm_kinds.specs.Order.{name_cmp}
 use Rattle.simm_rules.specs.Risks.{Amount}
 use Rattle.simm_rules.specs.Sums.{total_by}
-use Rattle.simm_rules.specs.AddOns.{notional, notional_factor}
+use Rattle.simm_rules.specs.AddOns.{notional_factor}
 use Rattle.class_combine.specs.declared.notional_sum.NotionalSum.{NotionalSum}
 use Rattle.class_combine.specs.Summed.{size_in}
 
@@ -23,10 +22,6 @@ share_in notionals r = total_by (share_of notionals) (notional_factor r)
 -- the notional of a qualifier, 0 where it has none
 abbrev pub size_at : FinMap name_cmp NotionalSum → List ℕ → ℤ
 size_at sums name = size_in (get sums name)
-
--- the size that a row adds to the notional of a qualifier
-abbrev pub notional_in : List ℕ → CrifRow → ℤ
-notional_in name r = total_by (λ a. pos (unsigned_abs a.amount)) (filter (λ a. same_name a.of name) (notional r))
 
 -- a factor, in percent, in ten-thousandths: 0 to 100 percent
 pub record IsFactor (factor : ℤ) : Type 0 where

@@ -1,6 +1,5 @@
 //! The add-on of notional factors.
-ghost use Rattle.std.specs.Prelude.{◌≡◌, ◌*◌, ◌^◌, List, true, pos, ◌*ℤ◌, ◌≤ℤ◌};
-ghost use Rattle.std.specs.FinMap.{get};
+ghost use Rattle.std.specs.Prelude.{◌≡◌, ◌^◌, List, true, pos, ◌*ℤ◌};
 ghost use Rattle.mh_units.specs.Rounding.{up};
 ghost use Rattle.simm_kinds.specs.declared.row.CrifRow.{CrifRow as Row};
 ghost use Rattle.simm_kinds.specs.Batch.{is_in_range};

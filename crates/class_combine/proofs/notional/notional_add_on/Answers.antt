@@ -1,4 +1,4 @@
-use Rattle.std.proofs.Common.{◌≡◌, ◌∙◌, ap, sym, subst}
+use Rattle.std.proofs.Common.{◌∙◌, ap, sym, subst}
 use Rattle.std.proofs.lemmas.List.{drop_all}
 use Rattle.class_combine.specs.Notionals.{share_in, size_at, AreSizes}
 use Rattle.class_combine.proofs.Adding.{adds_end, adds_range, next}
