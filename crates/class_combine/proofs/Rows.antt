@@ -1,5 +1,5 @@
 -- What rows do to the sums: one row, and the rows of a list one after the other.
-use Rattle.std.proofs.Common.{◌≡◌, ℕ, zero, suc, ◌+◌, ◌*◌, ◌^◌, ◌<◌, ◌≤◌, List, [], ◌∷◌, ◌++◌, length, get_or, take, drop, true, ◌&&◌, Option, Some, IfSome, IsSomeAnd, refl, sym, ap, ◌∙◌, subst, ℤ, ◌+ℤ◌, ◌-ℤ◌, FitsSigned, arith, length-append}
+use Rattle.std.proofs.Common.{◌≡◌, ℕ, zero, suc, ◌+◌, ◌*◌, ◌^◌, ◌<◌, ◌≤◌, List, [], ◌∷◌, ◌++◌, length, get_or, take, drop, true, ◌&&◌, Option, Some, IfSome, IsSomeAnd, refl, sym, ap, ◌∙◌, subst, ◌+ℤ◌, ◌-ℤ◌, FitsSigned, arith, length-append}
 use Rattle.std.specs.Int.{w128}
 use Rattle.std.specs.List.{list_all}
 use Rattle.std.specs.FinMap.{get}
