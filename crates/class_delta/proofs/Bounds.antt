@@ -29,21 +29,16 @@ use Rattle.simm_params.specs.ClassRanges.{IsCreditBucket, IsPricedBucket}
 use Rattle.simm_params.specs.Facts.{IsParams, IsCreditParams, IsPricedParams}
 use Rattle.factor_book.specs.declared.holding.Holding.{Holding}
 use Rattle.factor_book.specs.Factors.{factors_of, net_of}
-use Rattle.factor_book.specs.Places.{factors_at}
 use Rattle.book_range.specs.Bounded.{IsBounded}
 use Rattle.ir_delta.specs.Range.{IsClass}
-use Rattle.ir_delta.proofs.Lent.{rate_place, standing}
+use Rattle.ir_delta.proofs.Lent.{rate_place}
 use Rattle.ir_delta.proofs.Weights.{weight_within}
 use Rattle.name_delta.specs.Base.{base_place, indices_of, index_weight}
-use Rattle.name_delta.specs.Currencies.{as_risky, currency_place, currencies_in}
+use Rattle.name_delta.specs.Currencies.{currency_place, currencies_in}
 use Rattle.name_delta.specs.Names.{names_place, names_in}
-use Rattle.name_delta.specs.Points.{points_place, points_in, as_issuer}
+use Rattle.name_delta.specs.Points.{points_place, points_in}
 use Rattle.name_delta.specs.Values.{nets_in, IsInRange, IsSized}
-use Rattle.name_delta.proofs.Currencies.{currencies_at}
-use Rattle.name_delta.proofs.CreditPoints.{issuer_amount, points_nets}
-use Rattle.name_delta.proofs.Indices.{indices_at}
 use Rattle.name_delta.proofs.Lists.{each_weaker}
-use Rattle.name_delta.proofs.Names.{names_nets}
 use Rattle.name_delta.proofs.Sizes.{away_size_close}
 use Rattle.name_delta.proofs.Shrinking.{SizesAreNetted, nets_shrink, filter_shrinks}
 use Rattle.class_delta.proofs.Lists.{filter-length, select-length}

@@ -51,30 +51,30 @@ not_same a b h = by (same_bucket a b) refl
     by true e = absurd (omega (arith, ap bucket_slot (exact a b e)))
     by false e = e
 
-part_of_listed : (b : Bucket) (m : BucketMargin) → part_in (bucket_id_of b, m) ≡ record { at = b; value = m } ∷ []
+pub part_of_listed : (b : Bucket) (m : BucketMargin) → part_in (bucket_id_of b, m) ≡ record { at = b; value = m } ∷ []
 part_of_listed (bucket.Number n) m = refl
 part_of_listed bucket.Residual m = refl
 
 -- one that is the first of two in order is not the second
-not_later : (k l m : BucketId) → bucket_id_cmp k l ≡ Less → same_bucket_id k m ≡ true → same_bucket_id l m ≡ false
+pub not_later : (k l m : BucketId) → bucket_id_cmp k l ≡ Less → same_bucket_id k m ≡ true → same_bucket_id l m ≡ false
 not_later k l m less same =
     (eq_by_cmp_equiv id_total).symm l m ∙ ap is_eq (sym (id_total.congr k m l (is_eq-Equal _ same)) ∙ less)
 
-filter_none : {X : Type 0} (t : X → Bool) (xs : List X) → AllByRecursion (λ x. t x ≡ false) xs → filter t xs ≡ []
+pub filter_none : {X : Type 0} (t : X → Bool) (xs : List X) → AllByRecursion (λ x. t x ≡ false) xs → filter t xs ≡ []
 filter_none t [] h = refl
 filter_none t (x ∷ xs) h = ap (λ b. cond b (x ∷ filter t xs) (filter t xs)) h.0 ∙ filter_none t xs h.1
 
-never : {X : Type 0} (xs : List X) → AllByRecursion (λ x. false ≡ false) xs
+pub never : {X : Type 0} (xs : List X) → AllByRecursion (λ x. false ≡ false) xs
 never [] = tt
 never (x ∷ xs) = (refl, never xs)
 
 -- ---- sums that are not negative
 
-each_within : {X : Type 0} (f : X → ℤ) (n : ℤ) (xs : List X) → AllByRecursion (λ x. pos 0 ≤ℤ f x) xs → total_by f xs ≤ℤ n → AllByRecursion (λ x. f x ≤ℤ n) xs
+pub each_within : {X : Type 0} (f : X → ℤ) (n : ℤ) (xs : List X) → AllByRecursion (λ x. pos 0 ≤ℤ f x) xs → total_by f xs ≤ℤ n → AllByRecursion (λ x. f x ≤ℤ n) xs
 each_within f n [] low h = tt
 each_within f n (x ∷ xs) low h = (omega (arith, ints, total_low f xs low.1), each_within f n xs low.1 (omega (arith, ints, low.0)))
 
-total_kept : {X : Type 0} (f : X → ℤ) (t : X → Bool) (xs : List X) → AllByRecursion (λ x. pos 0 ≤ℤ f x) xs → total_by f (filter t xs) ≤ℤ total_by f xs
+pub total_kept : {X : Type 0} (f : X → ℤ) (t : X → Bool) (xs : List X) → AllByRecursion (λ x. pos 0 ≤ℤ f x) xs → total_by f (filter t xs) ≤ℤ total_by f xs
 total_kept f t [] low = omega (arith, ints)
 total_kept f t (x ∷ xs) low = by (t x) (total_kept f t xs low.1)
   where
@@ -98,20 +98,20 @@ module _ {X : Type 0} (id : X → Bucket) where
   rest_in_order a [] order = tt
   rest_in_order a (x ∷ xs) order = order.1
 
-  abbrev is_at : BucketId → X → Bool
+  abbrev pub is_at : BucketId → X → Bool
   is_at k x = same_bucket_id k (bucket_id_of (id x))
 
   -- the one bucket of an id
-  record IsFound (b : Bucket) (xs : List X) : Type 0 where
-    of : X
-    found : find (λ y. same_bucket b (id y)) xs ≡ Some of
-    is : b ≡ id of
-    alone : filter (is_at (bucket_id_of b)) xs ≡ of ∷ []
+  pub record IsFound (b : Bucket) (xs : List X) : Type 0 where
+    pub of : X
+    pub found : find (λ y. same_bucket b (id y)) xs ≡ Some of
+    pub is : b ≡ id of
+    pub alone : filter (is_at (bucket_id_of b)) xs ≡ of ∷ []
 
   none_later : (b : Bucket) (x : X) (ys : List X) → b ≡ id x → AllByRecursion (λ y. bucket_slot (id x) < bucket_slot (id y)) ys → AllByRecursion (λ y. is_at (bucket_id_of b) y ≡ false) ys
   none_later b x ys e h = each_weaker (λ y. bucket_slot (id x) < bucket_slot (id y)) (λ y. is_at (bucket_id_of b) y ≡ false) (λ y less. bucket_ids b (id y) ∙ ap (λ a. same_bucket a (id y)) e ∙ not_same (id x) (id y) less) ys h
 
-  find_listed : (b : Bucket) (xs : List X) → AreInOrder (map id xs) → lists (map id xs) b ≡ true → IsFound b xs
+  pub find_listed : (b : Bucket) (xs : List X) → AreInOrder (map id xs) → lists (map id xs) b ≡ true → IsFound b xs
   find_listed b [] order h = absurd (false≢true h)
   find_listed b (x ∷ xs) order h = by (same_bucket b (id x)) refl h (find_listed b xs (rest_in_order (id x) xs order))
     where

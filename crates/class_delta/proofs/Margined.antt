@@ -1,5 +1,5 @@
 -- Books that can be margined: what each call asks of their buckets.
-use Rattle.std.proofs.Common.{◌≡◌, ◌≢◌, ℕ, List, [], Some, Bool, true, false, not, sym, ap, ◌∙◌, subst, pos, ◌≤ℤ◌}
+use Rattle.std.proofs.Common.{◌≡◌, ◌≢◌, ℕ, List, [], Some, Bool, true, not, sym, ap, ◌∙◌, subst, pos, ◌≤ℤ◌}
 use Rattle.std.specs.List.{filter, AllByRecursion}
 use Rattle.std.proofs.lemmas.Bool.{false≢true}
 use Rattle.simm_kinds.specs.declared.kinds.ProductClass.{ProductClass}

@@ -1,5 +1,5 @@
 -- The value of a bucket of names, and that of base correlation, as the value of a bucket of its class.
-use Rattle.std.proofs.Common.{◌≡◌, ℕ, ◌≤◌, List, length, Some, false, sym, subst}
+use Rattle.std.proofs.Common.{◌≡◌, ℕ, ◌≤◌, List, length, Some, sym, subst}
 use Rattle.std.proofs.lemmas.Bool.{false≢true}
 use Rattle.simm_kinds.specs.declared.kinds.ProductClass.{ProductClass}
 use Rattle.simm_kinds.specs.declared.kinds.RiskClass.{RiskClass}

@@ -1,5 +1,5 @@
 -- The margin of a bucket that is alone: that of foreign exchange, and that of base correlation.
-use Rattle.std.proofs.Common.{◌≡◌, ◌^◌, ◌*◌, ℕ, List, [], ◌∷◌, map, Bool, true, false, ◌||◌, cond, Some, refl, sym, ap, ◌∙◌, subst, ℤ, pos, ◌≤ℤ◌, unsigned_abs, arith}
+use Rattle.std.proofs.Common.{◌≡◌, ◌^◌, ◌*◌, ℕ, List, [], ◌∷◌, map, Bool, true, false, ◌||◌, cond, Some, refl, sym, ap, ◌∙◌, subst, ℤ, pos, ◌≤ℤ◌, arith}
 use Rattle.std.specs.Prelude.{option_map, unwrap_or}
 use Rattle.std.specs.List.{find, list_any, AllByRecursion}
 use Rattle.std.proofs.lemmas.Int.{ints}
@@ -20,8 +20,8 @@ use Rattle.factor_book.specs.declared.at.SideAt.{SideAt}
 use Rattle.factor_book.specs.declared.holding.Holding.{Holding}
 use Rattle.factor_book.specs.Places.{factors_at, place_in, buckets_on}
 use Rattle.book_range.specs.Bounded.{IsMarginable}
-use Rattle.name_delta.specs.Base.{base_place, indices_of, index_weight}
-use Rattle.name_delta.specs.Currencies.{currency_place, currencies_in}
+use Rattle.name_delta.specs.Base.{indices_of, index_weight}
+use Rattle.name_delta.specs.Currencies.{currencies_in}
 use Rattle.name_delta.specs.Values.{nets_in, IsSized}
 use Rattle.name_delta.proofs.Empty.{currencies_none, indices_none}
 use Rattle.name_delta.proofs.Lists.{each_weaker}

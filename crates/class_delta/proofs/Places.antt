@@ -1,5 +1,5 @@
 -- What stands on the side of delta: the amounts of a bucket are those of its place.
-use Rattle.std.proofs.Common.{◌≡◌, ℕ, List, map, Bool, true, false, not, ◌&&◌, Option, Some, None, if◌then◌else◌, refl, sym, ap, ◌∙◌, subst}
+use Rattle.std.proofs.Common.{◌≡◌, ℕ, List, false, not, Some, None, if◌then◌else◌, refl, sym, ap, ◌∙◌, subst}
 use Rattle.std.specs.Prelude.{option_map, IsSomeAnd}
 use Rattle.std.specs.List.{filter}
 use Rattle.std.proofs.lemmas.Bool.{false≢true}
@@ -13,26 +13,23 @@ use Rattle.simm_kinds.specs.declared.bucket.Bucket.TheVariants as bucket
 use Rattle.simm_kinds.specs.declared.factor.Factor.{Factor}
 use Rattle.simm_kinds.specs.declared.factor.Factor.TheVariants as factor
 use Rattle.simm_kinds.specs.declared.key.FactorKey.{FactorKey}
-use Rattle.simm_kinds.specs.Order.{same_product, same_name, same_bucket}
+use Rattle.simm_kinds.specs.Order.{same_name}
 use Rattle.simm_rules.specs.declared.values.BucketMargin.{BucketMargin}
 use Rattle.simm_rules.specs.Params.{Params}
-use Rattle.simm_rules.specs.Risks.{risk, CreditClass, Qualifying, Non_qualifying, PricedClass, Equities, Commodities, CreditPoint, credit_point, Amount, select}
+use Rattle.simm_rules.specs.Risks.{risk, CreditClass, Qualifying, Non_qualifying, PricedClass, Equities, Commodities, credit_point, Amount}
 use Rattle.simm_rules.specs.Rates.{RateIn, as_rate, rates_in, currency_value}
 use Rattle.simm_rules.specs.Credit.{as_credit, credit_params, credit_value}
 use Rattle.simm_rules.specs.Priced.{as_price, priced_params, price_value}
-use Rattle.simm_rules.specs.ForeignExchange.{as_currency, is_own_currency, currencies_of, fx_weight, fx_value}
+use Rattle.simm_rules.specs.ForeignExchange.{as_currency, is_own_currency, fx_weight, fx_value}
 use Rattle.simm_rules.specs.BaseCorrelation.{as_index, base_value}
 use Rattle.simm_params.specs.ListedBuckets.{credit_bucket_of, priced_bucket_of}
 use Rattle.factor_book.specs.declared.at.BucketAt.{BucketAt}
 use Rattle.factor_book.specs.declared.holding.Holding.{Holding}
-use Rattle.factor_book.specs.declared.place.Place.{Place}
-use Rattle.factor_book.specs.declared.place.BookSide.TheVariants as side
 use Rattle.factor_book.specs.Places.{factors_at}
 use Rattle.ir_delta.proofs.Lent.{rate_place, one_of}
 use Rattle.name_delta.specs.Base.{base_place, indices_of, index_weight}
 use Rattle.name_delta.specs.Currencies.{currency_place, currencies_in}
 use Rattle.name_delta.specs.Delta.{credit_delta, priced_delta, IsCreditSized, IsPricedSized}
-use Rattle.name_delta.specs.Ids.{listed_id}
 use Rattle.name_delta.specs.Names.{names_place, names_in}
 use Rattle.name_delta.specs.Points.{points_place, points_in}
 use Rattle.name_delta.specs.Values.{nets_in, IsSized}

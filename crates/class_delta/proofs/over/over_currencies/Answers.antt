@@ -2,7 +2,6 @@ use Rattle.std.proofs.Common.{◌≡◌, ◌∙◌, ◌^◌, ◌*◌, ℕ, List,
 use Rattle.std.specs.Prelude.{sum_by}
 use Rattle.std.proofs.lemmas.Int.{ints}
 use Rattle.std.proofs.lemmas.Result.{IfOk-weaker}
-use Rattle.simm_rules.specs.Rates.{rate_delta}
 use Rattle.ir_delta.specs.Parts.{AreParts, margin_over, buckets_of}
 use Rattle.name_delta.specs.Values.{nets_in}
 use Rattle.class_delta.specs.Class.{class_delta_of}
