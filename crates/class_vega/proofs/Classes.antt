@@ -6,7 +6,6 @@ use Rattle.std.specs.List.Sorted.{IsStrictlySortedBy}
 use Rattle.simm_kinds.specs.declared.kinds.ProductClass.{ProductClass}
 use Rattle.simm_kinds.specs.declared.kinds.RiskClass.{RiskClass}
 use Rattle.simm_kinds.specs.declared.kinds.RiskClass.TheVariants as class
-use Rattle.simm_kinds.specs.declared.kinds.BucketId.{BucketId}
 use Rattle.simm_kinds.specs.declared.kinds.BucketId.TheVariants as id
 use Rattle.simm_kinds.specs.declared.bucket.Bucket.{Bucket}
 use Rattle.simm_kinds.specs.declared.key.FactorKey.{FactorKey}
@@ -18,7 +17,7 @@ use Rattle.simm_rules.specs.Params.{Params, CreditBucket, PricedBucket}
 use Rattle.simm_rules.specs.Net.{Sensitivity}
 use Rattle.simm_rules.specs.Risks.{CreditClass, Qualifying, Non_qualifying, PricedClass, Equities, Commodities, CreditPoint, Amount}
 use Rattle.simm_rules.specs.Across.{margin_over}
-use Rattle.simm_rules.specs.Admits.{admits, lists}
+use Rattle.simm_rules.specs.Admits.{admits}
 use Rattle.simm_rules.specs.Credit.{credit_params, listed_credit, credit_vega_value, credit_vega}
 use Rattle.simm_rules.specs.Priced.{NameVolatility, priced_params, listed_priced, price_vega_value, price_vega}
 use Rattle.simm_rules.specs.Rates.{volatilities_in, volatility_currencies, currency_vega_value, rate_vega}
@@ -34,23 +33,26 @@ use Rattle.name_delta.specs.Ids.{listed_id}
 use Rattle.name_delta.specs.Names.{priced_risk_class}
 use Rattle.name_delta.specs.Points.{credit_risk_class}
 use Rattle.name_delta.specs.Values.{nets_in, IsInRange}
-use Rattle.name_delta.proofs.Lists.{each_always, each_map, each_weaker, each_both}
+use Rattle.name_delta.proofs.Lists.{each_weaker, each_both}
 use Rattle.name_delta.proofs.Shrinking.{SizesAreNetted}
-use Rattle.class_delta.specs.Buckets.{bucket_at}
 use Rattle.class_delta.proofs.Bounds.{was_value, HasClass}
+use Rattle.class_delta.proofs.Currencies.{IsCurrencyPart, by_currency}
 use Rattle.class_delta.proofs.Totals.{alike_margin}
+use Rattle.class_delta.proofs.OnSide.{buckets_ascend}
+use Rattle.class_delta.proofs.Valued.{Whole, ids}
 use Rattle.vol_factors.specs.Buckets.{currency_bucket_at, credit_bucket_at, priced_bucket_at}
 use Rattle.vol_factors.specs.Places.{points_of, name_volatilities}
-use Rattle.vol_factors.specs.Ranges.{alone, IsPricedInRange, IsReadyIn, IsReady}
+use Rattle.vol_factors.specs.Ranges.{alone}
 use Rattle.vega_margin.specs.Combine.{vega_over, AreParts, currency_buckets, volatility_buckets, IsRateClass}
 use Rattle.vega_margin.specs.Values.{IsSized}
 use Rattle.vega_margin.specs.Vega.{vega_in, IsVegaSizedIn}
 use Rattle.vega_margin.proofs.Idle.{credit_kept, priced_kept}
-use Rattle.class_vega.specs.Class.{class_vega_of, HasBuckets, IsValued}
-use Rattle.class_vega.proofs.Bounds.{rates_range, names_sizes, credit_class, priced_class}
-use Rattle.class_vega.proofs.InBook.{buckets_ascend, none_of, no_points, no_names, own_each, parts_have}
-use Rattle.class_vega.proofs.Listed.{Whole, ids, has, ready, IsOwned, owned, margin_of_parts}
-use Rattle.class_vega.proofs.Parts.{some_and, at_listed, IsCurrencyPart, by_currency}
+use Rattle.class_vega.specs.Class.{class_vega_of, volatility_side, HasBuckets, IsValued}
+use Rattle.class_vega.proofs.Bounds.{rates_range, credit_class, priced_class}
+use Rattle.class_vega.proofs.InBook.{none_of, no_points, no_names, parts_have}
+use Rattle.class_vega.proofs.Listed.{has, IsOwned, owned, margin_of_parts}
+use Rattle.class_vega.proofs.Parts.{some_and, at_listed}
+use Rattle.class_vega.proofs.Ready.{credit_found}
 use Rattle.class_vega.proofs.Sizes.{IsSizedIn, parts_small, parts_sized}
 
 -- a weight of 1
@@ -84,15 +86,9 @@ module _ (p : Params) (facts : IsParams p) (laws : AreRateLaws p) (held : List C
   class_at c = record { product = product; class = c }
 
   ascend : (c : RiskClass) (parts : List Whole) → ids parts ≡ volatility_buckets (class_at c) fs → IsStrictlySortedBy bucket_id_cmp (ids parts)
-  ascend c parts are = subst (IsStrictlySortedBy bucket_id_cmp) (sym are) (buckets_ascend (class_at c) fs)
+  ascend c parts are = subst (IsStrictlySortedBy bucket_id_cmp) (sym are) (buckets_ascend (volatility_side (class_at c)) fs)
 
   -- ---- interest rates
-
-  rates_ready : AllByRecursion (λ k. IsReady p (bucket_at (class_at class.IR) k) fs) (volatility_buckets (class_at class.IR) fs)
-  rates_ready =
-      subst (AllByRecursion (λ k. IsReady p (bucket_at (class_at class.IR) k) fs)) (sym (laws.stand product fs))
-      (each_map (λ k. IsReady p (bucket_at (class_at class.IR) k) fs) id.Currency (volatility_currencies ss)
-      (each_always (λ currency. IsInRange alone (volatilities_in currency ss)) (λ currency. laws.each ss (rates_range p facts held bounded amounts product sizes) currency) (volatility_currencies ss)))
 
   abbrev value_of : List ℕ → BucketMargin
   value_of currency = currency_vega_value p currency (volatilities_in currency ss)
@@ -121,17 +117,11 @@ module _ (p : Params) (facts : IsParams p) (laws : AreRateLaws p) (held : List C
     abbrev credit_owned : Whole → Type 0
     credit_owned = IsOwned (λ (b : CreditBucket). (b.terms).id) (λ b. pos_one) points (credit_params p c).buckets its_credit credit_vega_value (IsSizedIn (λ b. pos_one))
 
-    credit_found : (b : Bucket) → lists (listed_credit (credit_params p c)) b ≡ true → IsReadyIn p (credit_bucket_at c (Some b) product) fs
-    credit_found b h = ready (λ (x : CreditBucket). (x.terms).id) (λ x. pos_one) points (credit_params p c).buckets its_credit b h
-
-    credit_ready : (k : BucketId) → IsListed (listed_credit (credit_params p c)) (listed_id k) → IsReadyIn p (credit_bucket_at c (listed_id k) product) fs
-    credit_ready = at_listed (listed_credit (credit_params p c)) (λ k o. IsReadyIn p (credit_bucket_at c o product) fs) credit_found
-
     credit_owns : (part : Whole) → IsListed (listed_credit (credit_params p c)) (listed_id part.0) → Some part.1 ≡ vega_in p (credit_bucket_at c (listed_id part.0) product) fs → IsVegaSizedIn p (credit_bucket_at c (listed_id part.0) product) fs part.1 → credit_owned part
     credit_owns part =
         at_listed (listed_credit (credit_params p c)) (λ k o. Some part.1 ≡ vega_in p (credit_bucket_at c o product) fs → IsVegaSizedIn p (credit_bucket_at c o product) fs part.1 → credit_owned (k, part.1))
         (λ b h value sized. owned (λ (x : CreditBucket). (x.terms).id) (λ x. pos_one) points (credit_params p c).buckets its_credit credit_vega_value (IsSizedIn (λ x. pos_one)) b part.1 h value
-        (some_and (λ (x : CreditBucket). IsInRange alone (points b)) (λ x. IsSized alone (points b) part.1) (λ x r. sized) _ (credit_found b h)))
+        (some_and (λ (x : CreditBucket). IsInRange alone (points b)) (λ x. IsSized alone (points b) part.1) (λ x r. sized) _ (credit_found p facts held bounded amounts product sizes c b h)))
         part.0
 
     credit_total : (parts : List Whole) → AllByRecursion credit_owned parts → ids parts ≡ volatility_buckets (class_at (credit_risk_class c)) fs → margin_over (listed_credit (credit_params p c)) (credit_params p c).gamma (parts_in parts) ≡ credit_vega (credit_params p c) c ss
@@ -156,14 +146,6 @@ module _ (p : Params) (facts : IsParams p) (laws : AreRateLaws p) (held : List C
     abbrev priced_owned : Whole → Type 0
     priced_owned = IsOwned (λ (b : PricedBucket). (b.terms).id) (λ b. b.sigma) names (priced_params p c).buckets its_priced name_value (IsSizedIn (λ b. b.sigma))
 
-    priced_found : (b : Bucket) → lists (listed_priced (priced_params p c)) b ≡ true → IsReadyIn p (priced_bucket_at c (Some b) product) fs
-    priced_found b h =
-        some_and (λ (x : PricedBucket). IsInRange (λ _. x.sigma) (names b)) (λ x. IsPricedInRange x (names b)) (λ x r. record { weighed = r; sizes = names_sizes p facts held bounded amounts product sizes c b }) _
-        (ready (λ (x : PricedBucket). (x.terms).id) (λ x. x.sigma) names (priced_params p c).buckets its_priced b h)
-
-    priced_ready : (k : BucketId) → IsListed (listed_priced (priced_params p c)) (listed_id k) → IsReadyIn p (priced_bucket_at c (listed_id k) product) fs
-    priced_ready = at_listed (listed_priced (priced_params p c)) (λ k o. IsReadyIn p (priced_bucket_at c o product) fs) priced_found
-
     priced_owns : (part : Whole) → IsListed (listed_priced (priced_params p c)) (listed_id part.0) → Some part.1 ≡ vega_in p (priced_bucket_at c (listed_id part.0) product) fs → IsVegaSizedIn p (priced_bucket_at c (listed_id part.0) product) fs part.1 → priced_owned part
     priced_owns part =
         at_listed (listed_priced (priced_params p c)) (λ k o. Some part.1 ≡ vega_in p (priced_bucket_at c o product) fs → IsVegaSizedIn p (priced_bucket_at c o product) fs part.1 → priced_owned (k, part.1))
@@ -180,17 +162,6 @@ module _ (p : Params) (facts : IsParams p) (laws : AreRateLaws p) (held : List C
   -- ---- each class
 
   module _ (admitted : list_all (admits p) held ≡ true) where
-    named_ready : (c : RiskClass) → IsNamed c → ((k : BucketId) → HasBucket p c k → IsReady p (bucket_at (class_at c) k) fs) → AllByRecursion (λ k. IsReady p (bucket_at (class_at c) k) fs) (volatility_buckets (class_at c) fs)
-    named_ready c n one = each_weaker (HasBucket p c) (λ k. IsReady p (bucket_at (class_at c) k) fs) one (volatility_buckets (class_at c) fs) (own_each p (class_at c) n held admitted)
-
-    pub all_ready : (c : RiskClass) → HasBuckets c → AllByRecursion (λ k. IsReady p (bucket_at (record { product = product; class = c }) k) (factors_of held)) (volatility_buckets (record { product = product; class = c }) (factors_of held))
-    all_ready class.IR n = rates_ready
-    all_ready class.CreditQ n = named_ready class.CreditQ tt (credit_ready Qualifying)
-    all_ready class.CreditNonQ n = named_ready class.CreditNonQ tt (credit_ready Non_qualifying)
-    all_ready class.Equity n = named_ready class.Equity tt (priced_ready Equities)
-    all_ready class.Commodity n = named_ready class.Commodity tt (priced_ready Commodities)
-    all_ready class.FX n = absurd n
-
     module _ (parts : List Whole) where
       abbrev Both : RiskClass → Whole → Type 0
       Both c part = HasBucket p c part.0 × IsValued p (class_at c) fs part

@@ -1,8 +1,11 @@
 pub mod Bounds
-pub mod InBook
 pub mod Listed
+pub mod VolatilePlaces
+pub mod InBook
 pub mod Parts
+pub mod Ready
 pub mod Sizes
 pub mod Classes
+pub mod ByBucket
 pub mod Margined
-pub mod Valued
+pub mod Pairs

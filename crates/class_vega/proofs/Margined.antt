@@ -1,36 +1,33 @@
--- Books that can be margined: what each call asks of their buckets.
-use Rattle.std.proofs.Common.{◌≡◌, List, map, sym, subst}
-use Rattle.std.specs.List.{AllByRecursion}
-use Rattle.simm_kinds.specs.declared.kinds.ProductClass.{ProductClass}
-use Rattle.simm_kinds.specs.declared.kinds.BucketId.{BucketId}
+-- Books that can be margined: what each call asks of their buckets, and what their values make.
+use Rattle.std.proofs.Common.{◌≢◌, List, [], sym, subst}
 use Rattle.simm_kinds.specs.declared.key.FactorKey.{FactorKey}
-use Rattle.simm_rules.specs.declared.values.BucketMargin.{BucketMargin}
 use Rattle.simm_rules.specs.Params.{Params}
 use Rattle.simm_params.specs.Facts.{IsParams}
+use Rattle.factor_book.specs.declared.at.BucketAt.{BucketAt}
 use Rattle.factor_book.specs.declared.at.ClassAt.{ClassAt}
 use Rattle.factor_book.specs.declared.holding.Holding.{Holding}
+use Rattle.factor_book.specs.Places.{factors_at}
 use Rattle.book_range.specs.Bounded.{IsMarginable}
 use Rattle.name_delta.specs.Values.{nets_in}
 use Rattle.name_delta.proofs.Shrinking.{SizesAreNetted}
-use Rattle.class_delta.specs.Buckets.{bucket_at}
-use Rattle.vol_factors.specs.Places.{pair_volatilities}
-use Rattle.vol_factors.specs.Ranges.{ArePairsInRange, IsReady}
-use Rattle.vega_margin.specs.Combine.{volatility_buckets}
-use Rattle.class_vega.specs.Class.{HasBuckets, IsValued}
-use Rattle.class_vega.proofs.Bounds.{pairs_range}
-use Rattle.class_vega.proofs.Classes.{IsDone, AreRateLaws, all_ready, done}
+use Rattle.class_delta.proofs.Valued.{Whole}
+use Rattle.vol_factors.specs.Ranges.{IsReady}
+use Rattle.class_vega.specs.Class.{volatility_place, HasBuckets, AreVegaParts}
+use Rattle.class_vega.proofs.Classes.{IsDone, AreRateLaws, done}
+use Rattle.class_vega.proofs.InBook.{IsOwn, own_there}
+use Rattle.class_vega.proofs.Ready.{one_ready}
+
+-- a bucket that has a volatility is one that its class has
+pub own_fits : (p : Params) (fs : List (FactorKey × Holding)) → IsMarginable p fs → (at : BucketAt) → factors_at (volatility_place at) fs ≢ [] → IsOwn p at.class at.bucket
+own_fits p fs its at = subst (λ f. factors_at (volatility_place at) f ≢ [] → IsOwn p at.class at.bucket) (sym its.are) (own_there p (record { product = at.product; class = at.class }) at.bucket its.held its.admitted)
 
 module _ (p : Params) (facts : IsParams p) (fs : List (FactorKey × Holding)) (its : IsMarginable p fs) (sizes : SizesAreNetted its.held) where
-  pub pairs_fit : (product : ProductClass) → ArePairsInRange p (pair_volatilities product fs)
-  pairs_fit product = subst (λ f. ArePairsInRange p (pair_volatilities product f)) (sym its.are) (pairs_range p facts its.held its.bounded its.amounts product sizes)
+  -- so it is in range
+  pub bucket_fits : (at : BucketAt) → factors_at (volatility_place at) fs ≢ [] → IsReady p at fs
+  bucket_fits at some = subst (IsReady p at) (sym its.are) (one_ready p facts its.held its.bounded its.amounts at.product sizes at.class at.bucket (own_fits p fs its at some))
 
-  module _ (laws : AreRateLaws p) (at : ClassAt) (several : HasBuckets at.class) where
-    pub buckets_fit : AllByRecursion (λ b. IsReady p (bucket_at at b) fs) (volatility_buckets at fs)
-    buckets_fit =
-        subst (λ f. AllByRecursion (λ b. IsReady p (bucket_at at b) f) (volatility_buckets at f)) (sym its.are)
-        (all_ready p facts laws its.held its.bounded its.amounts at.product sizes its.admitted at.class several)
-
-    pub parts_fit : (parts : List (BucketId × BucketMargin)) → map (λ part. part.0) parts ≡ volatility_buckets at fs → AllByRecursion (IsValued p at fs) parts → IsDone p at.class (nets_in at.product fs) parts
-    parts_fit parts are values =
-        subst (λ f. map (λ part. part.0) parts ≡ volatility_buckets at f → AllByRecursion (IsValued p at f) parts → IsDone p at.class (nets_in at.product f) parts) (sym its.are)
-        (λ e v. done p facts laws its.held its.bounded its.amounts at.product sizes its.admitted parts at.class several e v) are values
+  -- all of a class
+  pub parts_fit : AreRateLaws p → (at : ClassAt) → HasBuckets at.class → (parts : List Whole) → AreVegaParts p at fs parts → IsDone p at.class (nets_in at.product fs) parts
+  parts_fit laws at several parts all =
+      subst (λ f. AreVegaParts p at f parts → IsDone p at.class (nets_in at.product f) parts) (sym its.are)
+      (λ a. done p facts laws its.held its.bounded its.amounts at.product sizes its.admitted parts at.class several a.are a.each) all

@@ -14,7 +14,9 @@ use Rattle.name_delta.specs.Combine.{AreSized}
 use Rattle.name_delta.proofs.Lists.{each_weaker}
 use Rattle.class_delta.proofs.Bounds.{HasClass}
 use Rattle.vega_margin.specs.Values.{IsSized}
-use Rattle.class_vega.proofs.Listed.{Whole, ids, size, sizes_low, is_at, IsOwned, share_is, shares_within}
+use Rattle.class_delta.proofs.Listed.{is_at}
+use Rattle.class_delta.proofs.Valued.{Whole, ids}
+use Rattle.class_vega.proofs.Listed.{size, sizes_low, IsOwned, share_is, shares_within}
 
 -- what is known of the value of a bucket
 abbrev pub IsSizedIn : {X A : Type 0} → (X → ℤ) → X → List (Amount A) → BucketMargin → Type 0

@@ -1,6 +1,6 @@
 -- The vega margin of a risk class in a product class, and the values of its buckets.
 -- (ISDA SIMM methodology, vega margin.)
-use Rattle.std.specs.Prelude.{◌≡◌, List, Option, Some, ℤ}
+use Rattle.std.specs.Prelude.{List, ℤ}
 use Rattle.simm_kinds.specs.declared.kinds.RiskClass.{RiskClass}
 use Rattle.simm_kinds.specs.declared.kinds.RiskClass.TheVariants as class
 use Rattle.simm_kinds.specs.declared.kinds.BucketId.{BucketId}
@@ -17,8 +17,11 @@ use Rattle.factor_book.specs.declared.at.BucketAt.{BucketAt}
 use Rattle.factor_book.specs.declared.at.ClassAt.{ClassAt}
 use Rattle.factor_book.specs.declared.at.SideAt.{SideAt}
 use Rattle.factor_book.specs.declared.holding.Holding.{Holding}
+use Rattle.factor_book.specs.declared.place.Place.{Place}
 use Rattle.factor_book.specs.declared.place.BookSide.TheVariants as side
-use Rattle.class_delta.specs.Buckets.{bucket_at}
+use Rattle.book_range.specs.Bounded.{IsMarginable}
+use Rattle.class_delta.specs.Values.{IsValuedBy, AreValuedBy}
+use Rattle.vega_margin.specs.Combine.{volatility_buckets}
 use Rattle.vega_margin.specs.Vega.{vega_value, IsVegaSized}
 
 -- of the sensitivities of the product class
@@ -42,10 +45,21 @@ HasBuckets class.Equity = Unit {0}
 HasBuckets class.Commodity = Unit {0}
 HasBuckets class.FX = ⊥
 
--- a bucket with its value, by how buckets are valued and by what is known of their values
-pub record IsValuedBy (value_at : BucketAt → Option BucketMargin) (IsSizedAt : BucketAt → BucketMargin → Type 0) (at : ClassAt) (part : BucketId × BucketMargin) : Type 0 where
-  pub value : Some part.1 ≡ value_at (bucket_at at part.0)
-  pub sized : IsSizedAt (bucket_at at part.0) part.1
+-- where the factors of a bucket stand
+abbrev pub volatility_place : BucketAt → Place
+volatility_place at = record { product = at.product; class = at.class; side = side.Volatility; bucket = at.bucket }
+
+-- ---- the buckets of a class that have a volatility among these, in order, each with its value
 
 abbrev pub IsValued : Params → ClassAt → List (FactorKey × Holding) → BucketId × BucketMargin → Type 0
 IsValued p at factors part = IsValuedBy (λ b. vega_value p b factors) (λ b m. IsVegaSized p b factors m) at part
+
+abbrev pub AreVegaParts : Params → ClassAt → List (FactorKey × Holding) → List (BucketId × BucketMargin) → Type 0
+AreVegaParts p at factors parts =
+    AreValuedBy (λ b. vega_value p b factors) (λ b m. IsVegaSized p b factors m) at (volatility_buckets at factors) parts
+
+-- those of a book that can be margined
+pub record AreBookVegas (p : Params) (at : ClassAt) (parts : List (BucketId × BucketMargin)) : Type 0 where
+  pub factors : List (FactorKey × Holding)
+  pub book : IsMarginable p factors
+  pub are : AreVegaParts p at factors parts

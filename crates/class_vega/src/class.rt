@@ -1,18 +1,16 @@
 ghost use Rattle.std.specs.Prelude.{◌≡◌, ◌*◌, ◌^◌, IfOk, pos, ◌≤ℤ◌};
 ghost use Rattle.book_range.specs.Bounded.{IsMarginable};
 ghost use Rattle.name_delta.specs.Values.{nets_in};
-ghost use Rattle.class_vega.specs.Class.{class_vega_of, HasBuckets};
+ghost use Rattle.class_vega.specs.Class.{class_vega_of};
 
-use crate::buckets::bucket_values;
-use crate::pairs::pairs_vega;
-use factor_book::{ClassAt, Factors, factors_are_netted};
+use crate::over::vega_from;
+use crate::values::vega_values;
+use factor_book::{ClassAt, Factors};
 use mh_units::Cents;
 use pair_sum::Steps;
-use simm_kinds::RiskClass;
 use simm_params::Params;
 use std::alloc::{AllocError, Global};
 use std::sync::ledger::Ledger;
-use vega_margin::{combine, currencies_make_vega, volatilities_stand_by_currency};
 
 /// The vega margin of a risk class in a product class, in cents: over all buckets that have a volatility among the factors of the
 /// book, which is in range, of rows that the parameters admit. Want of memory is the only error.
@@ -28,34 +26,6 @@ pub fn class_vega<L: Ledger>(
     ensures low { IfOk result (λ m. pos 0 ≤ℤ m.0) }
     ensures size { IfOk result (λ m. m.0 ≤ℤ pos (84 * 10 ^ 14)) }
 {
-    match at.class {
-        RiskClass::IR
-        | RiskClass::CreditQ
-        | RiskClass::CreditNonQ
-        | RiskClass::Equity
-        | RiskClass::Commodity => over_buckets(alloc, params, factors, at, steps),
-        RiskClass::FX => pairs_vega(alloc, params, factors, at.product, steps),
-    }
-}
-
-// The margin of a class that has more than one bucket.
-fn over_buckets<L: Ledger>(
-    alloc: Global,
-    params: &Params,
-    factors: &Factors,
-    at: ClassAt,
-    steps: &mut Steps<L>,
-) -> Result<Cents, AllocError>
-    requires several { HasBuckets at.class }
-    requires book { IsMarginable params.now factors.now }
-    ensures value { IfOk result (λ m. m.0 ≡ class_vega_of params.now (nets_in at.product factors.now) at.class) }
-    ensures low { IfOk result (λ m. pos 0 ≤ℤ m.0) }
-    ensures size { IfOk result (λ m. m.0 ≤ℤ pos (84 * 10 ^ 14)) }
-{
-    params.facts();
-    factors_are_netted();
-    volatilities_stand_by_currency();
-    currencies_make_vega(params);
-    let parts = bucket_values(alloc, params, factors, at, steps)?;
-    combine(alloc, params, at, parts.as_slice())
+    let parts = vega_values(alloc, params, factors, at, steps)?;
+    vega_from(alloc, params, at, parts.as_slice())
 }

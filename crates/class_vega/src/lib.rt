@@ -1,10 +1,18 @@
-//! The vega margin of a risk class in a product class: over all buckets that have a volatility in a book; and which these are.
+//! The vega margin of a risk class in a product class, bucket by bucket: the value of a bucket, the margin over the values of all
+//! buckets that have a volatility in a book, and which buckets these are.
 //! (ISDA SIMM methodology, vega margin.)
 #![tactic(auto)]
 
+mod bucket;
 mod buckets;
 mod class;
-mod pairs;
+mod laws;
+mod over;
+mod values;
 
-pub use buckets::{bucket_at, volatility_buckets};
+pub use bucket::vega_bucket;
+pub use buckets::volatility_buckets;
 pub use class::class_vega;
+pub use laws::vega_hangs_on_its_factors;
+pub use over::vega_from;
+pub use values::vega_values;
