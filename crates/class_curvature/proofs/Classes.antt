@@ -4,7 +4,6 @@ use Rattle.std.specs.List.{list_all, AllByRecursion}
 use Rattle.simm_kinds.specs.declared.kinds.ProductClass.{ProductClass}
 use Rattle.simm_kinds.specs.declared.kinds.RiskClass.{RiskClass}
 use Rattle.simm_kinds.specs.declared.kinds.RiskClass.TheVariants as class
-use Rattle.simm_kinds.specs.declared.kinds.BucketId.{BucketId}
 use Rattle.simm_kinds.specs.declared.key.FactorKey.{FactorKey}
 use Rattle.simm_kinds.specs.declared.row.CrifRow.{CrifRow}
 use Rattle.simm_kinds.specs.Batch.{is_in_range}
@@ -21,18 +20,16 @@ use Rattle.name_delta.specs.Combine.{IsNamed, HasBucket}
 use Rattle.name_delta.specs.Values.{nets_in}
 use Rattle.name_delta.proofs.Lists.{each_weaker, each_both}
 use Rattle.name_delta.proofs.Shrinking.{SizesAreNetted}
-use Rattle.class_delta.specs.Buckets.{bucket_at}
+use Rattle.class_delta.proofs.Valued.{Whole, ids}
 use Rattle.vega_margin.specs.Combine.{volatility_buckets}
 use Rattle.curvature_margin.specs.Combine.{curvature_by_class, margins_size, gross_size, AreParts}
 use Rattle.curvature_margin.specs.Combine.{HasBucket as HasCurved}
-use Rattle.vol_factors.specs.Ranges.{IsReady}
-use Rattle.class_vega.proofs.InBook.{own_each, parts_have}
-use Rattle.class_vega.proofs.Listed.{Whole, ids}
+use Rattle.class_vega.proofs.InBook.{parts_have}
 use Rattle.class_curvature.specs.Class.{class_curvature_of, IsValued}
 use Rattle.class_curvature.proofs.Joinable.{AreJoinable, sized, bounded}
-use Rattle.class_curvature.proofs.Numbered.{credit_owned, credit_ready, credit_owns, credit_joinable, credit_total, priced_owned, priced_ready, priced_owns, priced_joinable, priced_total}
-use Rattle.class_curvature.proofs.Pairs.{single_ready, pairs_joinable, pairs_total}
-use Rattle.class_curvature.proofs.Rates.{rates_ready, rates_are, rates_joinable, rates_total}
+use Rattle.class_curvature.proofs.Numbered.{credit_owned, credit_owns, credit_joinable, credit_total, priced_owned, priced_owns, priced_joinable, priced_total}
+use Rattle.class_curvature.proofs.Pairs.{pairs_joinable, pairs_total}
+use Rattle.class_curvature.proofs.Rates.{rates_are, rates_joinable, rates_total}
 
 -- what the parts of a class come to
 pub record IsDone (p : Params) (c : RiskClass) (ss : List Sensitivity) (parts : List Whole) : Type 0 where
@@ -52,17 +49,6 @@ module _ (p : Params) (facts : IsParams p) (held : List CrifRow) (range : IsBoun
 
   abbrev class_at : RiskClass → ClassAt
   class_at c = record { product = product; class = c }
-
-  named_ready : (c : RiskClass) → IsNamed c → ((k : BucketId) → HasBucket p c k → IsReady p (bucket_at (class_at c) k) fs) → AllByRecursion (λ k. IsReady p (bucket_at (class_at c) k) fs) (volatility_buckets (class_at c) fs)
-  named_ready c n one = each_weaker (HasBucket p c) (λ k. IsReady p (bucket_at (class_at c) k) fs) one (volatility_buckets (class_at c) fs) (own_each p (class_at c) n held admitted)
-
-  pub all_ready : (c : RiskClass) → AllByRecursion (λ k. IsReady p (bucket_at (record { product = product; class = c }) k) (factors_of held)) (volatility_buckets (record { product = product; class = c }) (factors_of held))
-  all_ready class.IR = rates_ready p facts held range amounts product netted
-  all_ready class.CreditQ = named_ready class.CreditQ tt (credit_ready p facts held range amounts product netted Qualifying)
-  all_ready class.CreditNonQ = named_ready class.CreditNonQ tt (credit_ready p facts held range amounts product netted Non_qualifying)
-  all_ready class.Equity = named_ready class.Equity tt (priced_ready p facts held range amounts product netted Equities)
-  all_ready class.Commodity = named_ready class.Commodity tt (priced_ready p facts held range amounts product netted Commodities)
-  all_ready class.FX = named_ready class.FX tt (single_ready p facts held range amounts product netted)
 
   module _ (parts : List Whole) where
     have : (c : RiskClass) → IsNamed c → ids parts ≡ volatility_buckets (class_at c) fs → AllByRecursion (λ part. HasBucket p c part.0) parts

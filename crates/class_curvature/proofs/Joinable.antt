@@ -10,7 +10,7 @@ use Rattle.simm_rules.specs.Sums.{total_by}
 use Rattle.curvature_margin.specs.Combine.{margins_size, gross_size, AreSized}
 use Rattle.curvature_margin.specs.Values.{IsSizedBy}
 use Rattle.curvature_margin.proofs.Joined.{joined}
-use Rattle.class_vega.proofs.Listed.{Whole, ids}
+use Rattle.class_delta.proofs.Valued.{Whole, ids}
 
 -- the volatilities of the parts: their size and how many there are
 pub record AreJoinable (parts : List Whole) : Type 0 where

@@ -6,7 +6,6 @@ use Rattle.std.specs.List.Sorted.{IsStrictlySortedBy}
 use Rattle.std.proofs.lemmas.Int.{ints}
 use Rattle.simm_kinds.specs.declared.kinds.ProductClass.{ProductClass}
 use Rattle.simm_kinds.specs.declared.kinds.RiskClass.{RiskClass}
-use Rattle.simm_kinds.specs.declared.kinds.BucketId.{BucketId}
 use Rattle.simm_kinds.specs.declared.bucket.Bucket.{Bucket}
 use Rattle.simm_kinds.specs.declared.key.FactorKey.{FactorKey}
 use Rattle.simm_kinds.specs.declared.row.CrifRow.{CrifRow}
@@ -17,7 +16,6 @@ use Rattle.simm_rules.specs.Params.{Params, CreditBucket, PricedBucket}
 use Rattle.simm_rules.specs.Net.{Sensitivity}
 use Rattle.simm_rules.specs.Sums.{total_by}
 use Rattle.simm_rules.specs.Risks.{CreditClass, PricedClass, CreditPoint, Amount}
-use Rattle.simm_rules.specs.Admits.{lists}
 use Rattle.simm_rules.specs.Credit.{credit_params, listed_credit, credit_curvature_value, credit_curvature}
 use Rattle.simm_rules.specs.Curvature.{curvature_over}
 use Rattle.simm_rules.specs.Priced.{NameVolatility, priced_params, listed_priced, price_curvature_value, price_curvature}
@@ -35,16 +33,21 @@ use Rattle.name_delta.specs.Values.{nets_in, IsInRange}
 use Rattle.name_delta.proofs.Lists.{each_always, each_weaker}
 use Rattle.name_delta.proofs.Shrinking.{SizesAreNetted}
 use Rattle.class_delta.proofs.Bounds.{HasClass}
+use Rattle.class_delta.proofs.OnSide.{buckets_ascend}
+use Rattle.class_delta.proofs.Listed.{is_at}
+use Rattle.class_delta.proofs.Valued.{Whole, ids}
 use Rattle.vega_margin.specs.Combine.{volatility_buckets}
 use Rattle.vol_factors.specs.Places.{points_of, name_volatilities}
 use Rattle.vol_factors.specs.Buckets.{credit_bucket_at, priced_bucket_at}
-use Rattle.vol_factors.specs.Ranges.{alone, IsPricedInRange, IsReadyIn}
+use Rattle.vol_factors.specs.Ranges.{alone}
 use Rattle.curvature_margin.specs.Curvature.{curvature_in, IsCurvatureSizedIn}
 use Rattle.curvature_margin.specs.Values.{IsSizedBy, IsSized}
 use Rattle.curvature_margin.proofs.Idle.{credit_kept, priced_kept}
-use Rattle.class_vega.proofs.Bounds.{nets_few, names_sizes, credit_class, priced_class}
-use Rattle.class_vega.proofs.InBook.{buckets_ascend, none_of, no_points, no_names}
-use Rattle.class_vega.proofs.Listed.{Whole, ids, has, size, sizes_low, ready, is_at, IsOwned, owned, margin_of_parts, share_is, shares_within}
+use Rattle.class_vega.specs.Class.{volatility_side}
+use Rattle.class_vega.proofs.Bounds.{nets_few, credit_class, priced_class}
+use Rattle.class_vega.proofs.InBook.{none_of, no_points, no_names}
+use Rattle.class_vega.proofs.Listed.{has, size, sizes_low, IsOwned, owned, margin_of_parts, share_is, shares_within}
+use Rattle.class_vega.proofs.Ready.{credit_found}
 use Rattle.class_vega.proofs.Parts.{some_and, at_listed}
 use Rattle.class_curvature.proofs.Alike.{curvature_alike}
 use Rattle.class_curvature.proofs.Counts.{credit_count, priced_count}
@@ -110,7 +113,7 @@ module _ (p : Params) (facts : IsParams p) (held : List CrifRow) (bounded : IsBo
   class_at c = record { product = product; class = c }
 
   ascend : (c : RiskClass) (parts : List Whole) → ids parts ≡ volatility_buckets (class_at c) fs → IsStrictlySortedBy bucket_id_cmp (ids parts)
-  ascend c parts are = subst (IsStrictlySortedBy bucket_id_cmp) (sym are) (buckets_ascend (class_at c) fs)
+  ascend c parts are = subst (IsStrictlySortedBy bucket_id_cmp) (sym are) (buckets_ascend (volatility_side (class_at c)) fs)
 
   few_nets : length ss ≤ 20000
   few_nets = nets_few p facts held bounded amounts product netted
@@ -127,17 +130,11 @@ module _ (p : Params) (facts : IsParams p) (held : List CrifRow) (bounded : IsBo
     abbrev pub credit_owned : Whole → Type 0
     credit_owned = IsOwned (λ (b : CreditBucket). (b.terms).id) (λ b. pos 10000) points (credit_params p c).buckets its_credit credit_curvature_value (IsSizedIn (λ b. pos 10000))
 
-    credit_found : (b : Bucket) → lists (listed_credit (credit_params p c)) b ≡ true → IsReadyIn p (credit_bucket_at c (Some b) product) fs
-    credit_found b h = ready (λ (x : CreditBucket). (x.terms).id) (λ x. pos 10000) points (credit_params p c).buckets its_credit b h
-
-    pub credit_ready : (k : BucketId) → IsListed (listed_credit (credit_params p c)) (listed_id k) → IsReadyIn p (credit_bucket_at c (listed_id k) product) (factors_of held)
-    credit_ready = at_listed (listed_credit (credit_params p c)) (λ k o. IsReadyIn p (credit_bucket_at c o product) fs) credit_found
-
     pub credit_owns : (part : Whole) → IsListed (listed_credit (credit_params p c)) (listed_id part.0) → Some part.1 ≡ curvature_in p (credit_bucket_at c (listed_id part.0) product) (factors_of held) → IsCurvatureSizedIn p (credit_bucket_at c (listed_id part.0) product) (factors_of held) part.1 → credit_owned part
     credit_owns part =
         at_listed (listed_credit (credit_params p c)) (λ k o. Some part.1 ≡ curvature_in p (credit_bucket_at c o product) fs → IsCurvatureSizedIn p (credit_bucket_at c o product) fs part.1 → credit_owned (k, part.1))
         (λ b h value known. owned (λ (x : CreditBucket). (x.terms).id) (λ x. pos 10000) points (credit_params p c).buckets its_credit credit_curvature_value (IsSizedIn (λ x. pos 10000)) b part.1 h value
-        (some_and (λ (x : CreditBucket). IsInRange alone (points b)) (λ x. IsSized alone (points b) part.1) (λ x r. known) _ (credit_found b h)))
+        (some_and (λ (x : CreditBucket). IsInRange alone (points b)) (λ x. IsSized alone (points b) part.1) (λ x r. known) _ (credit_found p facts held bounded amounts product netted c b h)))
         part.0
 
     module _ (parts : List Whole) (own : AllByRecursion credit_owned parts) (are : ids parts ≡ volatility_buckets (class_at (credit_risk_class c)) fs) where
@@ -165,14 +162,6 @@ module _ (p : Params) (facts : IsParams p) (held : List CrifRow) (bounded : IsBo
 
     abbrev pub priced_owned : Whole → Type 0
     priced_owned = IsOwned (λ (b : PricedBucket). (b.terms).id) (λ b. b.sigma) names (priced_params p c).buckets its_priced price_curvature_value (IsSizedIn (λ b. b.sigma))
-
-    priced_found : (b : Bucket) → lists (listed_priced (priced_params p c)) b ≡ true → IsReadyIn p (priced_bucket_at c (Some b) product) fs
-    priced_found b h =
-        some_and (λ (x : PricedBucket). IsInRange (λ _. x.sigma) (names b)) (λ x. IsPricedInRange x (names b)) (λ x r. record { weighed = r; sizes = names_sizes p facts held bounded amounts product netted c b }) _
-        (ready (λ (x : PricedBucket). (x.terms).id) (λ x. x.sigma) names (priced_params p c).buckets its_priced b h)
-
-    pub priced_ready : (k : BucketId) → IsListed (listed_priced (priced_params p c)) (listed_id k) → IsReadyIn p (priced_bucket_at c (listed_id k) product) (factors_of held)
-    priced_ready = at_listed (listed_priced (priced_params p c)) (λ k o. IsReadyIn p (priced_bucket_at c o product) fs) priced_found
 
     pub priced_owns : (part : Whole) → IsListed (listed_priced (priced_params p c)) (listed_id part.0) → Some part.1 ≡ curvature_in p (priced_bucket_at c (listed_id part.0) product) (factors_of held) → IsCurvatureSizedIn p (priced_bucket_at c (listed_id part.0) product) (factors_of held) part.1 → priced_owned part
     priced_owns part =

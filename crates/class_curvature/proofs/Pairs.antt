@@ -1,7 +1,7 @@
 -- The one part of foreign exchange, or none: in range, and its margin the rule's.
 use Rattle.std.proofs.Common.{◌≡◌, ℕ, List, [], ◌∷◌, length, true, refl, sym, ap, ◌∙◌, subst, ℤ, arith}
 use Rattle.std.specs.declared.cmp.Ordering.TheVariants.{Less, Equal}
-use Rattle.std.specs.List.{list_any, list_all, AllByRecursion}
+use Rattle.std.specs.List.{list_all, AllByRecursion}
 use Rattle.std.specs.List.Sorted.{IsStrictlySortedBy}
 use Rattle.std.proofs.Math.IntN.{+ℤ_idr}
 use Rattle.std.proofs.lemmas.Int.{ints}
@@ -13,7 +13,7 @@ use Rattle.simm_kinds.specs.declared.kinds.BucketId.TheVariants as id
 use Rattle.simm_kinds.specs.declared.key.FactorKey.{FactorKey}
 use Rattle.simm_kinds.specs.declared.row.CrifRow.{CrifRow}
 use Rattle.simm_kinds.specs.Batch.{is_in_range}
-use Rattle.simm_kinds.specs.Order.{bucket_id_cmp, same_bucket_id}
+use Rattle.simm_kinds.specs.Order.{bucket_id_cmp}
 use Rattle.simm_rules.specs.declared.values.BucketMargin.{BucketMargin}
 use Rattle.simm_rules.specs.Params.{Params}
 use Rattle.simm_rules.specs.Net.{Sensitivity}
@@ -29,19 +29,20 @@ use Rattle.book_range.specs.Bounded.{IsBounded}
 use Rattle.name_delta.specs.Values.{nets_in}
 use Rattle.name_delta.proofs.Shrinking.{SizesAreNetted}
 use Rattle.class_delta.proofs.Bounds.{was_value}
+use Rattle.class_delta.proofs.OnSide.{buckets_ascend}
+use Rattle.class_delta.proofs.OneBucket.{none_single}
+use Rattle.class_delta.proofs.Valued.{Whole, ids}
 use Rattle.vega_margin.specs.Combine.{volatility_buckets}
 use Rattle.vol_factors.specs.Buckets.{pairs_bucket_at}
-use Rattle.vol_factors.specs.Pairs.{pair_nets_among}
 use Rattle.vol_factors.specs.Places.{pair_volatilities}
-use Rattle.vol_factors.specs.Ranges.{ArePairsInRange, IsReadyIn}
-use Rattle.vol_factors.proofs.PairsTogether.{nets_are}
+use Rattle.vol_factors.specs.Ranges.{ArePairsInRange}
 use Rattle.curvature_margin.specs.Combine.{over_single}
 use Rattle.curvature_margin.specs.Curvature.{curvature_in, IsCurvatureSizedIn}
 use Rattle.curvature_margin.specs.Values.{IsSizedBy}
 use Rattle.curvature_margin.proofs.Idle.{pairs_none}
+use Rattle.class_vega.specs.Class.{volatility_side}
 use Rattle.class_vega.proofs.Bounds.{pairs_range}
-use Rattle.class_vega.proofs.InBook.{buckets_ascend, none_at}
-use Rattle.class_vega.proofs.Listed.{Whole, ids}
+use Rattle.class_vega.proofs.VolatilePlaces.{pairs_alone}
 use Rattle.class_curvature.specs.Class.{IsValued}
 use Rattle.class_curvature.proofs.Joinable.{AreJoinable}
 
@@ -70,13 +71,10 @@ module _ (p : Params) (facts : IsParams p) (held : List CrifRow) (bounded : IsBo
   range : ArePairsInRange p pairs
   range = pairs_range p facts held bounded amounts product netted
 
-  pub single_ready : (k : BucketId) → k ≡ id.Single → IsReadyIn p (pairs_bucket_at k product) (factors_of held)
-  single_ready k is = subst (λ l. IsReadyIn p (pairs_bucket_at l product) fs) (sym is) range
-
   -- ---- a book without volatilities of pairs
 
-  no_pairs : volatility_buckets pairs_at fs ≡ [] → pairs ≡ []
-  no_pairs none = sym (nets_are product fs) ∙ ap pair_nets_among (none_at pairs_at id.Single fs (ap (list_any (λ k. same_bucket_id k id.Single)) none))
+  no_pairs : [] ≡ volatility_buckets pairs_at fs → pairs ≡ []
+  no_pairs none = sym (pairs_alone product fs) ∙ ap (pair_volatilities product) (none_single (volatility_side pairs_at) fs [] none refl)
 
   -- ---- the part
 
@@ -101,15 +99,15 @@ module _ (p : Params) (facts : IsParams p) (held : List CrifRow) (bounded : IsBo
       ∙ ap (λ k. margin_of k part.1) is ∙ ap (margin_of id.Single) (is_value part is v)
 
   pub pairs_total : (parts : List Whole) → ids parts ≡ volatility_buckets pairs_at fs → AllByRecursion (λ part. part.0 ≡ id.Single) parts → AllByRecursion (IsValued p pairs_at fs) parts → over_single p parts ≡ fx_curvature p (nets_in product (factors_of held))
-  pairs_total [] are singles values = sym (pairs_none p ss (no_pairs (sym are)))
+  pairs_total [] are singles values = sym (pairs_none p ss (no_pairs are))
   pairs_total (part ∷ []) are singles values = one_total part singles.0 values.0
-  pairs_total (part ∷ next ∷ rest) are singles values = absurd (two_singles part next rest (subst (IsStrictlySortedBy bucket_id_cmp) (sym are) (buckets_ascend pairs_at fs)) singles.0 singles.1.0)
+  pairs_total (part ∷ next ∷ rest) are singles values = absurd (two_singles part next rest (subst (IsStrictlySortedBy bucket_id_cmp) (sym are) (buckets_ascend (volatility_side pairs_at) fs)) singles.0 singles.1.0)
 
   pub pairs_joinable : (parts : List Whole) → ids parts ≡ volatility_buckets pairs_at fs → AllByRecursion (λ part. part.0 ≡ id.Single) parts → AllByRecursion (IsValued p pairs_at fs) parts → AreJoinable parts
   pairs_joinable [] are singles values = record {
     size = pair_size;
     count = pair_count;
-    ascends = subst (IsStrictlySortedBy bucket_id_cmp) (sym are) (buckets_ascend pairs_at fs);
+    ascends = subst (IsStrictlySortedBy bucket_id_cmp) (sym are) (buckets_ascend (volatility_side pairs_at) fs);
     each = tt;
     small = omega (arith, ints);
     few = omega arith;
@@ -117,9 +115,9 @@ module _ (p : Params) (facts : IsParams p) (held : List CrifRow) (bounded : IsBo
   pairs_joinable (part ∷ []) are singles values = record {
     size = pair_size;
     count = pair_count;
-    ascends = subst (IsStrictlySortedBy bucket_id_cmp) (sym are) (buckets_ascend pairs_at fs);
+    ascends = subst (IsStrictlySortedBy bucket_id_cmp) (sym are) (buckets_ascend (volatility_side pairs_at) fs);
     each = (is_sized part singles.0 values.0, tt);
     small = let small = range.weighed.small in omega (arith, ints, small);
     few = let few = range.weighed.few in omega (arith, few, sum_by-cons pair_count part []);
   }
-  pairs_joinable (part ∷ next ∷ rest) are singles values = absurd (two_singles part next rest (subst (IsStrictlySortedBy bucket_id_cmp) (sym are) (buckets_ascend pairs_at fs)) singles.0 singles.1.0)
+  pairs_joinable (part ∷ next ∷ rest) are singles values = absurd (two_singles part next rest (subst (IsStrictlySortedBy bucket_id_cmp) (sym are) (buckets_ascend (volatility_side pairs_at) fs)) singles.0 singles.1.0)

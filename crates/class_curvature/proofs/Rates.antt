@@ -1,5 +1,5 @@
 -- The parts of interest rates, one for each currency: in range, and their margin the rule's.
-use Rattle.std.proofs.Common.{◌≡◌, ℕ, List, length, true, sym, ap, ◌∙◌, subst, ℤ, pos, ◌≤ℤ◌, arith}
+use Rattle.std.proofs.Common.{◌≡◌, ℕ, List, length, true, sym, ap, ◌∙◌, subst, ℤ, pos, arith}
 use Rattle.std.specs.Prelude.{sum_by}
 use Rattle.std.specs.List.{list_all, AllByRecursion}
 use Rattle.std.specs.List.Sorted.{IsStrictlySortedBy}
@@ -11,7 +11,7 @@ use Rattle.simm_kinds.specs.declared.kinds.BucketId.TheVariants as id
 use Rattle.simm_kinds.specs.declared.key.FactorKey.{FactorKey}
 use Rattle.simm_kinds.specs.declared.row.CrifRow.{CrifRow}
 use Rattle.simm_kinds.specs.Batch.{is_in_range}
-use Rattle.simm_kinds.specs.Order.{same_name, bucket_id_cmp}
+use Rattle.simm_kinds.specs.Order.{bucket_id_cmp}
 use Rattle.simm_rules.specs.declared.values.BucketMargin.{BucketMargin}
 use Rattle.simm_rules.specs.Params.{Params}
 use Rattle.simm_rules.specs.Net.{Sensitivity}
@@ -27,24 +27,24 @@ use Rattle.factor_book.proofs.Sums.{total_by-map}
 use Rattle.book_range.specs.Bounded.{IsBounded}
 use Rattle.ir_delta.specs.Parts.{IsCurrency}
 use Rattle.ir_delta.proofs.Sums.{sum_by-map}
-use Rattle.name_delta.specs.Values.{nets_in, IsInRange}
-use Rattle.name_delta.proofs.Lists.{each_always, each_map, each_weaker}
-use Rattle.name_delta.proofs.Shrinking.{SizesAreNetted, filter_shrinks}
-use Rattle.class_delta.specs.Buckets.{bucket_at}
+use Rattle.name_delta.specs.Values.{nets_in}
+use Rattle.name_delta.proofs.Lists.{each_weaker}
+use Rattle.name_delta.proofs.Shrinking.{SizesAreNetted}
 use Rattle.class_delta.proofs.Bounds.{was_value}
+use Rattle.class_delta.proofs.Currencies.{IsCurrencyPart, by_currency}
+use Rattle.class_delta.proofs.OnSide.{buckets_ascend}
+use Rattle.class_delta.proofs.Valued.{Whole, ids}
 use Rattle.vega_margin.specs.Combine.{volatility_buckets}
 use Rattle.vega_margin.proofs.RateBuckets.{buckets_are}
 use Rattle.vol_factors.specs.Buckets.{currency_bucket_at, count_in}
-use Rattle.vol_factors.specs.Ranges.{alone, IsReady}
+use Rattle.vol_factors.specs.Ranges.{alone}
 use Rattle.vol_factors.proofs.Currencies.{counts, sizes}
 use Rattle.curvature_margin.specs.Combine.{curvature_by_class, currency_buckets}
 use Rattle.curvature_margin.specs.Curvature.{curvature_in, IsCurvatureSizedIn}
 use Rattle.curvature_margin.specs.Values.{IsSizedBy}
 use Rattle.curvature_margin.proofs.Idle.{whole}
+use Rattle.class_vega.specs.Class.{volatility_side}
 use Rattle.class_vega.proofs.Bounds.{rates_range}
-use Rattle.class_vega.proofs.InBook.{buckets_ascend}
-use Rattle.class_vega.proofs.Listed.{Whole, ids}
-use Rattle.class_vega.proofs.Parts.{IsCurrencyPart, by_currency}
 use Rattle.class_curvature.specs.Class.{IsValued}
 use Rattle.class_curvature.proofs.Joinable.{AreJoinable}
 
@@ -60,23 +60,6 @@ module _ (p : Params) (facts : IsParams p) (held : List CrifRow) (bounded : IsBo
 
   abbrev of : List ℕ → List (Amount VolatilityIn)
   of currency = volatilities_in currency ss
-
-  -- ---- each currency is in range
-
-  each_range : (currency : List ℕ) → IsInRange alone (of currency)
-  each_range currency =
-      let its = rates_range p facts held bounded amounts product netted in
-      let low : (v : VolatilityIn) → pos 0 ≤ℤ alone v = λ v. omega (arith, ints) in
-      record {
-        few = its.few_each currency;
-        small = omega (arith, ints, filter_shrinks alone low (λ a. same_name (a.of).currency currency) (select as_rate_volatility ss), its.small);
-      }
-
-  pub rates_ready : AllByRecursion (λ k. IsReady p (bucket_at (record { product = product; class = class.IR }) k) (factors_of held)) (volatility_buckets (record { product = product; class = class.IR }) (factors_of held))
-  rates_ready =
-      subst (AllByRecursion (λ k. IsReady p (bucket_at rates_at k) fs)) (sym (buckets_are product fs))
-      (each_map (λ k. IsReady p (bucket_at rates_at k) fs) id.Currency (volatility_currencies ss)
-      (each_always (λ currency. IsInRange alone (of currency)) each_range (volatility_currencies ss)))
 
   -- ---- their parts
 
@@ -131,7 +114,7 @@ module _ (p : Params) (facts : IsParams p) (held : List CrifRow) (bounded : IsBo
         record {
           size = size_of;
           count = count_of;
-          ascends = subst (IsStrictlySortedBy bucket_id_cmp) (sym are) (buckets_ascend rates_at fs);
+          ascends = subst (IsStrictlySortedBy bucket_id_cmp) (sym are) (buckets_ascend (volatility_side rates_at) fs);
           each = each_weaker (IsValued p rates_at fs) (λ part. IsSizedBy (size_of part) (count_of part) part.1) (λ part v. one_sized part.0 part.1 v.sized) parts values;
           small = omega (arith, ints, total_size, its.small);
           few = omega (arith, total_count, its.few);

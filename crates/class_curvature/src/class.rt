@@ -3,9 +3,9 @@ ghost use Rattle.book_range.specs.Bounded.{IsMarginable};
 ghost use Rattle.name_delta.specs.Values.{nets_in};
 ghost use Rattle.class_curvature.specs.Class.{class_curvature_of};
 
-use crate::buckets::bucket_values;
-use curvature_margin::combine;
-use factor_book::{ClassAt, Factors, factors_are_netted};
+use crate::over::curvature_from;
+use crate::values::curvature_values;
+use factor_book::{ClassAt, Factors};
 use mh_units::Cents;
 use pair_sum::Steps;
 use simm_params::Params;
@@ -26,8 +26,6 @@ pub fn class_curvature<L: Ledger>(
     ensures low { IfOk result (λ m. pos 0 ≤ℤ m.0) }
     ensures size { IfOk result (λ m. m.0 ≤ℤ pos (14 * 10 ^ 14)) }
 {
-    params.facts();
-    factors_are_netted();
-    let parts = bucket_values(alloc, params, factors, at, steps)?;
-    combine(alloc, params, at, parts.as_slice())
+    let parts = curvature_values(alloc, params, factors, at, steps)?;
+    curvature_from(alloc, params, at, parts.as_slice())
 }
