@@ -1,2 +1,8 @@
 pub mod Parts
 pub mod Whole
+pub mod Alone
+pub mod Gathered
+pub mod Renewed
+pub mod Gathering
+pub mod Untouched
+pub mod Classes

@@ -1,20 +1,29 @@
 -- The margins of the risk classes in each product class of a book, by its factors.
 -- (ISDA SIMM methodology, structure: margins are per product class and risk class.)
 use Rattle.std.specs.Prelude.{List, ℤ, pos}
+use Rattle.std.specs.List.{filter}
 use Rattle.simm_kinds.specs.declared.kinds.ProductClass.{ProductClass}
 use Rattle.simm_kinds.specs.declared.kinds.ProductClass.TheVariants as product
 use Rattle.simm_kinds.specs.declared.kinds.RiskClass.{RiskClass}
 use Rattle.simm_kinds.specs.declared.kinds.RiskClass.TheVariants as class
+use Rattle.simm_kinds.specs.declared.kinds.BucketId.{BucketId}
 use Rattle.simm_kinds.specs.declared.key.FactorKey.{FactorKey}
+use Rattle.simm_rules.specs.declared.values.BucketMargin.{BucketMargin}
 use Rattle.simm_rules.specs.declared.values.ClassMargins.{ClassMargins}
 use Rattle.simm_rules.specs.Params.{Params}
 use Rattle.simm_rules.specs.Parts.{cents}
 use Rattle.simm_rules.specs.Net.{Sensitivity}
 use Rattle.simm_rules.specs.BaseCorrelation.{base_margin}
 use Rattle.simm_rules.specs.Simm.{class_margin_of}
+use Rattle.factor_book.specs.declared.at.ClassAt.{ClassAt}
 use Rattle.factor_book.specs.declared.holding.Holding.{Holding}
+use Rattle.book_range.specs.Bounded.{IsMarginable}
 use Rattle.name_delta.specs.Values.{nets_in}
+use Rattle.class_delta.specs.Delta.{AreDeltaParts}
+use Rattle.class_vega.specs.Class.{AreVegaParts}
+use Rattle.class_curvature.specs.Class.{AreCurvatureParts}
 use Rattle.class_combine.specs.declared.whole.ProductClasses.{ProductClasses}
+use Rattle.kept_buckets.specs.Touched.{is_of_class}
 
 -- the part of base correlation, which is margined in qualifying credit alone
 abbrev pub base_of : Params → List Sensitivity → RiskClass → ℤ
@@ -46,3 +55,19 @@ products_of p factors = record {
   equity = classes_at p factors product.Equity;
   commodity = classes_at p factors product.Commodity;
 }
+
+-- the buckets of a class that have a factor among these, in order, each with its value: in delta, vega and curvature
+pub record AreClassParts (p : Params) (at : ClassAt) (factors : List (FactorKey × Holding)) (deltas vegas curvatures : List (BucketId × BucketMargin)) : Type 0 where
+  pub delta : AreDeltaParts p at factors deltas
+  pub vega : AreVegaParts p at factors vegas
+  pub curvature : AreCurvatureParts p at factors curvatures
+
+-- those of a book that can be margined
+pub record AreBookParts (p : Params) (at : ClassAt) (deltas vegas curvatures : List (BucketId × BucketMargin)) : Type 0 where
+  pub factors : List (FactorKey × Holding)
+  pub book : IsMarginable p factors
+  pub are : AreClassParts p at factors deltas vegas curvatures
+
+-- the factors of a risk class in a product class, on both sides
+abbrev pub class_factors : ClassAt → List (FactorKey × Holding) → List (FactorKey × Holding)
+class_factors at factors = filter (λ f. is_of_class at f.0) factors

@@ -1,63 +1,124 @@
 //! The margin of one risk class in a product class.
-ghost use Rattle.std.specs.Prelude.{◌≡◌, ◌*◌, ◌^◌, IfOk, pos, ◌≤ℤ◌};
+ghost use Rattle.std.specs.Prelude.{◌≡◌, ◌+◌, ◌*◌, ◌^◌, ◌≤◌, List, IsSome, IsOk, IfOk, OnOk, pos, ◌≤ℤ◌};
+ghost use Rattle.simm_kinds.specs.declared.key.FactorKey.{FactorKey};
 ghost use Rattle.simm_rules.specs.Simm.{class_margin_of};
+ghost use Rattle.factor_book.specs.declared.holding.Holding.{Holding};
 ghost use Rattle.name_delta.specs.Values.{nets_in};
 ghost use Rattle.class_combine.specs.Classes.{IsClassMargin};
 ghost use Rattle.book_range.specs.Bounded.{IsMarginable};
-ghost use Rattle.book_margin.specs.Classes.{base_of};
+ghost use Rattle.class_delta.specs.Delta.{AreDeltaParts, AreBookDeltas};
+ghost use Rattle.kept_buckets.specs.Dirty.{steps_left};
+ghost use Rattle.kept_buckets.specs.Kept.{margin_at};
+ghost use Rattle.book_margin.specs.Classes.{base_of, AreClassParts, AreBookParts};
+ghost use Rattle.book_margin.specs.Right.{AreRight, IsMargin, IsWhole, Renews};
 
-use class_curvature::class_curvature;
-use class_delta::{base_correlation, class_delta};
-use class_vega::class_vega;
+use crate::buckets::{delta_parts, volatility_parts};
+use class_curvature::curvature_from;
+use class_delta::{base_from, delta_from};
+use class_vega::vega_from;
 use factor_book::{ClassAt, Factors};
+use kept_buckets::KeptBuckets;
 use mh_units::Cents;
 use pair_sum::Steps;
-use simm_kinds::{ProductClass, RiskClass};
+use simm_kinds::{BucketId, RiskClass};
 use simm_params::Params;
+use simm_rules::BucketMargin;
 use std::alloc::{AllocError, Global};
 use std::sync::ledger::Ledger;
 
-/// The margin of a risk class in a product class, in cents: delta, vega and curvature, and in credit that qualifies base
-/// correlation. The factors are those of a book in range. Want of memory is the only error.
-pub fn class_margin<L: Ledger>(
+/// Sees that the margin of a risk class in a product class is kept: where it is not, it is worked out, with the values of its
+/// buckets that are not kept. Want of memory is the only error; where the margin is kept, nothing is done.
+pub fn renew_class<L: Ledger>(
     alloc: Global,
     params: &Params,
     factors: &Factors,
-    product: ProductClass,
-    class: RiskClass,
+    kept: &mut KeptBuckets,
+    at: ClassAt,
+    steps: &mut Steps<L>,
+) -> Result<(), AllocError>
+    requires book { IsMarginable params.now factors.now }
+    requires right { AreRight params.now factors.now kept.old }
+    ensures renewed { Renews params.now factors.now kept.old kept.new }
+    ensures kept { OnOk result (IsSome (margin_at kept.new at)) }
+    ensures steps { OnOk result (steps.new + steps_left kept.new factors.now ≤ steps.old + steps_left kept.old factors.now) }
+    ensures at_once { IsSome (margin_at kept.old at) → IsOk result }
+{
+    match kept.margin(at) {
+        Some(_) => Ok(()),
+        None => {
+            let margin = renewed_margin(alloc, params, factors, kept, at, steps)?;
+            kept.keep_margin(at, margin);
+            Ok(())
+        }
+    }
+}
+
+// The margin of a class, in cents, by the values of its buckets, each of which is kept afterwards: delta, vega and curvature, and in
+// credit that qualifies base correlation. Want of memory is the only error.
+fn renewed_margin<L: Ledger>(
+    alloc: Global,
+    params: &Params,
+    factors: &Factors,
+    kept: &mut KeptBuckets,
+    at: ClassAt,
     steps: &mut Steps<L>,
 ) -> Result<Cents, AllocError>
-    requires { IsMarginable params.now factors.now }
-    ensures value { IfOk result (λ m. m.0 ≡ class_margin_of params.now (nets_in product factors.now) class) }
+    requires book { IsMarginable params.now factors.now }
+    requires right { AreRight params.now factors.now kept.old }
+    ensures margin { IfOk result (λ m. IsMargin params.now factors.now at m.0) }
+    ensures renewed { Renews params.now factors.now kept.old kept.new }
+    ensures whole { OnOk result (IsWhole factors.now kept.new at) }
+    ensures steps { OnOk result (steps.new + steps_left kept.new factors.now ≤ steps.old + steps_left kept.old factors.now) }
+{
+    let deltas = delta_parts(alloc, params, factors, kept, at, steps)?;
+    let volatilities = volatility_parts(alloc, params, factors, kept, at, steps)?;
+    class_from(
+        alloc,
+        params,
+        at,
+        deltas.as_slice(),
+        volatilities.vegas.as_slice(),
+        volatilities.curvatures.as_slice(),
+    )
+}
+
+// The margin of a class, in cents, over the values of its buckets: in delta those of all that have a
+// factor on that side among those of a book in range, base correlation's too, in vega and in curvature those of all that have a
+// volatility, each in order. Want of memory is the only error.
+fn class_from(
+    alloc: Global,
+    params: &Params,
+    at: ClassAt,
+    deltas: &[(BucketId, BucketMargin)],
+    vegas: &[(BucketId, BucketMargin)],
+    curvatures: &[(BucketId, BucketMargin)],
+) -> Result<Cents, AllocError>
+    requires { AreBookParts params.now at deltas.now vegas.now curvatures.now }
+    ensures value { (factors : List (FactorKey × Holding)) → IsMarginable params.now factors → AreClassParts params.now at factors deltas.now vegas.now curvatures.now
+        → IfOk result (λ m. m.0 ≡ class_margin_of params.now (nets_in at.product factors) at.class) }
     ensures size { IfOk result (λ m. IsClassMargin m.0) }
 {
-    let at = ClassAt { product, class };
-    let delta = class_delta(alloc, params, factors, at, steps)?;
-    let vega = class_vega(alloc, params, factors, at, steps)?;
-    let curvature = class_curvature(alloc, params, factors, at, steps)?;
-    let base = base_part(alloc, params, factors, at, steps)?;
+    let delta = delta_from(alloc, params, at, deltas)?;
+    let vega = vega_from(alloc, params, at, vegas)?;
+    let curvature = curvature_from(alloc, params, at, curvatures)?;
+    let base = base_part(params, at, deltas);
     Ok(Cents(delta.0 + vega.0 + curvature.0 + base.0))
 }
 
 // The part of base correlation, which is margined in credit that qualifies alone.
-fn base_part<L: Ledger>(
-    alloc: Global,
-    params: &Params,
-    factors: &Factors,
-    at: ClassAt,
-    steps: &mut Steps<L>,
-) -> Result<Cents, AllocError>
-    requires { IsMarginable params.now factors.now }
-    ensures value { IfOk result (λ m. m.0 ≡ base_of params.now (nets_in at.product factors.now) at.class) }
-    ensures low { IfOk result (λ m. pos 0 ≤ℤ m.0) }
-    ensures size { IfOk result (λ m. m.0 ≤ℤ pos (10 ^ 14)) }
+fn base_part(params: &Params, at: ClassAt, parts: &[(BucketId, BucketMargin)]) -> Cents
+    requires { AreBookDeltas params.now at parts.now }
+    ensures value { (factors : List (FactorKey × Holding)) → IsMarginable params.now factors → AreDeltaParts params.now at factors parts.now
+        → result.0 ≡ base_of params.now (nets_in at.product factors) at.class }
+    ensures low { pos 0 ≤ℤ result.0 }
+    ensures size { result.0 ≤ℤ pos (10 ^ 14) }
 {
     match at.class {
-        RiskClass::CreditQ => base_correlation(alloc, params, factors, at.product, steps),
+        RiskClass::CreditQ => base_from(params, at, parts),
         RiskClass::IR
         | RiskClass::CreditNonQ
         | RiskClass::Equity
         | RiskClass::Commodity
-        | RiskClass::FX => Ok(Cents(0)),
+        | RiskClass::FX => Cents(0),
     }
 }

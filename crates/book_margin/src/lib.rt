@@ -1,10 +1,19 @@
 //! The margin of a whole book in range, by the factors that its rows net to: product class after product class, risk class
-//! after risk class, then all together, with the additional margins.
+//! after risk class, then all together, with the additional margins. What is kept of the book's buckets and classes is taken as it
+//! is, and what is not is worked out and kept.
 //! (ISDA SIMM methodology, structure of the methodology.)
 #![tactic(auto)]
 
+mod bucket;
+mod buckets;
 mod class;
-mod classes;
+mod laws;
 mod margin;
+mod renewal;
 
-pub use margin::margin_in_range;
+pub use laws::{
+    class_margin_hangs_on_its_factors, kept_values_are_from_scratch, nothing_is_right,
+    touched_stays_right,
+};
+pub use margin::{margin_in_range, margin_over_kept};
+pub use renewal::renew;

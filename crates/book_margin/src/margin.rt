@@ -1,21 +1,27 @@
-ghost use Rattle.std.specs.Prelude.{◌≡◌, List, IfOk};
+//! The margin of a whole book, over what is kept of it or by itself.
+ghost use Rattle.std.specs.Prelude.{◌≡◌, ◌+◌, ◌<◌, ◌≤◌, List, IsOk, IfOk, OnOk};
 ghost use Rattle.simm_kinds.specs.declared.row.CrifRow.{CrifRow as Row};
 ghost use Rattle.simm_rules.specs.Simm.{simm};
 ghost use Rattle.factor_book.specs.Factors.{factors_of};
 ghost use Rattle.class_combine.specs.Sums.{AreOfBook, StandFor};
 ghost use Rattle.class_combine.specs.Whole.{IsTotal};
 ghost use Rattle.book_range.specs.Bounded.{IsMarginable};
+ghost use Rattle.kept_buckets.specs.Dirty.{steps_left};
+ghost use Rattle.book_margin.specs.Right.{AreRight, AreMarginsKept, IsFresh, Renews};
 
-use crate::classes::product_classes;
+use crate::laws::nothing_is_right;
+use crate::renewal::renew;
 use class_combine::{AddOnSums, add_ons, breakdown, product_margins};
 use factor_book::Factors;
+use kept_buckets::KeptBuckets;
 use name_delta::products_are_netted;
+use pair_sum::Steps;
 use simm_kinds::CrifRow;
 use simm_params::Params;
 use simm_rules::Breakdown;
 use std::alloc::{AllocError, Global};
 use std::marker::Brand;
-use std::sync::ledger::Blank;
+use std::sync::ledger::{Blank, Ledger};
 
 /// The margin of a book in range, by the factors that its rows net to, the sums of its add-ons and its parameters, the rows of the
 /// trade without a name: the product classes, each of its risk classes, and the additional margins. Each amount is in cents.
@@ -32,8 +38,58 @@ pub fn margin_in_range(
     ensures value { (held : List Row) → factors.now ≡ factors_of held → StandFor sums.now parameters.now held → IfOk result (λ b. b ≡ simm params.now held) }
     ensures total { IfOk result (λ b. IsTotal b.total.0) }
 {
+    margin_counted::<Brand>(alloc, params, factors, sums, parameters, Blank::new(1))
+}
+
+// The same, its steps counted in a ledger of their own.
+fn margin_counted<L: Ledger>(
+    alloc: Global,
+    params: &Params,
+    factors: &Factors,
+    sums: &AddOnSums,
+    parameters: &[CrifRow],
+    blank: Blank,
+) -> Result<Breakdown, AllocError>
+    requires name { blank.name ≡ L.name }
+    requires parts { blank.parts ≡ L.parts }
+    requires some { 0 < blank.parts }
+    requires book { IsMarginable params.now factors.now }
+    requires add_ons { AreOfBook sums.now parameters.now }
+    ensures value { (held : List Row) → factors.now ≡ factors_of held → StandFor sums.now parameters.now held → IfOk result (λ b. b ≡ simm params.now held) }
+    ensures total { IfOk result (λ b. IsTotal b.total.0) }
+{
+    nothing_is_right();
+    let mut kept = KeptBuckets::new(alloc);
+    let mut steps = Steps::<L>::new(blank);
+    margin_over_kept(
+        alloc, params, factors, sums, parameters, &mut kept, &mut steps,
+    )
+}
+
+/// The same over what is kept of the book, which is right: what is not kept is worked out and kept. The steps are at most those of the
+/// values that are not kept. For want of memory, the only error, what is kept is right still. Where the margin of each class is
+/// kept, no memory is taken and no step.
+pub fn margin_over_kept<L: Ledger>(
+    alloc: Global,
+    params: &Params,
+    factors: &Factors,
+    sums: &AddOnSums,
+    parameters: &[CrifRow],
+    kept: &mut KeptBuckets,
+    steps: &mut Steps<L>,
+) -> Result<Breakdown, AllocError>
+    requires book { IsMarginable params.now factors.now }
+    requires add_ons { AreOfBook sums.now parameters.now }
+    requires right { AreRight params.now factors.now kept.old }
+    ensures value { (held : List Row) → factors.now ≡ factors_of held → StandFor sums.now parameters.now held → IfOk result (λ b. b ≡ simm params.now held) }
+    ensures total { IfOk result (λ b. IsTotal b.total.0) }
+    ensures renewed { Renews params.now factors.now kept.old kept.new }
+    ensures fresh { OnOk result (IsFresh factors.now kept.new) }
+    ensures steps { OnOk result (steps.new + steps_left kept.new factors.now ≤ steps.old + steps_left kept.old factors.now) }
+    ensures at_once { AreMarginsKept kept.old → IsOk result }
+{
     products_are_netted();
-    let classes = product_classes::<Brand>(alloc, params, factors, Blank::new(1))?;
+    let classes = renew(alloc, params, factors, kept, steps)?;
     let margins = product_margins(params, &classes);
     let added = add_ons(sums, parameters, &margins);
     Ok(breakdown(&classes, &margins, &added))

@@ -3,10 +3,10 @@ use Rattle.name_delta.specs.Values.{nets_in}
 use Rattle.class_combine.specs.Multipliers.{multiplied_in}
 use Rattle.class_combine.specs.Whole.{breakdown_of, margins_of}
 use Rattle.book_margin.proofs.Whole.{whole_is}
-use Rattle.book_margin.proofs.margin.margin_in_range.Goals as goal
+use Rattle.book_margin.proofs.margin.margin_over_kept.Goals as goal
 
 pub returns-clause-value : goal.returns-clause-value
-returns-clause-value c = λ held netted stand.
+returns-clause-value g c = λ held netted stand.
     let p = c.args.params.now in
     let margins = c.product_margins-margins.ensures.value ∙ ap (margins_of p) c.in_ok-classes.ensures.value in
     c.breakdown.ensures.value ∙ (λ i. breakdown_of (c.in_ok-classes.ensures.value i) (margins i) c.add_ons-added.result)

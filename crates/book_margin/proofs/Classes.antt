@@ -1,0 +1,140 @@
+-- The margins of the risk classes in each product class, as they are kept.
+use Rattle.std.proofs.Common.{◌≡◌, List, Option, Some, refl, sym, ◌∙◌, subst, Result, Ok, Err}
+use Rattle.std.specs.Prelude.{IsSome, IfSome, IfOk, OnOk}
+use Rattle.std.specs.List.{AllByRecursion}
+use Rattle.mh_units.specs.declared.quantities.Cents.{Cents}
+use Rattle.simm_kinds.specs.declared.kinds.ProductClass.{ProductClass}
+use Rattle.simm_kinds.specs.declared.kinds.ProductClass.TheVariants as product
+use Rattle.simm_kinds.specs.declared.kinds.RiskClass.{RiskClass}
+use Rattle.simm_kinds.specs.declared.kinds.RiskClass.TheVariants as class
+use Rattle.simm_kinds.specs.declared.key.FactorKey.{FactorKey}
+use Rattle.simm_rules.specs.declared.values.ClassMargins.{ClassMargins}
+use Rattle.simm_rules.specs.Params.{Params}
+use Rattle.simm_rules.specs.Parts.{cents}
+use Rattle.simm_rules.specs.Net.{Sensitivity}
+use Rattle.simm_rules.specs.Simm.{products, classes, class_margin_of}
+use Rattle.factor_book.specs.declared.at.ClassAt.{ClassAt}
+use Rattle.factor_book.specs.declared.holding.Holding.{Holding}
+use Rattle.name_delta.specs.Values.{nets_in}
+use Rattle.class_combine.specs.declared.whole.ProductClasses.{ProductClasses}
+use Rattle.class_combine.specs.Classes.{class_in, IsClassMargin}
+use Rattle.class_combine.specs.Whole.{classes_in, AreProductClasses}
+use Rattle.kept_buckets.specs.Kept.{Kept, margin_at}
+use Rattle.book_margin.specs.Classes.{classes_of, products_of}
+use Rattle.book_margin.specs.Right.{IsMargin, AreRight, AreMarginsKept, IsFresh}
+
+abbrev Factors : Type 0
+Factors = List (FactorKey × Holding)
+
+abbrev pub class_of_product : ProductClass → RiskClass → ClassAt
+class_of_product product class = record { product = product; class = class }
+
+-- ---- each class, each product class
+
+pub each_class : (P : RiskClass → Type 0) → AllByRecursion P classes → (c : RiskClass) → P c
+each_class P h class.IR = h.0
+each_class P h class.CreditQ = h.1.0
+each_class P h class.CreditNonQ = h.1.1.0
+each_class P h class.Equity = h.1.1.1.0
+each_class P h class.Commodity = h.1.1.1.1.0
+each_class P h class.FX = h.1.1.1.1.1.0
+
+pub each_product : (P : ProductClass → Type 0) → AllByRecursion P products → (a : ProductClass) → P a
+each_product P h product.RatesFX = h.0
+each_product P h product.Credit = h.1.0
+each_product P h product.Equity = h.1.1.0
+each_product P h product.Commodity = h.1.1.1.0
+
+-- the margin of a class is kept, those of all classes in a product class
+abbrev pub IsClassKept : ProductClass → Kept → RiskClass → Type 0
+IsClassKept a kept c = IsSome (margin_at kept (class_of_product a c))
+
+abbrev pub IsProductKept : Kept → ProductClass → Type 0
+IsProductKept kept a = (c : RiskClass) → IsClassKept a kept c
+
+pub all_margins : (kept : Kept) → AllByRecursion (IsProductKept kept) products → AreMarginsKept kept
+all_margins kept h at = each_product (IsProductKept kept) h at.product at.class
+
+-- ---- read from what is kept
+
+pub classes_read : (kept : Kept) (a : ProductClass) (m : ClassMargins) → margin_at kept (class_of_product a class.IR) ≡ Some m.ir → margin_at kept (class_of_product a class.CreditQ) ≡ Some m.credit_q
+    → margin_at kept (class_of_product a class.CreditNonQ) ≡ Some m.credit_nonq → margin_at kept (class_of_product a class.Equity) ≡ Some m.equity
+    → margin_at kept (class_of_product a class.Commodity) ≡ Some m.commodity → margin_at kept (class_of_product a class.FX) ≡ Some m.fx
+    → (c : RiskClass) → margin_at kept (class_of_product a c) ≡ Some (class_in m c)
+classes_read kept a m ir credit_q credit_nonq equity commodity fx class.IR = ir
+classes_read kept a m ir credit_q credit_nonq equity commodity fx class.CreditQ = credit_q
+classes_read kept a m ir credit_q credit_nonq equity commodity fx class.CreditNonQ = credit_nonq
+classes_read kept a m ir credit_q credit_nonq equity commodity fx class.Equity = equity
+classes_read kept a m ir credit_q credit_nonq equity commodity fx class.Commodity = commodity
+classes_read kept a m ir credit_q credit_nonq equity commodity fx class.FX = fx
+
+abbrev AreRead : Kept → ProductClass → ClassMargins → Type 0
+AreRead kept a m = (c : RiskClass) → margin_at kept (class_of_product a c) ≡ Some (class_in m c)
+
+pub products_read : (kept : Kept) (m : ProductClasses) → AreRead kept product.RatesFX m.rates_fx → AreRead kept product.Credit m.credit → AreRead kept product.Equity m.equity → AreRead kept product.Commodity m.commodity
+    → (at : ClassAt) → margin_at kept at ≡ Some (class_in (classes_in m at.product) at.class)
+products_read kept m rates_fx credit equity commodity at = by at.product at.class
+  where
+    by : (a : ProductClass) (c : RiskClass) → margin_at kept (class_of_product a c) ≡ Some (class_in (classes_in m a) c)
+    by product.RatesFX = rates_fx
+    by product.Credit = credit
+    by product.Equity = equity
+    by product.Commodity = commodity
+
+-- ---- they are those of the rule
+
+same_classes : (m n : ClassMargins) → ((c : RiskClass) → (class_in m c).0 ≡ (class_in n c).0) → m ≡ n
+same_classes m n h = λ i. record {
+  ir = cents (h class.IR i);
+  credit_q = cents (h class.CreditQ i);
+  credit_nonq = cents (h class.CreditNonQ i);
+  equity = cents (h class.Equity i);
+  commodity = cents (h class.Commodity i);
+  fx = cents (h class.FX i);
+}
+
+same_products : (m n : ProductClasses) → ((a : ProductClass) (c : RiskClass) → (class_in (classes_in m a) c).0 ≡ (class_in (classes_in n a) c).0) → m ≡ n
+same_products m n h = λ i. record {
+  rates_fx = same_classes m.rates_fx n.rates_fx (h product.RatesFX) i;
+  credit = same_classes m.credit n.credit (h product.Credit) i;
+  equity = same_classes m.equity n.equity (h product.Equity) i;
+  commodity = same_classes m.commodity n.commodity (h product.Commodity) i;
+}
+
+of_class : (p : Params) (ss : List Sensitivity) (c : RiskClass) → (class_in (classes_of p ss) c).0 ≡ class_margin_of p ss c
+of_class p ss class.IR = refl
+of_class p ss class.CreditQ = refl
+of_class p ss class.CreditNonQ = refl
+of_class p ss class.Equity = refl
+of_class p ss class.Commodity = refl
+of_class p ss class.FX = refl
+
+of_rule : (p : Params) (fs : Factors) (a : ProductClass) (c : RiskClass) → (class_in (classes_in (products_of p fs) a) c).0 ≡ class_margin_of p (nets_in a fs) c
+of_rule p fs product.RatesFX = of_class p (nets_in product.RatesFX fs)
+of_rule p fs product.Credit = of_class p (nets_in product.Credit fs)
+of_rule p fs product.Equity = of_class p (nets_in product.Equity fs)
+of_rule p fs product.Commodity = of_class p (nets_in product.Commodity fs)
+
+module _ (p : Params) (fs : Factors) (kept : Kept) (m : ProductClasses) (right : AreRight p fs kept) (are : (at : ClassAt) → margin_at kept at ≡ Some (class_in (classes_in m at.product) at.class)) where
+  its_margin : (at : ClassAt) → IsMargin p fs at (class_in (classes_in m at.product) at.class).0
+  its_margin at = subst (λ (o : Option Cents). IfSome o (λ x. IsMargin p fs at x.0)) (are at) (right.margins at)
+
+  pub products_are : m ≡ products_of p fs
+  products_are = same_products m (products_of p fs) (λ a c. (its_margin (class_of_product a c)).value ∙ sym (of_rule p fs a c))
+
+  pub products_sized : AreProductClasses m
+  products_sized a c = (its_margin (class_of_product a c)).size
+
+pub fresh : {p : Params} {fs : Factors} (kept : Kept) → AreRight p fs kept → AreMarginsKept kept → IsFresh fs kept
+fresh kept right all = record { margins = all; whole = λ at. right.whole at (all at) }
+
+-- ---- what is so of a result
+
+pub on_ok : {T E P : Type 0} (r : Result T E) → P → OnOk r P
+on_ok (Ok x) h = h
+on_ok (Err e) h = tt
+
+pub margin_is : {E : Type 0} (p : Params) (fs : Factors) (at : ClassAt) (r : Result Cents E) → IfOk r (λ m. m.0 ≡ class_margin_of p (nets_in at.product fs) at.class) → IfOk r (λ m. IsClassMargin m.0)
+    → IfOk r (λ m. IsMargin p fs at m.0)
+margin_is p fs at (Ok m) value size = record { value = value; size = size }
+margin_is p fs at (Err e) value size = tt

@@ -1,0 +1,19 @@
+-- The buckets of a class with their values, as they are lent.
+use Rattle.std.proofs.Common.{◌≡◌, List, sym, subst}
+use Rattle.simm_kinds.specs.declared.key.FactorKey.{FactorKey}
+use Rattle.simm_rules.specs.Params.{Params}
+use Rattle.factor_book.specs.declared.at.ClassAt.{ClassAt}
+use Rattle.factor_book.specs.declared.holding.Holding.{Holding}
+use Rattle.class_delta.specs.Delta.{AreDeltaParts}
+use Rattle.class_delta.proofs.Valued.{Whole}
+use Rattle.class_vega.specs.Class.{AreVegaParts}
+use Rattle.class_curvature.specs.Class.{AreCurvatureParts}
+use Rattle.book_margin.specs.Classes.{AreClassParts}
+
+pub lent_parts : (p : Params) (at : ClassAt) (fs : List (FactorKey × Holding)) (deltas vegas curvatures ds vs cs : List Whole) → ds ≡ deltas → vs ≡ vegas → cs ≡ curvatures
+    → AreDeltaParts p at fs deltas → AreVegaParts p at fs vegas → AreCurvatureParts p at fs curvatures → AreClassParts p at fs ds vs cs
+lent_parts p at fs deltas vegas curvatures ds vs cs d v c delta vega curvature = record {
+  delta = subst (AreDeltaParts p at fs) (sym d) delta;
+  vega = subst (AreVegaParts p at fs) (sym v) vega;
+  curvature = subst (AreCurvatureParts p at fs) (sym c) curvature;
+}

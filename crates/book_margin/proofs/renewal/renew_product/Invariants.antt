@@ -1,0 +1,8 @@
+use Rattle.std.proofs.Common.{take}
+use Rattle.simm_rules.specs.Simm.{classes}
+use Rattle.book_margin.proofs.Classes.{IsClassKept}
+use Rattle.book_margin.proofs.Gathering.{Renewed}
+use Rattle.book_margin.proofs.renewal.renew_product.Given as goal
+
+abbrev pub invariant-loop-class : goal.invariant-loop-class
+invariant-loop-class g l = Renewed l.params l.factors (IsClassKept l.product) l.fn.kept l.kept (take l.class-index classes) l.fn.steps l.steps

@@ -1,0 +1,113 @@
+//! The margins of the risk classes in each product class: what is kept of them, and what is not is worked out and kept.
+ghost use Rattle.std.specs.Prelude.{◌≡◌, ◌+◌, ◌≤◌, Some, IsSome, IsOk, IfOk, OnOk};
+ghost use Rattle.simm_kinds.specs.declared.kinds.RiskClass.{RiskClass as Class};
+ghost use Rattle.factor_book.specs.declared.at.ClassAt.{ClassAt as At};
+ghost use Rattle.class_combine.specs.Classes.{class_in};
+ghost use Rattle.class_combine.specs.Whole.{classes_in, AreProductClasses};
+ghost use Rattle.book_range.specs.Bounded.{IsMarginable};
+ghost use Rattle.kept_buckets.specs.Dirty.{steps_left};
+ghost use Rattle.kept_buckets.specs.Kept.{margin_at};
+ghost use Rattle.book_margin.specs.Classes.{products_of};
+ghost use Rattle.book_margin.specs.Right.{AreRight, AreMarginsKept, IsFresh, Renews};
+
+use crate::class::renew_class;
+use class_combine::ProductClasses;
+use factor_book::{ClassAt, Factors};
+use kept_buckets::KeptBuckets;
+use mh_units::Cents;
+use pair_sum::Steps;
+use simm_kinds::{ProductClass, RiskClass};
+use simm_params::Params;
+use simm_rules::ClassMargins;
+use std::alloc::{AllocError, Global};
+use std::sync::ledger::Ledger;
+
+/// The margins of the risk classes in each product class. What is kept of them is taken as it is; what is not is worked out, bucket by
+/// bucket where no value is kept, and kept: each place that has a factor, and each class. For want of memory, the only error, what is
+/// kept is right still. Where the margin of each class is kept, no memory is taken and no step.
+pub fn renew<L: Ledger>(
+    alloc: Global,
+    params: &Params,
+    factors: &Factors,
+    kept: &mut KeptBuckets,
+    steps: &mut Steps<L>,
+) -> Result<ProductClasses, AllocError>
+    requires book { IsMarginable params.now factors.now }
+    requires right { AreRight params.now factors.now kept.old }
+    ensures value { IfOk result (λ m. m ≡ products_of params.now factors.now) }
+    ensures margins { IfOk result AreProductClasses }
+    ensures renewed { Renews params.now factors.now kept.old kept.new }
+    ensures fresh { OnOk result (IsFresh factors.now kept.new) }
+    ensures steps { OnOk result (steps.new + steps_left kept.new factors.now ≤ steps.old + steps_left kept.old factors.now) }
+    ensures at_once { AreMarginsKept kept.old → IsOk result }
+{
+    for product in ProductClass::ALL {
+        renew_product(alloc, params, factors, kept, product, steps)?;
+    }
+    Ok(kept_products(kept))
+}
+
+// Sees that the margins of the risk classes in one product class are kept.
+fn renew_product<L: Ledger>(
+    alloc: Global,
+    params: &Params,
+    factors: &Factors,
+    kept: &mut KeptBuckets,
+    product: ProductClass,
+    steps: &mut Steps<L>,
+) -> Result<(), AllocError>
+    requires book { IsMarginable params.now factors.now }
+    requires right { AreRight params.now factors.now kept.old }
+    ensures renewed { Renews params.now factors.now kept.old kept.new }
+    ensures kept { OnOk result ((class : Class) → IsSome (margin_at kept.new (record { product = product; class = class }))) }
+    ensures steps { OnOk result (steps.new + steps_left kept.new factors.now ≤ steps.old + steps_left kept.old factors.now) }
+    ensures at_once { AreMarginsKept kept.old → IsOk result }
+{
+    for class in RiskClass::ALL {
+        renew_class(
+            alloc,
+            params,
+            factors,
+            kept,
+            ClassAt { product, class },
+            steps,
+        )?;
+    }
+    Ok(())
+}
+
+// The margins of the risk classes in each product class, all of which are kept.
+fn kept_products(kept: &KeptBuckets) -> ProductClasses
+    requires { AreMarginsKept kept.now }
+    ensures { (at : At) → margin_at kept.now at ≡ Some (class_in (classes_in result at.product) at.class) }
+{
+    ProductClasses {
+        rates_fx: kept_classes(kept, ProductClass::RatesFX),
+        credit: kept_classes(kept, ProductClass::Credit),
+        equity: kept_classes(kept, ProductClass::Equity),
+        commodity: kept_classes(kept, ProductClass::Commodity),
+    }
+}
+
+// Those in one product class.
+fn kept_classes(kept: &KeptBuckets, product: ProductClass) -> ClassMargins
+    requires { AreMarginsKept kept.now }
+    ensures { (class : Class) → margin_at kept.now (record { product = product; class = class }) ≡ Some (class_in result class) }
+{
+    ClassMargins {
+        ir: kept_margin(kept, product, RiskClass::IR),
+        credit_q: kept_margin(kept, product, RiskClass::CreditQ),
+        credit_nonq: kept_margin(kept, product, RiskClass::CreditNonQ),
+        equity: kept_margin(kept, product, RiskClass::Equity),
+        commodity: kept_margin(kept, product, RiskClass::Commodity),
+        fx: kept_margin(kept, product, RiskClass::FX),
+    }
+}
+
+// That of a class, in cents.
+fn kept_margin(kept: &KeptBuckets, product: ProductClass, class: RiskClass) -> Cents
+    requires { AreMarginsKept kept.now }
+    ensures { margin_at kept.now (record { product = product; class = class }) ≡ Some result }
+{
+    kept.margin(ClassAt { product, class }).unwrap()
+}
