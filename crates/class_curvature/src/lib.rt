@@ -4,13 +4,9 @@
 #![tactic(auto)]
 
 mod bucket;
-mod class;
 mod laws;
 mod over;
-mod values;
 
 pub use bucket::curvature_bucket;
-pub use class::class_curvature;
 pub use laws::curvature_hangs_on_its_factors;
 pub use over::curvature_from;
-pub use values::curvature_values;

@@ -5,16 +5,12 @@
 
 mod bucket;
 mod buckets;
-mod class;
 mod laws;
 mod over;
 mod single;
-mod values;
 
 pub use bucket::delta_bucket;
 pub use buckets::{bucket_at, delta_buckets};
-pub use class::class_delta;
 pub use laws::delta_hangs_on_its_factors;
 pub use over::delta_from;
-pub use single::{base_correlation, base_from, single_margin};
-pub use values::delta_values;
+pub use single::{base_from, single_margin};

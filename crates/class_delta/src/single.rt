@@ -1,5 +1,5 @@
 //! Margins of one bucket: foreign exchange, and base correlation.
-ghost use Rattle.std.specs.Prelude.{◌≡◌, ◌*◌, ◌^◌, List, IfOk, pos, ◌≤ℤ◌};
+ghost use Rattle.std.specs.Prelude.{◌≡◌, ◌*◌, ◌^◌, List, pos, ◌≤ℤ◌};
 ghost use Rattle.simm_kinds.specs.declared.key.FactorKey.{FactorKey};
 ghost use Rattle.simm_kinds.specs.declared.kinds.RiskClass.TheVariants as class;
 ghost use Rattle.simm_rules.specs.BaseCorrelation.{base_margin};
@@ -10,35 +10,11 @@ ghost use Rattle.class_delta.specs.Class.{class_delta_of};
 ghost use Rattle.class_delta.specs.Delta.{AreDeltaParts, AreBookDeltas, single_k};
 
 use crate::buckets::is_single;
-use factor_book::{ClassAt, Factors, factors_are_netted};
+use factor_book::{ClassAt, factors_are_netted};
 use mh_units::Cents;
-use name_delta::base_corr;
-use pair_sum::Steps;
-use simm_kinds::{BucketId, ProductClass};
+use simm_kinds::BucketId;
 use simm_params::Params;
 use simm_rules::BucketMargin;
-use std::alloc::{AllocError, Global};
-use std::sync::ledger::Ledger;
-
-/// The base correlation margin of a product class, in cents: over all index families of credit that qualifies, in one bucket.
-/// The factors are those of a book in range. Want of memory is the only error.
-pub fn base_correlation<L: Ledger>(
-    alloc: Global,
-    params: &Params,
-    factors: &Factors,
-    product: ProductClass,
-    steps: &mut Steps<L>,
-) -> Result<Cents, AllocError>
-    requires { IsMarginable params.now factors.now }
-    ensures value { IfOk result (λ m. m.0 ≡ base_margin params.now (nets_in product factors.now)) }
-    ensures low { IfOk result (λ m. pos 0 ≤ℤ m.0) }
-    ensures size { IfOk result (λ m. m.0 ≤ℤ pos (10 ^ 14)) }
-{
-    params.facts();
-    factors_are_netted();
-    let value = base_corr(alloc, params, factors, product, steps)?;
-    Ok(Cents(value.k))
-}
 
 /// The base correlation margin of credit that qualifies in a product class, in cents, over the values of the buckets of the
 /// class on the side of delta, as `delta_from` takes them: the margin of the bucket of base correlation, 0 where it has no factor.

@@ -5,14 +5,10 @@
 
 mod bucket;
 mod buckets;
-mod class;
 mod laws;
 mod over;
-mod values;
 
 pub use bucket::vega_bucket;
 pub use buckets::volatility_buckets;
-pub use class::class_vega;
 pub use laws::vega_hangs_on_its_factors;
 pub use over::vega_from;
-pub use values::vega_values;
