@@ -53,8 +53,8 @@ pub fn renew_class<L: Ledger>(
     }
 }
 
-// The margin of a class, in cents, by the values of its buckets, each of which is kept afterwards: delta, vega and curvature, and in
-// credit that qualifies base correlation. Want of memory is the only error.
+// The margin of a class, in cents, by the values of its buckets, each of which is kept afterwards: delta, vega and curvature,
+// and in credit that qualifies base correlation. Want of memory is the only error.
 fn renewed_margin<L: Ledger>(
     alloc: Global,
     params: &Params,
@@ -82,9 +82,9 @@ fn renewed_margin<L: Ledger>(
     )
 }
 
-// The margin of a class, in cents, over the values of its buckets: in delta those of all that have a
-// factor on that side among those of a book in range, base correlation's too, in vega and in curvature those of all that have a
-// volatility, each in order. Want of memory is the only error.
+// The margin of a class, in cents, over the values of its buckets: in delta those of all that have a factor on that side among
+// those of a book in range, base correlation's too; in vega and in curvature those of all that have a volatility; each in order.
+// Want of memory is the only error.
 fn class_from(
     alloc: Global,
     params: &Params,

@@ -66,9 +66,9 @@ fn margin_counted<L: Ledger>(
     )
 }
 
-/// The same over what is kept of the book, which is right: what is not kept is worked out and kept. The steps are at most those of the
-/// values that are not kept. For want of memory, the only error, what is kept is right still. Where the margin of each class is
-/// kept, no memory is taken and no step.
+/// The same over what is kept of the book, which is right: what is not kept is worked out and kept. The steps are at most those
+/// of the values that are not kept. For want of memory, the only error, what is kept is right still. Where the margin of each
+/// class is kept, no memory is taken and no step.
 pub fn margin_over_kept<L: Ledger>(
     alloc: Global,
     params: &Params,

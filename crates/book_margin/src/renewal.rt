@@ -22,9 +22,9 @@ use simm_rules::ClassMargins;
 use std::alloc::{AllocError, Global};
 use std::sync::ledger::Ledger;
 
-/// The margins of the risk classes in each product class. What is kept of them is taken as it is; what is not is worked out, bucket by
-/// bucket where no value is kept, and kept: each place that has a factor, and each class. For want of memory, the only error, what is
-/// kept is right still. Where the margin of each class is kept, no memory is taken and no step.
+/// The margins of the risk classes in each product class. What is kept of them is taken as it is; what is not is worked out,
+/// bucket by bucket where no value is kept, and kept: each place that has a factor, and each class. For want of memory, the only
+/// error, what is kept is right still. Where the margin of each class is kept, no memory is taken and no step.
 pub fn renew<L: Ledger>(
     alloc: Global,
     params: &Params,

@@ -9,8 +9,8 @@ ghost use Rattle.factor_book.specs.Places.{factors_at};
 ghost use Rattle.curvature_margin.specs.Curvature.{curvature_value, IsCurvatureSized};
 ghost use Rattle.class_vega.specs.Class.{volatility_place};
 
-/// What a bucket comes to in curvature hangs on its own volatilities alone: two books that have the same there have the same value. It
-/// does nothing.
+/// What a bucket comes to in curvature hangs on its own volatilities alone: two books that have the same there have the same
+/// value. It does nothing.
 pub fn curvature_hangs_on_its_factors()
     ensures value { (p : Params) (at : BucketAt) (f g : List (FactorKey × Holding)) → factors_at (volatility_place at) f ≡ factors_at (volatility_place at) g
         → curvature_value p at f ≡ curvature_value p at g }
