@@ -4,8 +4,8 @@ use Rattle.std.specs.List.{list_all}
 use Rattle.std.proofs.lemmas.Bool.{and_parts}
 use Rattle.std.proofs.lemmas.List.Folds.{list_all-append}
 use Rattle.simm_kinds.specs.declared.row.CrifRow.{CrifRow}
-use Rattle.class_combine.specs.declared.lent.LentRows.{LentRows}
-use Rattle.class_combine.specs.Lent.{all_rows}
+use Rattle.bucket_cache.specs.declared.lent.LentRows.{LentRows}
+use Rattle.bucket_cache.specs.Lent.{all_rows}
 
 -- what passes of all rows passes of those of each trade
 pub each_trade : (p : CrifRow → Bool) (ts : List LentRows) (i : ℕ) (t : LentRows) → i < length ts → t ≡ get_or ts i t → list_all p (all_rows ts) ≡ true → list_all p t.rows.now ≡ true

@@ -6,3 +6,10 @@ pub mod Sizes
 pub mod Puts
 pub mod Parameters
 pub mod Lives
+pub mod Moves
+pub mod Gaining
+pub mod Exchanges
+pub mod AddOnOrder
+pub mod Keeping
+pub mod Standing
+pub mod Batches

@@ -15,9 +15,9 @@ use Rattle.simm_rules.specs.Range.{range}
 use Rattle.bucket_cache.specs.Live.{put_trades, without, first_unadmitted, has_factors_once, IsLive}
 use Rattle.bucket_cache.specs.Entries.{names_of, trade_of, trades_of}
 use Rattle.bucket_cache.proofs.Parameters.{each_once, factors_once}
-use Rattle.bucket_cache.proofs.Puts.{all_rows_of, all_puts, named_puts, count_puts}
+use Rattle.bucket_cache.proofs.Puts.{all_rows_of, all_puts, named_puts}
 use Rattle.bucket_cache.proofs.Admitted.{all_admitted}
-use Rattle.bucket_cache.proofs.Ranges.{few_rows, range_none}
+use Rattle.bucket_cache.proofs.Ranges.{range_none}
 use Rattle.bucket_cache.proofs.Sizes.{trades_within}
 
 -- ---- batches
@@ -82,9 +82,6 @@ pub live_once : (p : Params) (us : List TradeRows) → IsLive p us → repeats s
 live_once p us live = factors_once us live.named live.placed live.factored
 
 -- ---- after a batch
-
-pub few_after : (p : Params) (ts us : List TradeRows) → IsBatch ts → IsLive p us → length (rows_of (put_trades ts us)) ≤ 300000
-few_after p ts us batch live = omega (arith, count_puts ts us, (batch_facts ts batch).few, few_rows p (rows_of us) live.in_range)
 
 -- what each row of a batch and of a book passes, each row of the book afterwards passes
 all_after : (test : CrifRow → Bool) (ts us : List TradeRows) → list_all test (rows_of ts) ≡ true → list_all test (rows_of us) ≡ true → list_all test (rows_of (put_trades ts us)) ≡ true

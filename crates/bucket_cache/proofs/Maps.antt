@@ -5,18 +5,20 @@ use Rattle.std.specs.Ordering.{is_eq}
 use Rattle.std.specs.Cmp.Lexicographic.{pointwise, bytes_decides}
 use denote.Bor.{Bor}
 use Rattle.std.specs.List.{list_any}
-use Rattle.std.specs.Map.{lookup, values_of}
+use Rattle.std.specs.Map.{lookup}
+use Rattle.std.proofs.lemmas.Bool.{or_parts, or_from}
 use Rattle.std.proofs.lemmas.List.{take_more}
 use Rattle.std.proofs.lemmas.List.Folds.{list_any-append}
 use Rattle.indexmap.specs.IndexSet.{insert_key}
-use Rattle.std.proofs.lemmas.Cmp.{nat_list_cmp_total, tied_itself}
+use Rattle.std.proofs.lemmas.Cmp.{nat_list_cmp_total, tied_itself, eq_by_cmp_equiv}
 use Rattle.std.proofs.lemmas.Map.Lookups.{exact_bytes}
 use Rattle.std.proofs.lemmas.Map.Views.{tells_apart}
 use Rattle.simm_kinds.specs.declared.row.CrifRow.{CrifRow}
 use Rattle.simm_kinds.specs.declared.row.TradeRows.{TradeRows}
 use Rattle.simm_kinds.specs.Order.{same_name}
+use Rattle.simm_kinds.specs.Repeats.{repeats}
 use Rattle.bucket_cache.specs.Live.{name_at, rows_named, is_current}
-use Rattle.bucket_cache.specs.Entries.{trade_of, trades_of, row_lists, is_among}
+use Rattle.bucket_cache.specs.Entries.{trade_of, trades_of, lent_names, is_among}
 
 pub same_name-refl : (a : List ℕ) → same_name a a ≡ true
 same_name-refl a = ap is_eq (tied_itself nat_list_cmp_total a)
@@ -24,9 +26,8 @@ same_name-refl a = ap is_eq (tied_itself nat_list_cmp_total a)
 pub same_name-equal : (a b : List ℕ) → same_name a b ≡ true → a ≡ b
 same_name-equal a b h = tells_apart exact_bytes a b h
 
-pub none_found : {A : Type 0} (o : Option A) → is_some o ≡ false → o ≡ None
-none_found None h = refl
-none_found (Some x) h = absurd (cc)
+pub same_name-sym : (a b : List ℕ) → same_name a b ≡ same_name b a
+same_name-sym a b = (eq_by_cmp_equiv nat_list_cmp_total).symm a b
 
 -- the test of a map's keys
 pub key_test : (a b : List ℕ) → pointwise ◌==◌ a b ≡ same_name a b
@@ -52,10 +53,6 @@ pub name_at-beyond : (es : List (List ℕ × List CrifRow)) (i : ℕ) → None �
 name_at-beyond [] i h = refl
 name_at-beyond (f ∷ es) zero h = absurd (cc)
 name_at-beyond (f ∷ es) (suc i) h = name_at-beyond es i h
-
-pub row_lists-trades_of : (es : List (List ℕ × List CrifRow)) → values_of es ≡ row_lists (trades_of es)
-row_lists-trades_of [] = refl
-row_lists-trades_of (e ∷ es) = ap (λ xs. e.1 ∷ xs) (row_lists-trades_of es)
 
 found_first : (s t : Bool) (x : List CrifRow) (o : Option (List CrifRow)) (b : Bool) → s ≡ t → is_some o ≡ b → is_some (cond s (Some x) o) ≡ (t || b)
 found_first true true x o b e h = refl
@@ -96,3 +93,32 @@ pub any_next : (name : List ℕ) (ns : List (List ℕ)) (i : ℕ) (n : List ℕ)
 any_next name ns i n h at =
     ap (list_any (same_name name)) (take_more ns i n h ∙ ap (λ x. take i ns ++ x ∷ []) (sym at)) ∙ list_any-append (same_name name) (take i ns) (n ∷ [])
     ∙ or_end (list_any (same_name name) (take i ns)) (same_name name n)
+
+-- ---- different names
+
+none_behind : (k name : List ℕ) (ks : List (List ℕ)) → list_any (same_name name) ks ≡ false → same_name name k ≡ false → list_any (same_name name) (ks ++ k ∷ []) ≡ false
+none_behind k name ks h other = list_any-append (same_name name) ks (k ∷ []) ∙ or_from (list_any (same_name name) ks) (same_name name k || false) h (ap (λ b. b || false) other)
+
+-- a name that is not among them, behind them
+one_behind : (ks : List (List ℕ)) (k : List ℕ) → list_any (same_name k) ks ≡ false → repeats same_name ks ≡ false → repeats same_name (ks ++ k ∷ []) ≡ false
+one_behind [] k new once = refl
+one_behind (n ∷ ks) k new once =
+    let here = or_parts (same_name k n) (list_any (same_name k) ks) new in
+    let parts = or_parts (list_any (same_name n) ks) (repeats same_name ks) once in
+    or_from (list_any (same_name n) (ks ++ k ∷ [])) (repeats same_name (ks ++ k ∷ [])) (none_behind k n ks parts.0 (same_name-sym n k ∙ here.0)) (one_behind ks k here.1 parts.1)
+
+lent_push : (ks : List (Bor (List ℕ))) (k : Bor (List ℕ)) → lent_names (ks ++ k ∷ []) ≡ lent_names ks ++ k.now ∷ []
+lent_push [] k = refl
+lent_push (n ∷ ks) k = ap (λ ns. n.now ∷ ns) (lent_push ks k)
+
+pub among_lent : (name : List ℕ) (ks : List (Bor (List ℕ))) → list_any (same_name name) (lent_names ks) ≡ is_among ks name
+among_lent name [] = refl
+among_lent name (k ∷ ks) = ap (λ b. same_name name k.now || b) (among_lent name ks)
+
+different_put : (t : Bool) (ks : List (Bor (List ℕ))) (k : Bor (List ℕ)) → is_among ks k.now ≡ t → repeats same_name (lent_names ks) ≡ false → repeats same_name (lent_names (if t then ks else ks ++ k ∷ [])) ≡ false
+different_put true ks k e h = h
+different_put false ks k e h = ap (repeats same_name) (lent_push ks k) ∙ one_behind (lent_names ks) k.now (among_lent k.now ks ∙ e) h
+
+-- the names of a set stay different
+pub different-insert_key : (ks : List (Bor (List ℕ))) (k : Bor (List ℕ)) → repeats same_name (lent_names ks) ≡ false → repeats same_name (lent_names (insert_key (λ a b. pointwise ◌==◌ a.now b.now) ks k)) ≡ false
+different-insert_key ks k h = different_put (list_any (λ (l : Bor (List ℕ)). pointwise ◌==◌ k.now l.now) ks) ks k (sym (is_among-by_eq k.now ks)) h

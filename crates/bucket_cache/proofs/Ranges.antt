@@ -21,10 +21,6 @@ use Rattle.simm_rules.specs.Range.{above, range}
 
 -- ---- the first of several answers
 
-first_chosen : {A : Type 0} (o : Option A) (os : List (Option A)) (x : A) → o ≡ Some x → first_some (o ∷ os) ≡ Some x
-first_chosen None os x h = absurd (cc)
-first_chosen (Some y) os x h = h
-
 first_passed : {A : Type 0} (o : Option A) (os : List (Option A)) → first_some (o ∷ os) ≡ None → o ≡ None
 first_passed None os h = refl
 first_passed (Some x) os h = absurd (cc)
@@ -42,11 +38,6 @@ none_of f h (x ∷ xs) = passed (f x) (flat_map f xs) (h x) (none_of f h xs)
 
 abbrev row_fault : List CrifRow → Option RangeFault
 row_fault rows = above range_kind.RowCount (pos (length rows)) (pos 200000)
-
--- too many rows are the first quantity that is above its limit
-pub range_rows : (p : Params) (rows : List CrifRow) (fault : RangeFault) → row_fault rows ≡ Some fault → range p rows ≡ Some fault
-unfolding range
-range_rows p rows fault h = first_chosen (row_fault rows) _ fault h
 
 not_chosen : {A : Type 0} (t : Bool) (x : A) → cond t (Some x) None ≡ None → t ≡ false
 not_chosen true x h = absurd (cc)

@@ -1,11 +1,11 @@
 -- The trades that a map of names to rows holds, and their rows as they are lent.
-use Rattle.std.specs.Prelude.{◌≡◌, ℕ, List, map, ◌++◌, Bool, false}
+use Rattle.std.specs.Prelude.{ℕ, List, map, Bool}
 use denote.Bor.{Bor}
 use Rattle.std.specs.List.{list_any}
 use Rattle.simm_kinds.specs.declared.row.CrifRow.{CrifRow}
 use Rattle.simm_kinds.specs.declared.row.TradeRows.{TradeRows}
 use Rattle.simm_kinds.specs.Order.{same_name}
-use Rattle.class_combine.specs.declared.lent.LentRows.{LentRows}
+use Rattle.bucket_cache.specs.declared.lent.LentRows.{LentRows}
 
 abbrev pub trade_of : List ℕ × List CrifRow → TradeRows
 trade_of entry = record { trade = entry.0; rows = entry.1 }
@@ -27,8 +27,6 @@ names_of trades = map (λ t. t.trade) trades
 abbrev pub is_among : List (Bor (List ℕ)) → List ℕ → Bool
 is_among names name = list_any (λ k. same_name name k.now) names
 
--- the book has the current trades' names first, and behind them new ones, which are others than this name
-pub record Follows (name : List ℕ) (current trades : List TradeRows) : Type 0 where
-  pub added : List (List ℕ)
-  pub order : names_of trades ≡ names_of current ++ added
-  pub others : list_any (same_name name) added ≡ false
+-- the names that are lent
+abbrev pub lent_names : List (Bor (List ℕ)) → List (List ℕ)
+lent_names names = map (λ k. k.now) names

@@ -1,2 +1,5 @@
 pub mod Live
 pub mod Entries
+pub mod Lent
+pub mod Sums
+pub mod Held

@@ -1,5 +1,5 @@
 -- What a live margin holds, and what a batch and a withdrawal make of it.
-use Rattle.std.specs.Prelude.{◌≡◌, ℕ, ◌+◌, zero, suc, List, [], ◌∷◌, map, length, position, slice_get, find, Option, None, Some, option_map, Bool, true, false, not, ◌==◌, if◌then◌else◌}
+use Rattle.std.specs.Prelude.{◌≡◌, ◌≢◌, IsSome, ℕ, ◌+◌, zero, suc, List, [], ◌∷◌, ◌++◌, map, length, position, slice_get, find, Option, None, Some, option_map, Bool, true, false, not, ◌==◌, if◌then◌else◌}
 use Rattle.std.specs.List.{filter, flat_map, list_all, list_any}
 use Rattle.simm_kinds.specs.declared.row.CrifRow.{CrifRow}
 use Rattle.simm_kinds.specs.declared.row.TradeRows.{TradeRows}
@@ -9,12 +9,23 @@ use Rattle.simm_kinds.specs.Repeats.{repeats}
 use Rattle.simm_rules.specs.Params.{Params}
 use Rattle.simm_rules.specs.Admits.{admits}
 use Rattle.simm_rules.specs.Range.{range}
+use Rattle.factor_book.specs.declared.place.Place.{Place}
+use Rattle.factor_book.specs.Factors.{factors_of}
+use Rattle.factor_book.specs.Places.{factors_at}
+use Rattle.kept_buckets.specs.Kept.{Kept, value_at}
 use Rattle.bucket_cache.specs.declared.place.RowPlace.{RowPlace}
 
--- the parameters, and the current trades with their rows
+-- the parameters, the current trades with their rows, what is kept of their buckets, and whether nothing has changed since a margin
+-- was worked out
 pub record Live : Type 0 where
   pub params : Params
   pub book : List TradeRows
+  pub kept : Kept
+  pub is_fresh : Bool
+
+-- where the book has a factor at a place, the values there are kept: of its bucket on the side of delta, or of volatility
+abbrev pub IsKeptAt : Place → Live → Type 0
+IsKeptAt place live = factors_at place (factors_of (rows_of live.book)) ≢ [] → IsSome (value_at live.kept place)
 
 -- a trade that is there has just its new rows afterwards, in its old place; a new one goes last
 abbrev pub put_trade : TradeRows → List TradeRows → List TradeRows
@@ -29,6 +40,14 @@ put_trades (t ∷ ts) book = put_trades ts (put_trade t book)
 -- the trades that none of the names names
 abbrev pub without : List (List ℕ) → List TradeRows → List TradeRows
 without names book = filter (λ t. not (list_any (same_name t.trade) names)) book
+
+-- those that a name names
+abbrev pub named : List (List ℕ) → List TradeRows → List TradeRows
+named names book = filter (λ t. list_any (same_name t.trade) names) book
+
+-- the rows that a batch adds, and those that it replaces
+abbrev pub rows_moved : List TradeRows → List TradeRows → List CrifRow
+rows_moved trades book = rows_of trades ++ rows_of (named (map (λ t. t.trade) trades) book)
 
 abbrev pub is_current : List TradeRows → List ℕ → Bool
 is_current book name = list_any (λ t. same_name name t.trade) book
@@ -63,6 +82,14 @@ name_at book (suc i) = slice_get (map (λ t. t.trade) book) i
 -- the rows of a current trade
 abbrev pub rows_named : List TradeRows → List ℕ → Option (List CrifRow)
 rows_named book name = option_map (λ t. t.rows) (find (λ t. same_name name t.trade) book)
+
+-- none of a trade that is not current
+abbrev pub rows_or_none : Option (List CrifRow) → List CrifRow
+rows_or_none None = []
+rows_or_none (Some rows) = rows
+
+abbrev pub rows_in : List TradeRows → List ℕ → List CrifRow
+rows_in book name = rows_or_none (rows_named book name)
 
 -- the trade has one factor of a qualifier at most
 abbrev pub has_factors_once : TradeRows → Bool

@@ -1,18 +1,18 @@
 //! The margin of a batch that is a book of its own.
-ghost use Rattle.std.specs.Prelude.{◌≡◌, ℕ, None, Some, Err, IfOk, OnOk};
+ghost use Rattle.std.specs.Prelude.{◌≡◌, ℕ, [], None, Some, Err, IfOk, OnOk};
 ghost use Rattle.simm_kinds.specs.Batch.{IsBatch, rows_of};
 ghost use Rattle.simm_rules.specs.declared.values.RangeFault.{RangeFault as Fault};
 ghost use Rattle.simm_rules.specs.Range.{range};
 ghost use Rattle.simm_rules.specs.Simm.{simm};
-ghost use Rattle.bucket_cache.specs.Live.{first_unadmitted};
+ghost use Rattle.bucket_cache.specs.Live.{first_unadmitted, rows_in};
 
 use crate::admitting::first_unadmitted;
-use crate::booking::{count_rows, net};
 use crate::fault::SubmitFault;
 use crate::lending::lend_batch;
+use crate::sums::Sums;
 use book_margin::margin_in_range;
 use book_range::{range_bounds, range_fault};
-use simm_kinds::TradeRows;
+use simm_kinds::{CrifRow, TradeRows};
 use simm_params::Params;
 use simm_rules::Breakdown;
 use std::alloc::Global;
@@ -47,10 +47,24 @@ pub fn batch_margin(
         });
     }
     let lent = lend_batch(alloc, trades)?;
-    let factors = net(alloc, lent.as_slice())?;
-    if let Some(fault) = range_fault(params, &factors, count_rows(lent.as_slice())) {
+    let mut sums = Sums::new(alloc);
+    sums.add_lent(alloc, params, lent.as_slice())?;
+    if let Some(fault) = range_fault(params, &sums.factors, sums.rows) {
         return Err(SubmitFault::Range(fault));
     }
     range_bounds(params);
-    Ok(margin_in_range(alloc, params, &factors, lent.as_slice())?)
+    let parameters = parameters_in(trades);
+    Ok(margin_in_range(alloc, params, &sums.factors, &sums.add_ons, parameters)?)
+}
+
+// The rows of the trade without a name, which has all parameters; none where there is no such trade.
+fn parameters_in(trades: &[TradeRows]) -> &[CrifRow]
+    ensures { result.now ≡ rows_in trades.now [] }
+{
+    for trade in trades {
+        if trade.trade.bytes().is_empty() {
+            return trade.rows.as_slice();
+        }
+    }
+    &[]
 }

@@ -1,10 +1,11 @@
 //! Changes of the current trades. Only `copies_of` and `distinct_names` take memory.
-ghost use Rattle.std.specs.Prelude.{◌≡◌, ◌+◌, ◌≤◌, ◌<◌, ◌^◌, ℕ, List, length, not, position, IfOk};
+ghost use Rattle.std.specs.Prelude.{◌≡◌, ◌+◌, ◌≤◌, ◌<◌, ◌^◌, ℕ, List, length, not, position, false, IfOk};
 ghost use Rattle.std.specs.List.{list_any, filter};
 ghost use Rattle.indexmap.specs.IndexMap.{spare};
 ghost use Rattle.simm_kinds.specs.Order.{same_name};
+ghost use Rattle.simm_kinds.specs.Repeats.{repeats};
 ghost use Rattle.bucket_cache.specs.Live.{put_trade, put_trades, is_current, first_unknown};
-ghost use Rattle.bucket_cache.specs.Entries.{trades_of, is_among};
+ghost use Rattle.bucket_cache.specs.Entries.{trades_of, lent_names, is_among};
 
 use indexmap::{IndexMap, IndexSet};
 use simm_kinds::{CrifRow, Listed, Name, TradeRows};
@@ -63,7 +64,8 @@ fn is_current(current: &IndexMap<Name, Listed<CrifRow>>, name: &Name) -> bool
 
 /// The different names.
 pub fn distinct_names(alloc: Global, names: &[Name]) -> Result<IndexSet<&Name>, AllocError>
-    ensures { IfOk result (λ distinct. (name : List ℕ) → is_among distinct.keys name ≡ list_any (same_name name) names.now) }
+    ensures among { IfOk result (λ distinct. (name : List ℕ) → is_among distinct.keys name ≡ list_any (same_name name) names.now) }
+    ensures different { IfOk result (λ distinct. repeats same_name (lent_names distinct.keys) ≡ false) }
 {
     let mut distinct = IndexSet::with_capacity(alloc, names.len())?;
     for name in names {

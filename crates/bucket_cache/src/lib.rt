@@ -5,10 +5,16 @@ mod admitting;
 mod batch;
 mod booking;
 mod changing;
+mod exchanging;
 mod fault;
 mod lending;
+mod lent;
 mod live;
+mod margining;
+mod moving;
 mod place;
+mod sums;
+mod touching;
 
 pub use batch::batch_margin;
 pub use fault::{SubmitFault, WithdrawFault};

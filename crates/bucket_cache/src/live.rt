@@ -1,54 +1,78 @@
-ghost use Rattle.std.specs.Prelude.{◌≡◌, ◌^◌, [], length, map, None, Some, Err, IfOk, OnOk, OnErr, ℕ, pos, ◌≤ℤ◌, ◌<ℤ◌};
+ghost use Rattle.std.specs.Prelude.{◌≡◌, ◌+◌, ◌^◌, ◌<◌, ◌≤◌, ◌++◌, [], length, map, None, Some, Err, IsOk, IfOk, IfSome, OnOk, OnErr, ℕ, pos, ◌≤ℤ◌, ◌<ℤ◌, true, false, is_some};
 ghost use Rattle.std.specs.Option.{option_copied};
 ghost use Rattle.simm_kinds.specs.Batch.{IsBatch, rows_of};
 ghost use Rattle.simm_rules.specs.declared.values.RangeFault.{RangeFault as Fault};
 ghost use Rattle.simm_rules.specs.Range.{range};
 ghost use Rattle.simm_rules.specs.Simm.{simm};
-ghost use Rattle.bucket_cache.specs.Live.{put_trades, without, first_unadmitted, first_unknown, name_at, rows_named};
+ghost use Rattle.factor_book.specs.declared.place.Place.{Place};
+ghost use Rattle.factor_book.specs.Factors.{factors_of};
+ghost use Rattle.kept_buckets.specs.Touched.{Forgets, SameElsewhere};
+ghost use Rattle.kept_buckets.specs.Cached.{cached_in};
+ghost use Rattle.kept_buckets.specs.Dirty.{dirty_in, steps_left};
+ghost use Rattle.book_margin.specs.Right.{value_in, Renews};
+ghost use Rattle.bucket_cache.specs.Live.{IsKeptAt, put_trades, without, named, rows_moved, first_unadmitted, first_unknown, name_at, rows_named};
 
 use crate::admitting::first_unadmitted;
-use crate::booking::{margin_of, range_fault_of};
 use crate::changing::{copies_of, distinct_names, first_unknown, keep_others, put_all};
 use crate::fault::{SubmitFault, WithdrawFault};
-use crate::lending::{lend_after, lend_current};
-use book_range::fewer_are_in_range;
+use crate::lending::rows_in;
+use crate::margining::margin_of;
+use crate::moving::{take_in, take_out};
+use crate::sums::Sums;
+use book_margin::{kept_values_are_from_scratch, nothing_is_right};
+use book_range::{fewer_are_in_range, range_bounds};
+use factor_book::BucketAt;
 use indexmap::IndexMap;
-use simm_kinds::{CrifRow, Listed, Name, TradeRows};
+use kept_buckets::KeptBuckets;
+use pair_sum::Steps;
+use simm_kinds::{BucketId, CrifRow, Listed, Measure, Name, ProductClass, RiskClass, TradeRows};
 use simm_params::Params;
-use simm_rules::{Breakdown, RangeFault};
+use simm_rules::{Breakdown, BucketMargin};
 use std::alloc::{AllocError, Global};
-use std::marker::Model;
+use std::marker::{Brand, Model};
+use std::sync::ledger::{Blank, Ledger};
 
-/// The current trades of a netting set in the order in which they came, their rows admitted and their book in
-/// range, with the parameters of their margin. Contracts see the parameters and the book.
+/// The current trades of a netting set in the order in which they came, their rows admitted and their book in range, with the
+/// parameters of their margin; what their rows come to; and what is kept of the margins of their buckets and classes. Contracts
+/// see the parameters, the book, what is kept, and whether the margin of the book is known.
 #[derive(Drop)]
 pub struct LiveMargin {
     params: Params,
     trades: IndexMap<Name, Listed<CrifRow>>,
+    sums: Sums,
+    kept: KeptBuckets,
+    // the margin of the book, where nothing has changed since it was worked out
+    last: Option<Breakdown>,
 }
 
 impl Model for LiveMargin {
-    ghost use Rattle.bucket_cache.specs.Live.{Live, IsLive};
+    ghost use Rattle.std.specs.Prelude.{is_some};
+    ghost use Rattle.bucket_cache.specs.Live.{Live};
     ghost use Rattle.bucket_cache.specs.Entries.{trades_of};
+    ghost use Rattle.bucket_cache.specs.Held.{IsHeld};
 
     ghost Value = { Live };
 
-    ghost view = { λ l. record { params = l.params; book = trades_of l.trades.entries } };
+    ghost view = { λ l. record { params = l.params; book = trades_of l.trades.entries; kept = l.kept; is_fresh = is_some l.last } };
 
-    ghost invariant = { λ l. IsLive l.params (trades_of l.trades.entries) };
+    ghost invariant = { λ l. IsHeld l.params (trades_of l.trades.entries) l.sums l.kept l.last };
 }
 
 impl LiveMargin {
-    /// A live margin without trades. Want of memory is the only error.
+    /// A live margin without trades, whose margin is known. Want of memory is the only error.
     pub fn new(alloc: Global, params: Params) -> Result<LiveMargin, AllocError>
-        ensures { IfOk result (λ live. live ≡ record { params = params; book = [] }) }
+        ensures params { IfOk result (λ live. live.params ≡ params) }
+        ensures book { IfOk result (λ live. live.book ≡ []) }
+        ensures fresh { IfOk result (λ live. live.is_fresh ≡ true) }
     {
-        let trades = IndexMap::new(alloc);
-        Ok(LiveMargin { params, trades })
+        let live = LiveMargin::without_margin(alloc, params);
+        live.with_margin::<Brand>(alloc, Blank::new(1))
     }
 
     /// Takes a batch in: each trade has just these rows afterwards. A known trade keeps its place, and the new ones go
-    /// last in the batch's order.
+    /// last in the batch's order. What is kept of a bucket is forgotten where a row lies in it that the batch adds or replaces,
+    /// and all else is kept. It costs the rows of the batch and of the trades that it replaces, each the logarithm of the number
+    /// of keys; no other row is looked at.
     ///
     /// # Errors
     ///
@@ -59,7 +83,11 @@ impl LiveMargin {
         requires { IsBatch trades.now }
         ensures admitted { OnOk result (first_unadmitted self.old.params trades.now ≡ None) }
         ensures in_range { OnOk result (range self.old.params (rows_of (put_trades trades.now self.old.book)) ≡ None) }
-        ensures book { OnOk result (self.new ≡ record self.old { book = put_trades trades.now self.old.book }) }
+        ensures params { OnOk result (self.new.params ≡ self.old.params) }
+        ensures book { OnOk result (self.new.book ≡ put_trades trades.now self.old.book) }
+        ensures kept { OnOk result (Forgets (rows_moved trades.now self.old.book) self.old.kept self.new.kept) }
+        ensures elsewhere { OnOk result (SameElsewhere (rows_moved trades.now self.old.book) (factors_of (rows_of self.old.book)) (factors_of (rows_of self.new.book))) }
+        ensures stale { OnOk result (self.new.is_fresh ≡ false) }
         ensures unadmitted { (trade row : ℕ) → result ≡ Err (SubmitFault.BucketUnknown trade row) →
             first_unadmitted self.old.params trades.now ≡ Some (record { trade = trade; row = row }) }
         ensures range { (fault : Fault) → result ≡ Err (SubmitFault.Range fault) →
@@ -74,16 +102,26 @@ impl LiveMargin {
                 row: at.row,
             });
         }
-        if let Some(fault) = self.fault_after(alloc, trades)? {
-            return Err(SubmitFault::Range(fault));
-        }
         let copies = copies_of(alloc, trades)?;
         self.trades.reserve(copies.len())?;
+        let fault = take_in(
+            alloc,
+            &self.params,
+            &self.trades,
+            &mut self.sums,
+            &mut self.kept,
+            trades,
+        )?;
+        if let Some(fault) = fault {
+            return Err(SubmitFault::Range(fault));
+        }
         put_all(&mut self.trades, copies);
+        self.last = None;
         Ok(())
     }
 
-    /// Takes trades out. A name that stands twice counts once.
+    /// Takes trades out. A name that stands twice counts once. What is kept of a bucket is forgotten where a row of these trades
+    /// lies in it, and all else is kept.
     ///
     /// # Errors
     ///
@@ -91,7 +129,11 @@ impl LiveMargin {
     /// of memory. Nothing changes then.
     pub fn withdraw(&mut self, alloc: Global, names: &[Name]) -> Result<(), WithdrawFault>
         ensures known { OnOk result (first_unknown names.now self.old.book ≡ None) }
-        ensures book { OnOk result (self.new ≡ record self.old { book = without names.now self.old.book }) }
+        ensures params { OnOk result (self.new.params ≡ self.old.params) }
+        ensures book { OnOk result (self.new.book ≡ without names.now self.old.book) }
+        ensures kept { OnOk result (Forgets (rows_of (named names.now self.old.book)) self.old.kept self.new.kept) }
+        ensures elsewhere { OnOk result (SameElsewhere (rows_of (named names.now self.old.book)) (factors_of (rows_of self.old.book)) (factors_of (rows_of self.new.book))) }
+        ensures stale { OnOk result (self.new.is_fresh ≡ false) }
         ensures unknown { (place : ℕ) → result ≡ Err (WithdrawFault.UnknownTrade place) →
             first_unknown names.now self.old.book ≡ Some place }
         ensures unchanged { OnErr result (self.new ≡ self.old) }
@@ -100,24 +142,103 @@ impl LiveMargin {
             return Err(WithdrawFault::UnknownTrade { place });
         }
         let named = distinct_names(alloc, names)?;
+        take_out(
+            alloc,
+            &self.params,
+            &self.trades,
+            &mut self.sums,
+            &mut self.kept,
+            named.as_slice(),
+        )?;
         fewer_are_in_range(&self.params);
         keep_others(&mut self.trades, &named);
+        self.last = None;
         Ok(())
     }
 
-    /// The margin of the current trades, with all of its parts. Its total is at least 0 and below 10^21 cents. Want of memory is
-    /// the only error.
-    pub fn margin(&mut self, alloc: Global) -> Result<Breakdown, AllocError>
+    /// The margin of the current trades, with all of its parts. Its total is at least 0 and below 10^21 cents. What of their
+    /// buckets and classes is not kept is worked out, and all is kept afterwards. Where the margin is known it is answered without
+    /// memory and without a step.
+    ///
+    /// # Errors
+    ///
+    /// For want of memory alone. The book stands then, and what is kept is right.
+    pub fn margin<L: Ledger>(
+        &mut self,
+        alloc: Global,
+        steps: &mut Steps<L>,
+    ) -> Result<Breakdown, AllocError>
         ensures value { IfOk result (λ b. b ≡ simm self.old.params (rows_of self.old.book)) }
         ensures total_from { IfOk result (λ b. pos 0 ≤ℤ b.total.0) }
         ensures total_below { IfOk result (λ b. b.total.0 <ℤ pos (10 ^ 21)) }
-        ensures unchanged { self.new ≡ self.old }
+        ensures params { self.new.params ≡ self.old.params }
+        ensures book { self.new.book ≡ self.old.book }
+        ensures renewed { Renews self.old.params (factors_of (rows_of self.old.book)) self.old.kept self.new.kept }
+        ensures all { OnOk result ((place : Place) → IsKeptAt place self.new) }
+        ensures fresh { OnOk result (self.new.is_fresh ≡ true) }
+        ensures still_stale { OnErr result (self.new.is_fresh ≡ self.old.is_fresh) }
+        ensures steps { let factors = factors_of (rows_of self.old.book) in
+            OnOk result (steps.new + steps_left self.new.kept factors ≤ steps.old + steps_left self.old.kept factors) }
+        ensures at_once { self.old.is_fresh ≡ true → IsOk result }
+        ensures as_it_was { self.old.is_fresh ≡ true → self.new ≡ self.old }
+        ensures no_step { self.old.is_fresh ≡ true → steps.new ≡ steps.old }
     {
-        let lent = lend_current(alloc, &self.trades, 0)?;
-        margin_of(alloc, &self.params, lent.as_slice())
+        if let Some(margin) = self.last {
+            return Ok(margin);
+        }
+        let nameless = Name::empty(alloc);
+        let parameters = rows_in(&self.trades, &nameless);
+        let margin = margin_of(
+            alloc,
+            &self.params,
+            &self.sums,
+            parameters,
+            &mut self.kept,
+            steps,
+        )?;
+        self.last = Some(margin);
+        Ok(margin)
     }
 
-    /// How many trades are current. It takes no memory, like all that follow.
+    /// What is kept of a bucket in a measure: its value by the written rule over the book, or `None`. It takes no memory, like
+    /// all that follow.
+    pub fn cached(
+        &self,
+        product: ProductClass,
+        class: RiskClass,
+        measure: Measure,
+        bucket: BucketId,
+    ) -> Option<BucketMargin>
+        ensures kept { result ≡ cached_in self.now.kept (record { product = product; class = class; bucket = bucket }) measure }
+        ensures right { IfSome result (λ value. Some value ≡ value_in self.now.params (factors_of (rows_of self.now.book))
+            (record { product = product; class = class; bucket = bucket }) measure) }
+    {
+        kept_values_are_from_scratch();
+        let at = BucketAt {
+            product,
+            class,
+            bucket,
+        };
+        self.kept.cached(at, measure)
+    }
+
+    /// How many values of buckets that have a row are not kept, measure by measure.
+    pub fn dirty_count(&self) -> u32
+        ensures { result ≡ dirty_in self.now.kept (factors_of (rows_of self.now.book)) }
+    {
+        range_bounds(&self.params);
+        self.kept.dirty_count(&self.sums.factors)
+    }
+
+    /// Whether the margin of the book is known: no batch and no withdrawal was accepted since it was last answered, or since the
+    /// live margin was made.
+    pub fn is_fresh(&self) -> bool
+        ensures { result ≡ self.now.is_fresh }
+    {
+        self.last.is_some()
+    }
+
+    /// How many trades are current.
     pub fn trade_count(&self) -> u32
         ensures { result ≡ length self.now.book }
     {
@@ -141,17 +262,36 @@ impl LiveMargin {
         Some(rows.as_slice())
     }
 
-    // What keeps the book with this batch from being in range.
-    fn fault_after(
-        &self,
-        alloc: Global,
-        trades: &[TradeRows],
-    ) -> Result<Option<RangeFault>, AllocError>
-        requires batch { IsBatch trades.now }
-        requires admitted { first_unadmitted self.now.params trades.now ≡ None }
-        ensures { IfOk result (λ fault. fault ≡ range self.now.params (rows_of (put_trades trades.now self.now.book))) }
+    // The same once its margin is known, whose steps are counted in a ledger of their own. Want of memory is the only error.
+    fn with_margin<L: Ledger>(self, alloc: Global, blank: Blank) -> Result<LiveMargin, AllocError>
+        requires name { blank.name ≡ L.name }
+        requires parts { blank.parts ≡ L.parts }
+        requires some { 0 < blank.parts }
+        ensures params { IfOk result (λ live. live.params ≡ self.params) }
+        ensures book { IfOk result (λ live. live.book ≡ self.book) }
+        ensures fresh { IfOk result (λ live. live.is_fresh ≡ true) }
     {
-        let lent = lend_after(alloc, &self.trades, trades)?;
-        range_fault_of(alloc, &self.params, lent.as_slice())
+        let mut live = self;
+        let mut steps = Steps::<L>::new(blank);
+        live.margin(alloc, &mut steps)?;
+        Ok(live)
+    }
+
+    // A live margin without trades, of which nothing is kept. It takes no memory.
+    fn without_margin(alloc: Global, params: Params) -> LiveMargin
+        ensures params { result.params ≡ params }
+        ensures book { result.book ≡ [] }
+    {
+        nothing_is_right();
+        let trades = IndexMap::new(alloc);
+        let sums = Sums::new(alloc);
+        let kept = KeptBuckets::new(alloc);
+        LiveMargin {
+            params,
+            trades,
+            sums,
+            kept,
+            last: None,
+        }
     }
 }

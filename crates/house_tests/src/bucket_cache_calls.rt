@@ -1,13 +1,8 @@
+use crate::asking::{live, total};
 use crate::makers::{batch, name, params};
 use bucket_cache::{LiveMargin, WithdrawFault, batch_margin};
 use simm_kinds::{CrifRow, Name};
 use std::process::Abort;
-
-fn live(rt: &(impl Abort + AllocGlobal)) -> LiveMargin {
-    LiveMargin::new(rt.alloc(), params(rt))
-        .ok()
-        .expect(rt, "memory")
-}
 
 fn submit(rt: &(impl Abort + AllocGlobal), live: &mut LiveMargin, trade: &str, amount: &str) {
     let batch = batch(rt, trade, "EUR", amount);
@@ -20,10 +15,6 @@ fn withdraw(
     trade: &str,
 ) -> Result<(), WithdrawFault> {
     live.withdraw(rt.alloc(), &[name(rt, trade)])
-}
-
-fn total(rt: &(impl Abort + AllocGlobal), live: &mut LiveMargin) -> i128 {
-    live.margin(rt.alloc()).ok().expect(rt, "memory").total.0
 }
 
 fn is_at(live: &LiveMargin, place: u32, text: &str) -> bool {

@@ -3,6 +3,8 @@
 #![tactic(auto)]
 
 #[cfg(test)]
+mod asking;
+#[cfg(test)]
 mod bucket_cache_calls;
 #[cfg(test)]
 mod call_desk_calls;
@@ -14,6 +16,8 @@ mod csa_calls_amounts;
 mod csa_terms_calls;
 #[cfg(test)]
 mod feed_gate_calls;
+#[cfg(test)]
+mod kept_buckets_calls;
 #[cfg(test)]
 mod makers;
 #[cfg(test)]

@@ -100,14 +100,21 @@ pub fn name(rt: &(impl Abort + AllocGlobal), text: &str) -> Name {
         .expect(rt, "a name")
 }
 
-/// The batch of one trade with one row, of a currency and an amount in dollars.
-pub fn batch(rt: &(impl Abort + AllocGlobal), trade: &str, currency: &str, amount: &str) -> Batch {
-    let text = format!(in rt.alloc(); "{HEADER}\n{trade},FX,Risk_FX,{currency},,,,,,{amount}\n");
+/// The batch of these rows, each a line of its trade, product class, risk type, qualifier, bucket, labels and amounts.
+pub fn rows(rt: &(impl Abort + AllocGlobal), lines: &str) -> Batch {
+    let text = format!(in rt.alloc(); "{HEADER}\n{lines}");
     let text = text.ok().expect(rt, "memory");
     read_batch(rt.alloc(), text.as_str().as_bytes())
         .ok()
         .expect(rt, "a batch")
         .batch
+}
+
+/// The batch of one trade with one row, of a currency and an amount in dollars.
+pub fn batch(rt: &(impl Abort + AllocGlobal), trade: &str, currency: &str, amount: &str) -> Batch {
+    let row = format!(in rt.alloc(); "{trade},FX,Risk_FX,{currency},,,,,,{amount}\n");
+    let row = row.ok().expect(rt, "memory");
+    rows(rt, row.as_str())
 }
 
 pub fn currency(rt: &(impl Abort + AllocGlobal), text: &str) -> Currency {

@@ -1,4 +1,5 @@
 use crate::makers::{batch, name, params, set_terms};
+use csa_terms::Moment;
 use set_core::{Event, Halt, Reply, SetState, reply_text};
 use simm_kinds::Listed;
 use std::process::Abort;
@@ -17,6 +18,8 @@ enum Step {
     /// A withdrawal of one name.
     Withdraw(&'static str),
     Ask,
+    /// A demand on a Friday morning.
+    Call,
 }
 
 fn event(rt: &(impl Abort + AllocGlobal), step: Step) -> Event {
@@ -24,6 +27,9 @@ fn event(rt: &(impl Abort + AllocGlobal), step: Step) -> Event {
         Step::Submit(currency, amount) => Event::Submit(batch(rt, "T1", currency, amount)),
         Step::Withdraw(trade) => withdrawal(rt, trade),
         Step::Ask => Event::AskMargin,
+        Step::Call => Event::AskCall {
+            moment: Moment::read(b"2024-03-01T10:00").expect(rt, "a moment"),
+        },
     }
 }
 
@@ -74,6 +80,27 @@ fn a_set_has_its_journal(rt: HostRuntime) {
     let first = set.entry(1).expect(&rt, "an entry");
     assert!(rt; first.caller == 2);
     assert!(rt; set.entry(0).is_none() && set.entry(6).is_none());
+}
+
+/// Steps whose replies leave this many values of buckets that are not kept, and whether the margin is known then.
+const KEPT: [(Step, u32, bool); 7] = [
+    (Step::Submit("EUR", "1000"), 1, false),
+    (Step::Withdraw("T9"), 1, false),
+    (Step::Ask, 0, true),
+    (Step::Withdraw("T9"), 0, true),
+    (Step::Submit("BRL", "10000000000.01"), 0, true),
+    (Step::Submit("EUR", "2000"), 1, false),
+    (Step::Call, 0, true),
+];
+
+#[test]
+fn a_question_keeps_all_and_a_refusal_leaves_it(rt: HostRuntime) {
+    let mut set = set(&rt);
+    for (step, dirty, fresh) in KEPT {
+        let _reply = apply(&rt, &mut set, step);
+        assert_eq!(rt; set.live().dirty_count(), dirty);
+        assert_eq!(rt; set.live().is_fresh(), fresh);
+    }
 }
 
 #[test]

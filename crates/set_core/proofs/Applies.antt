@@ -12,7 +12,7 @@ use Rattle.simm_rules.specs.Range.{range}
 use Rattle.simm_rules.specs.Simm.{simm}
 use Rattle.held_cell.specs.Entries.{entry}
 use Rattle.bucket_cache.specs.declared.place.RowPlace.{RowPlace}
-use Rattle.bucket_cache.specs.Live.{Live, first_unadmitted}
+use Rattle.bucket_cache.specs.Live.{first_unadmitted}
 use Rattle.csa_terms.specs.Terms.{Agreement, haircut_of}
 use Rattle.collateral_ledger.specs.declared.fault.LedgerFault.TheVariants as fault
 use Rattle.collateral_ledger.specs.Holdings.{Holdings}
@@ -31,7 +31,7 @@ use Rattle.set_core.specs.Answer.{first_unknown, if_admitted, if_known, if_put, 
 use Rattle.set_core.specs.Events.{IsEvent}
 use Rattle.set_core.specs.Room.{event_rows, journal_rows, is_full}
 use Rattle.set_core.specs.Ledger.{held_lot, holdings, holdings_after, ledger_reply}
-use Rattle.set_core.specs.Live.{live_reply, live_book, Does}
+use Rattle.set_core.specs.Live.{Traded, live_reply, live_book, Does}
 use Rattle.set_core.specs.Kept.{AreDifferent, IsKept}
 use Rattle.set_core.proofs.Words.{Log}
 use Rattle.set_core.proofs.Puts.{different-map, map-map}
@@ -107,7 +107,7 @@ is_new p t log (event.AskCall moment) r h accepted = tt
 -- ---- the live margin's book after the answer is the journal's
 
 -- a change of the book is done or refused
-abbrev is_settled : Reply → Bool
+abbrev pub is_settled : Reply → Bool
 is_settled reply.Accepted = true
 is_settled (reply.Refused _) = true
 is_settled _ = false
@@ -168,13 +168,13 @@ accepted_different e r caller is = at (is_accepted r) (of_event e is)
     at true d = d
     at false d = tt
 
-pub record Applied (l new : Live) (h has : Holdings) (count caller : ℕ) (log : Log) (e : Event) (r : Reply) : Type 0 where
+pub record Applied (l new : Traded) (h has : Holdings) (count caller : ℕ) (log : Log) (e : Event) (r : Reply) : Type 0 where
   pub kept : IsKept new has (count + event_rows e) (log ++ entry caller e r ∷ [])
   pub params : new.params ≡ l.params
   pub terms : has.terms ≡ h.terms
   pub value : r ≡ answer l.params h.terms log e
 
-pub applied : (l new : Live) (h has : Holdings) (count caller : ℕ) (log : Log) (e : Event) (r : Reply) → IsKept l h count log → is_full log e ≡ false → IsEvent e → Does l new h has e r → Applied l new h has count caller log e r
+pub applied : (l new : Traded) (h has : Holdings) (count caller : ℕ) (log : Log) (e : Event) (r : Reply) → IsKept l h count log → is_full log e ≡ false → IsEvent e → Does l new h has e r → Applied l new h has count caller log e r
 applied l new h has count caller log e r kept room is does =
     let longer : Log = log ++ entry caller e r ∷ [] in
     let room : (nat_le 65535 (length log) ≡ false) × (nat_lt 500000 (journal_rows log + event_rows e) ≡ false) = or_parts (nat_le 65535 (length log)) (nat_lt 500000 (journal_rows log + event_rows e)) room in
@@ -207,5 +207,5 @@ applied l new h has count caller log e r kept room is does =
     }
 
 -- no more calls were added than the journal has entries
-pub few_calls : (l : Live) (h : Holdings) (count : ℕ) (log : Log) → IsKept l h count log → h.added ≤ 65535
+pub few_calls : (l : Traded) (h : Holdings) (count : ℕ) (log : Log) → IsKept l h count log → h.added ≤ 65535
 few_calls l h count log kept = omega (arith, ap (λ held. held.added) kept.ledger, made_few log, kept.set.few)

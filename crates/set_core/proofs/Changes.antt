@@ -1,5 +1,5 @@
 -- What an event makes of the ledger alone.
-use Rattle.std.proofs.Common.{◌≡◌, Option, None, Some, is_some, Result, Ok, Err, OnOk, OnErr, IfOk, MatchResult, sym, ap, ◌∙◌}
+use Rattle.std.proofs.Common.{◌≡◌, List, Option, None, Some, is_some, Result, Ok, Err, OnOk, OnErr, IfOk, MatchResult, sym, ap, ◌∙◌}
 use Rattle.std.proofs.lemmas.Bool.{true≢false}
 use Rattle.std.specs.declared.alloc.AllocError.{AllocError}
 use Rattle.bucket_cache.specs.Live.{Live}
@@ -7,22 +7,23 @@ use Rattle.collateral_ledger.specs.declared.fault.LedgerFault.{LedgerFault}
 use Rattle.collateral_ledger.specs.declared.fault.LedgerFault.TheVariants as fault
 use Rattle.collateral_ledger.specs.Holdings.{Holdings}
 use Rattle.collateral_ledger.specs.Refusals.{IsCause}
+use Rattle.simm_kinds.specs.declared.row.TradeRows.{TradeRows}
 use Rattle.set_core.specs.declared.event.Event.{Event}
 use Rattle.set_core.specs.declared.reply.Reply.{Reply}
 use Rattle.set_core.specs.declared.reply.Reply.TheVariants as reply
 use Rattle.set_core.specs.declared.refusal.Refusal.{Refusal}
 use Rattle.set_core.specs.Ledger.{Replies, refusal_of, if_allowed, ledger_reply, holdings_after}
-use Rattle.set_core.specs.Live.{live_reply, live_book, Does}
+use Rattle.set_core.specs.Live.{Traded, traded, live_reply, live_book, Does}
 
 -- A change of a ledger, which is made or has its cause to refuse, does the event whose reply it has.
 pub change_does : (Cause : LedgerFault → Type 0) (old new after : Holdings) (refusal : Option LedgerFault) (e : Event)
     → ((f : LedgerFault) (why : Refusal) → refusal_of f ≡ Some why → Cause f → refusal ≡ Some f)
-    → ((l : Live) → live_reply l old e ≡ ledger_reply refusal)
-    → ((l : Live) (r : Reply) → l ≡ record l { book = live_book l.book e r })
+    → ((l : Traded) → live_reply l old e ≡ ledger_reply refusal)
+    → ((l : Traded) (r : Reply) → l ≡ record l { book = live_book l.book e r })
     → after ≡ holdings_after old e reply.Accepted
     → ((why : Refusal) → old ≡ holdings_after old e (reply.Refused why))
     → (change : Result (Unit {0}) LedgerFault) → MatchResult change (λ _. refusal ≡ None) Cause → OnOk change (new ≡ after) → OnErr change (new ≡ old)
-    → (result : Result Reply AllocError) → IfOk result (λ r. Replies change r) → IfOk result (λ r. (l : Live) → Does l l old new e r)
+    → (result : Result Reply AllocError) → IfOk result (λ r. Replies change r) → IfOk result (λ r. (l : Traded) → Does l l old new e r)
 change_does Cause old new after refusal e cause value book made refused change answer ok err (Err _) is = tt
 change_does Cause old new after refusal e cause value book made refused (Ok _) answer ok err (Ok r) is = λ l. record {
   value = is ∙ ap ledger_reply (sym answer) ∙ sym (value l);
@@ -46,6 +47,16 @@ cause_is refusal (fault.LotsFull count) why h cause = cause
 cause_is refusal fault.Memory why h cause = absurd (true≢false (sym (ap is_some h)))
 
 -- whatever the live margin is
-pub beside : (old new : Holdings) (l : Live) (e : Event) (result : Result Reply AllocError) → IfOk result (λ r. (m : Live) → Does m m old new e r) → IfOk result (λ r. Does l l old new e r)
+pub beside : (old new : Holdings) (l : Traded) (e : Event) (result : Result Reply AllocError) → IfOk result (λ r. (m : Traded) → Does m m old new e r) → IfOk result (λ r. Does l l old new e r)
 beside old new l e (Err _) is = tt
 beside old new l e (Ok r) is = is l
+
+-- ---- the trades of a live margin
+
+-- live margins of the same parameters and the same book
+pub same_trades : (new old : Live) → new.params ≡ old.params → new.book ≡ old.book → traded new ≡ traded old
+same_trades new old params book = λ i. record { params = params i; book = book i }
+
+-- of the same parameters, and another book
+pub other_trades : (new old : Live) (trades : List TradeRows) → new.params ≡ old.params → new.book ≡ trades → traded new ≡ record (traded old) { book = trades }
+other_trades new old trades params book = λ i. record { params = params i; book = book i }

@@ -6,7 +6,6 @@ use Rattle.std.specs.Prelude.{unwrap_or}
 use Rattle.simm_kinds.specs.Batch.{rows_of}
 use Rattle.simm_rules.specs.Simm.{simm}
 use Rattle.csa_terms.specs.Calendar.{Moment, due_day}
-use Rattle.bucket_cache.specs.Live.{Live}
 use Rattle.collateral_ledger.specs.Holdings.{Holdings}
 use Rattle.collateral_ledger.specs.Booked.{booked_of}
 use Rattle.set_core.specs.declared.event.Event.TheVariants as event
@@ -15,14 +14,14 @@ use Rattle.set_core.specs.declared.reply.Reply.TheVariants as reply
 use Rattle.set_core.specs.declared.refusal.Refusal.TheVariants as refusal
 use Rattle.set_core.specs.Answer.{is_calling_day, called_for, noted}
 use Rattle.set_core.specs.Ledger.{with_call}
-use Rattle.set_core.specs.Live.{Does}
+use Rattle.set_core.specs.Live.{Traded, Does}
 
 -- a day that is found is that of a calling day
 pub is_found : (calling : Bool) (due day : ℤ) → Some due ≡ cond calling (Some day) None → (calling ≡ true) × (due ≡ day)
 is_found true due day h = (refl, ap (λ found. unwrap_or found due) h)
 is_found false due day h = absurd (true≢false (ap is_some h))
 
-pub demand_does : (l new : Live) (h has : Holdings) (moment : Moment) (due margin booked : ℤ) → new ≡ l
+pub demand_does : (l new : Traded) (h has : Holdings) (moment : Moment) (due margin booked : ℤ) → new ≡ l
     → is_calling_day moment.day ≡ true → due ≡ due_day moment h.terms → margin ≡ (simm l.params (rows_of l.book)).total.0 → booked ≡ booked_of h
     → (result : Result Reply AllocError) → IfOk result (λ r. r ≡ noted h.added due margin booked (called_for margin booked h.terms)) → IfOk result (λ r. has ≡ with_call h r)
     → IfOk result (λ r. Does l new h has (event.AskCall moment) r)

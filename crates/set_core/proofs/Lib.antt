@@ -11,4 +11,5 @@ pub mod Legal
 pub mod Changes
 pub mod Demands
 pub mod Applies
+pub mod Caching
 pub mod Steps

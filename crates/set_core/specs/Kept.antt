@@ -3,13 +3,14 @@
 use Rattle.std.specs.Prelude.{◌≡◌, ℕ, List, [], ◌∷◌, false}
 use Rattle.simm_kinds.specs.declared.row.TradeRows.{TradeRows}
 use Rattle.held_cell.specs.declared.entry.Entry.{Entry}
-use Rattle.bucket_cache.specs.Live.{Live, is_current}
+use Rattle.bucket_cache.specs.Live.{is_current}
 use Rattle.set_core.specs.declared.event.Event.{Event}
 use Rattle.set_core.specs.declared.reply.Reply.{Reply}
 use Rattle.set_core.specs.Book.{book, starts}
 use Rattle.set_core.specs.Room.{journal_rows}
 use Rattle.set_core.specs.Set.{IsSet}
 use Rattle.set_core.specs.Ledger.{holdings}
+use Rattle.set_core.specs.Live.{Traded}
 use Rattle.collateral_ledger.specs.Holdings.{Holdings}
 
 -- no trade stands twice
@@ -17,7 +18,7 @@ abbrev pub AreDifferent : List TradeRows → Type 0
 AreDifferent [] = Unit {0}
 AreDifferent (t ∷ trades) = (is_current trades t.trade ≡ false) × AreDifferent trades
 
-pub record IsKept (live : Live) (held : Holdings) (count : ℕ) (log : List (Entry Event Reply)) : Type 0 where
+pub record IsKept (live : Traded) (held : Holdings) (count : ℕ) (log : List (Entry Event Reply)) : Type 0 where
   pub set : IsSet live.params held.terms log
   pub book : live.book ≡ book log
   pub ledger : held ≡ holdings held.terms log

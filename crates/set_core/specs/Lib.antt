@@ -9,4 +9,5 @@ pub mod Start
 pub mod Ledger
 pub mod Live
 pub mod Kept
+pub mod Cached
 pub mod Text

@@ -1,10 +1,13 @@
 -- What a live margin and a ledger make of an event.
-use Rattle.std.specs.Prelude.{◌≡◌, List}
+use Rattle.std.specs.Prelude.{◌≡◌, List, Bool, true}
 use Rattle.simm_kinds.specs.declared.row.TradeRows.{TradeRows}
 use Rattle.simm_kinds.specs.Batch.{rows_of}
+use Rattle.simm_rules.specs.Params.{Params}
 use Rattle.simm_rules.specs.Range.{range}
 use Rattle.simm_rules.specs.Simm.{simm}
-use Rattle.bucket_cache.specs.Live.{Live, put_trades, without, first_unadmitted, first_unknown}
+use Rattle.factor_book.specs.declared.place.Place.{Place}
+use Rattle.kept_buckets.specs.Touched.{lies_at}
+use Rattle.bucket_cache.specs.Live.{Live, IsKeptAt, put_trades, without, first_unadmitted, first_unknown}
 use Rattle.collateral_ledger.specs.Holdings.{Holdings}
 use Rattle.collateral_ledger.specs.Booked.{booked_of}
 use Rattle.collateral_ledger.specs.Refusals.{put_refusal, take_refusal, mark_refusal, close_refusal}
@@ -14,9 +17,18 @@ use Rattle.set_core.specs.declared.reply.Reply.{Reply}
 use Rattle.set_core.specs.declared.reply.Reply.TheVariants as reply
 use Rattle.set_core.specs.Answer.{if_admitted, if_known, if_calling_day}
 use Rattle.set_core.specs.Ledger.{holdings_after, ledger_reply}
+use Rattle.set_core.specs.Cached.{rows_moved_by, moves_trades, is_known}
+
+-- what a live margin has of its trades: the parameters of their margin, and the book
+pub record Traded : Type 0 where
+  pub params : Params
+  pub book : List TradeRows
+
+abbrev pub traded : Live → Traded
+traded live = record { params = live.params; book = live.book }
 
 -- the reply to an event
-abbrev pub live_reply : Live → Holdings → Event → Reply
+abbrev pub live_reply : Traded → Holdings → Event → Reply
 live_reply l h (event.Submit trades) = if_admitted (first_unadmitted l.params trades) (range l.params (rows_of (put_trades trades l.book)))
 live_reply l h (event.Withdraw names) = if_known (first_unknown names l.book)
 live_reply l h (event.PutLot lot class value currency) = ledger_reply (put_refusal h lot class value)
@@ -32,7 +44,27 @@ live_book book (event.Submit trades) reply.Accepted = put_trades trades book
 live_book book (event.Withdraw names) reply.Accepted = without names book
 live_book book _ _ = book
 
-pub record Does (old new : Live) (had has : Holdings) (e : Event) (r : Reply) : Type 0 where
+pub record Does (old new : Traded) (had has : Holdings) (e : Event) (r : Reply) : Type 0 where
   pub value : r ≡ live_reply old had e
   pub live : new ≡ record old { book = live_book old.book e r }
   pub ledger : has ≡ holdings_after had e r
+
+-- ---- what a live margin has kept
+
+-- the margin is known, and the values of each place are kept
+pub record IsWorkedOut (live : Live) : Type 0 where
+  pub fresh : live.is_fresh ≡ true
+  pub kept : (place : Place) → IsKeptAt place live
+
+-- what was known is known
+pub record StaysKept (old new : Live) : Type 0 where
+  pub fresh : old.is_fresh ≡ true → new.is_fresh ≡ true
+  pub kept : (place : Place) → IsKeptAt place old → IsKeptAt place new
+
+abbrev pub Carries : (Live → Type 0) → Bool → Live → Live → Reply → Type 0
+Carries Known touched old new r = (was : Bool) → (was ≡ true → Known old) → is_known was touched r ≡ true → Known new
+
+-- what is known after the event and its reply is kept
+pub record Caches (old new : Live) (e : Event) (r : Reply) : Type 0 where
+  pub fresh : Carries (λ live. live.is_fresh ≡ true) (moves_trades e) old new r
+  pub kept : (place : Place) → Carries (IsKeptAt place) (lies_at place (rows_moved_by old.book e)) old new r

@@ -1,10 +1,11 @@
 //! What a live margin and a ledger make of an event, each kind by a function of its own.
 ghost use Rattle.std.specs.Prelude.{◌≡◌, ◌≤◌, IfOk, OnErr};
 ghost use Rattle.simm_kinds.specs.Batch.{rows_of};
-ghost use Rattle.set_core.specs.Live.{Does};
+ghost use Rattle.set_core.specs.Live.{Caches, Does, StaysKept, traded};
 ghost use Rattle.collateral_ledger.specs.Holdings.{Holdings};
 ghost use Rattle.set_core.specs.declared.event.Event.TheVariants as events;
 
+use crate::asking::ask_margin;
 use crate::calling::ask_call;
 use crate::collateral::{close, mark, put, take};
 use crate::{Event, Refusal, Reply};
@@ -13,7 +14,8 @@ use collateral_ledger::Ledger;
 use simm_kinds::{Batch, Name};
 use std::alloc::{AllocError, Global};
 
-/// Answers an event, and changes the live margin and the ledger as its reply says. For want of memory nothing changes.
+/// Answers an event, and changes the live margin and the ledger as its reply says. For want of memory the
+/// trades and the ledger stand, and what is kept of the margin.
 pub(crate) fn answer(
     alloc: Global,
     live: &mut LiveMargin,
@@ -21,8 +23,10 @@ pub(crate) fn answer(
     event: &Event,
 ) -> Result<Reply, AllocError>
     requires { ledger.old.added ≤ 65535 }
-    ensures does { IfOk result (λ reply. Does live.old live.new ledger.old ledger.new event.now reply) }
-    ensures trades { OnErr result (live.new ≡ live.old) }
+    ensures does { IfOk result (λ reply. Does (traded live.old) (traded live.new) ledger.old ledger.new event.now reply) }
+    ensures caches { IfOk result (Caches live.old live.new event.now) }
+    ensures trades { OnErr result (traded live.new ≡ traded live.old) }
+    ensures stays { OnErr result (StaysKept live.old live.new) }
     ensures collateral { OnErr result (ledger.new ≡ ledger.old) }
 {
     match event {
@@ -37,13 +41,14 @@ pub(crate) fn answer(
         Event::TakeLot { lot } => take(ledger, lot),
         Event::MarkLot { lot, value } => mark(ledger, lot, *value),
         Event::CloseCall { number } => close(ledger, *number),
-        Event::AskMargin => Ok(Reply::Margin(live.margin(alloc)?)),
+        Event::AskMargin => Ok(Reply::Margin(ask_margin(alloc, live)?)),
         Event::AskCall { moment } => ask_call(alloc, live, ledger, *moment),
     }
 }
 
 fn submit(alloc: Global, live: &mut LiveMargin, batch: &Batch) -> Result<Reply, AllocError>
-    ensures does { IfOk result (λ reply. (h : Holdings) → Does live.old live.new h h (events.Submit batch.now) reply) }
+    ensures does { IfOk result (λ reply. (h : Holdings) → Does (traded live.old) (traded live.new) h h (events.Submit batch.now) reply) }
+    ensures caches { IfOk result (Caches live.old live.new (events.Submit batch.now)) }
     ensures unchanged { OnErr result (live.new ≡ live.old) }
 {
     match live.submit(alloc, batch.trades()) {
@@ -57,7 +62,8 @@ fn submit(alloc: Global, live: &mut LiveMargin, batch: &Batch) -> Result<Reply, 
 }
 
 fn withdraw(alloc: Global, live: &mut LiveMargin, names: &[Name]) -> Result<Reply, AllocError>
-    ensures does { IfOk result (λ reply. (h : Holdings) → Does live.old live.new h h (events.Withdraw names.now) reply) }
+    ensures does { IfOk result (λ reply. (h : Holdings) → Does (traded live.old) (traded live.new) h h (events.Withdraw names.now) reply) }
+    ensures caches { IfOk result (Caches live.old live.new (events.Withdraw names.now)) }
     ensures unchanged { OnErr result (live.new ≡ live.old) }
 {
     match live.withdraw(alloc, names) {

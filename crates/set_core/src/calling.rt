@@ -5,10 +5,11 @@ ghost use Rattle.csa_calls.specs.CallRule.{AmountUpTo};
 ghost use Rattle.set_core.specs.Answer.{is_calling_day, is_calling_range, called_for, noted};
 ghost use Rattle.collateral_ledger.specs.Holdings.{IsCallAmount};
 ghost use Rattle.set_core.specs.Ledger.{with_call};
-ghost use Rattle.set_core.specs.Live.{Does};
+ghost use Rattle.set_core.specs.Live.{Caches, Does, StaysKept, traded};
 ghost use Rattle.set_core.specs.declared.event.Event.TheVariants as events;
 ghost use Rattle.set_core.specs.declared.reply.Reply.TheVariants as replies;
 
+use crate::asking::ask_margin;
 use crate::{CallNote, Refusal, Reply};
 use bucket_cache::LiveMargin;
 use collateral_ledger::Ledger;
@@ -27,7 +28,7 @@ struct Demand {
 /// The greatest margin on which a call is made, and the greatest size of what is booked, in cents.
 const MOST_CALLING: u128 = 400_000_000_000_000_000;
 
-/// Answers a demand at a moment. For want of memory nothing changes.
+/// Answers a demand at a moment. For want of memory the trades and the ledger stand, and what is kept of the margin.
 pub(crate) fn ask_call(
     alloc: Global,
     live: &mut LiveMargin,
@@ -35,14 +36,16 @@ pub(crate) fn ask_call(
     moment: Moment,
 ) -> Result<Reply, AllocError>
     requires { ledger.old.added ≤ 65535 }
-    ensures does { IfOk result (λ reply. Does live.old live.new ledger.old ledger.new (events.AskCall moment) reply) }
-    ensures trades { OnErr result (live.new ≡ live.old) }
+    ensures does { IfOk result (λ reply. Does (traded live.old) (traded live.new) ledger.old ledger.new (events.AskCall moment) reply) }
+    ensures caches { IfOk result (Caches live.old live.new (events.AskCall moment)) }
+    ensures trades { OnErr result (traded live.new ≡ traded live.old) }
+    ensures stays { OnErr result (StaysKept live.old live.new) }
     ensures collateral { OnErr result (ledger.new ≡ ledger.old) }
 {
     let Some(due) = due(moment, ledger.terms()) else {
         return Ok(Reply::Refused(Refusal::DayRange(moment.day())));
     };
-    let margin = live.margin(alloc)?.total.0;
+    let margin = ask_margin(alloc, live)?.total.0;
     let booked = ledger.booked();
     let demand = Demand {
         due,

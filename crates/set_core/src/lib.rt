@@ -4,6 +4,7 @@
 #![tactic(auto)]
 
 mod answering;
+mod asking;
 mod call_note;
 mod calling;
 mod collateral;

@@ -1,7 +1,9 @@
-ghost use Rattle.std.specs.Prelude.{◌≡◌, [], length, map, None, Some, IfOk, OnErr, IfErr};
+ghost use Rattle.std.specs.Prelude.{◌≡◌, [], true, length, map, None, Some, IfOk, OnErr, IfErr};
 ghost use Rattle.std.specs.Option.{option_copied};
-ghost use Rattle.bucket_cache.specs.Live.{Live};
+ghost use Rattle.factor_book.specs.declared.place.Place.{Place};
+ghost use Rattle.bucket_cache.specs.Live.{IsKeptAt};
 ghost use Rattle.set_core.specs.Book.{book};
+ghost use Rattle.set_core.specs.Cached.{is_margin_known, is_place_known};
 ghost use Rattle.held_cell.specs.Halts.{Explains};
 ghost use Rattle.set_core.specs.Room.{journal_rows, event_rows, is_full_for, IsFull};
 ghost use Rattle.set_core.specs.Set.{IsSet, IsAnswered, entry_at};
@@ -29,12 +31,14 @@ pub struct SetState {
 impl Model for SetState {
     ghost use Rattle.set_core.specs.Set.{Set, IsSet};
     ghost use Rattle.set_core.specs.Kept.{IsKept};
+    ghost use Rattle.set_core.specs.Cached.{AreCached};
+    ghost use Rattle.set_core.specs.Live.{traded};
 
     ghost Value = { Set };
 
     ghost view = { λ s. record { params = s.live.params; terms = s.ledger.terms; journal = s.journal.items } };
 
-    ghost invariant = { λ s. IsKept s.live s.ledger s.rows s.journal.items };
+    ghost invariant = { λ s. IsKept (traded s.live) s.ledger s.rows s.journal.items × AreCached s.live s.journal.items };
 }
 
 /// How many entries a journal has at most.
@@ -63,7 +67,7 @@ impl SetState {
     }
 
     /// Answers an event by the written rule over the journal so far, and adds it to the journal with its reply. An event
-    /// that is refused changes nothing else.
+    /// that is refused changes nothing else. What the live margin keeps of its buckets is told by the journal too (`live`).
     ///
     /// # Errors
     ///
@@ -128,10 +132,14 @@ impl SetState {
         self.journal.get(index as usize)
     }
 
-    /// Lends the live margin, whose book is that of the journal.
+    /// Lends the live margin, whose book is that of the journal. What was worked out at the last question that was answered
+    /// is kept, but the values of the buckets in which a row lies that an accepted event moved since; a refused event leaves
+    /// them. The margin is known where no accepted event moved trades since.
     pub fn live(&self) -> &LiveMargin
         ensures params { result.now.params ≡ self.now.params }
         ensures book { result.now.book ≡ book self.now.journal }
+        ensures fresh { is_margin_known self.now.journal ≡ true → result.now.is_fresh ≡ true }
+        ensures kept { (place : Place) → is_place_known place self.now.journal ≡ true → IsKeptAt place result.now }
     {
         &self.live
     }

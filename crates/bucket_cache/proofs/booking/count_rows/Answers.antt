@@ -1,6 +1,6 @@
 use Rattle.std.proofs.Common.{arith, length, ap}
 use Rattle.std.proofs.lemmas.List.Folds.{length-flat_map-take}
-use Rattle.class_combine.specs.declared.lent.LentRows.{LentRows}
+use Rattle.bucket_cache.specs.declared.lent.LentRows.{LentRows}
 use Rattle.bucket_cache.proofs.booking.count_rows.Goals as goal
 
 pub overflow_add-count : goal.overflow_add-count

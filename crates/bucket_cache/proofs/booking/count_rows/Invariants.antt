@@ -1,5 +1,5 @@
 use Rattle.std.proofs.Common.{◌≡◌, length, take}
-use Rattle.class_combine.specs.Lent.{all_rows}
+use Rattle.bucket_cache.specs.Lent.{all_rows}
 use Rattle.bucket_cache.proofs.booking.count_rows.Given as goal
 
 abbrev pub invariant-loop-trade : goal.invariant-loop-trade

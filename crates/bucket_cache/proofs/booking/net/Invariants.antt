@@ -1,6 +1,6 @@
 use Rattle.std.proofs.Common.{◌≡◌, take}
 use Rattle.factor_book.specs.Factors.{factors_of}
-use Rattle.class_combine.specs.Lent.{all_rows}
+use Rattle.bucket_cache.specs.Lent.{all_rows}
 use Rattle.bucket_cache.proofs.booking.net.Given as goal
 
 abbrev pub invariant-loop-trade : goal.invariant-loop-trade

@@ -3,35 +3,67 @@ use Rattle.mh_units.proofs.Integers.{same64}
 use Rattle.set_core.specs.declared.event.Event.{Event}
 use Rattle.set_core.specs.declared.event.Event.TheVariants as event
 use Rattle.set_core.specs.declared.reply.Reply.TheVariants as reply
-use Rattle.set_core.specs.Live.{Does}
+use Rattle.collateral_ledger.specs.Refusals.{put_refusal, take_refusal, mark_refusal, close_refusal}
+use Rattle.set_core.specs.Live.{Caches, Does, traded}
+use Rattle.set_core.proofs.Caching.{caches_all, caches_beside, ledger_settled}
 use Rattle.set_core.proofs.Changes.{beside}
 use Rattle.set_core.proofs.answering.answer.Goals as goal
 
-pub returns-in_ok-margin-in-AskMargin-clause-does : goal.returns-in_ok-margin-in-AskMargin-clause-does
-returns-in_ok-margin-in-AskMargin-clause-does c =
-    subst (λ e. Does c.args.live.now c.margin.new.self c.args.ledger.now c.args.ledger.now e (reply.Margin c.in_ok-margin-in-AskMargin.field-0)) (sym c.in-AskMargin.is)
-    (record { value = ap reply.Margin c.in_ok-margin-in-AskMargin.ensures.value; live = c.in_ok-margin-in-AskMargin.ensures.unchanged; ledger = refl })
+pub returns-in_ok-ask_margin-in-AskMargin-clause-does : goal.returns-in_ok-ask_margin-in-AskMargin-clause-does
+returns-in_ok-ask_margin-in-AskMargin-clause-does c =
+    subst (λ e. Does (traded c.args.live.now) (traded c.ask_margin.new.live) c.args.ledger.now c.args.ledger.now e (reply.Margin c.in_ok-ask_margin-in-AskMargin.field-0)) (sym c.in-AskMargin.is)
+    (record { value = ap reply.Margin c.in_ok-ask_margin-in-AskMargin.ensures.value; live = c.in_ok-ask_margin-in-AskMargin.ensures.trades; ledger = refl })
 
 pub returns-in-PutLot-clause-does : goal.returns-in-PutLot-clause-does
 returns-in-PutLot-clause-does c =
     let fits : FitsSigned w64 c.in-PutLot.value = search rules in
     let put : ℤ → Event = λ value. event.PutLot c.in-PutLot.lot c.in-PutLot.class value c.in-PutLot.currency in
-    subst (λ e. IfOk c.put.result (λ r. Does c.args.live.now c.args.live.now c.args.ledger.now c.put.new.ledger e r)) (ap put (same64 c.in-PutLot.value fits) ∙ sym c.in-PutLot.is)
-    (beside c.args.ledger.now c.put.new.ledger c.args.live.now (put (to_z w64 (of_z w64 c.in-PutLot.value))) c.put.result c.put.ensures.does)
+    subst (λ e. IfOk c.put.result (λ r. Does (traded c.args.live.now) (traded c.args.live.now) c.args.ledger.now c.put.new.ledger e r)) (ap put (same64 c.in-PutLot.value fits) ∙ sym c.in-PutLot.is)
+    (beside c.args.ledger.now c.put.new.ledger (traded c.args.live.now) (put (to_z w64 (of_z w64 c.in-PutLot.value))) c.put.result c.put.ensures.does)
 
 pub returns-in-TakeLot-clause-does : goal.returns-in-TakeLot-clause-does
 returns-in-TakeLot-clause-does c =
-    subst (λ e. IfOk c.take.result (λ r. Does c.args.live.now c.args.live.now c.args.ledger.now c.take.new.ledger e r)) (sym c.in-TakeLot.is)
-    (beside c.args.ledger.now c.take.new.ledger c.args.live.now (event.TakeLot c.in-TakeLot.lot) c.take.result c.take.ensures.does)
+    subst (λ e. IfOk c.take.result (λ r. Does (traded c.args.live.now) (traded c.args.live.now) c.args.ledger.now c.take.new.ledger e r)) (sym c.in-TakeLot.is)
+    (beside c.args.ledger.now c.take.new.ledger (traded c.args.live.now) (event.TakeLot c.in-TakeLot.lot) c.take.result c.take.ensures.does)
 
 pub returns-in-MarkLot-clause-does : goal.returns-in-MarkLot-clause-does
 returns-in-MarkLot-clause-does c =
     let fits : FitsSigned w64 c.in-MarkLot.value = search rules in
     let mark : ℤ → Event = λ value. event.MarkLot c.in-MarkLot.lot value in
-    subst (λ e. IfOk c.mark.result (λ r. Does c.args.live.now c.args.live.now c.args.ledger.now c.mark.new.ledger e r)) (ap mark (same64 c.in-MarkLot.value fits) ∙ sym c.in-MarkLot.is)
-    (beside c.args.ledger.now c.mark.new.ledger c.args.live.now (mark (to_z w64 (of_z w64 c.in-MarkLot.value))) c.mark.result c.mark.ensures.does)
+    subst (λ e. IfOk c.mark.result (λ r. Does (traded c.args.live.now) (traded c.args.live.now) c.args.ledger.now c.mark.new.ledger e r)) (ap mark (same64 c.in-MarkLot.value fits) ∙ sym c.in-MarkLot.is)
+    (beside c.args.ledger.now c.mark.new.ledger (traded c.args.live.now) (mark (to_z w64 (of_z w64 c.in-MarkLot.value))) c.mark.result c.mark.ensures.does)
 
 pub returns-in-CloseCall-clause-does : goal.returns-in-CloseCall-clause-does
 returns-in-CloseCall-clause-does c =
-    subst (λ e. IfOk c.close.result (λ r. Does c.args.live.now c.args.live.now c.args.ledger.now c.close.new.ledger e r)) (sym c.in-CloseCall.is)
-    (beside c.args.ledger.now c.close.new.ledger c.args.live.now (event.CloseCall c.in-CloseCall.number) c.close.result c.close.ensures.does)
+    subst (λ e. IfOk c.close.result (λ r. Does (traded c.args.live.now) (traded c.args.live.now) c.args.ledger.now c.close.new.ledger e r)) (sym c.in-CloseCall.is)
+    (beside c.args.ledger.now c.close.new.ledger (traded c.args.live.now) (event.CloseCall c.in-CloseCall.number) c.close.result c.close.ensures.does)
+
+pub returns-in_ok-ask_margin-in-AskMargin-clause-caches : goal.returns-in_ok-ask_margin-in-AskMargin-clause-caches
+returns-in_ok-ask_margin-in-AskMargin-clause-caches c =
+    caches_all c.args.live.now c.ask_margin.new.live c.args.event.now (reply.Margin c.in_ok-ask_margin-in-AskMargin.field-0) c.in_ok-ask_margin-in-AskMargin.ensures.all
+
+pub returns-in-PutLot-clause-caches : goal.returns-in-PutLot-clause-caches
+returns-in-PutLot-clause-caches c =
+    let fits : FitsSigned w64 c.in-PutLot.value = search rules in
+    let put : ℤ → Event = λ value. event.PutLot c.in-PutLot.lot c.in-PutLot.class value c.in-PutLot.currency in
+    let value = to_z w64 (of_z w64 c.in-PutLot.value) in
+    subst (λ e. IfOk c.put.result (Caches c.args.live.now c.args.live.now e)) (ap put (same64 c.in-PutLot.value fits) ∙ sym c.in-PutLot.is)
+    (caches_beside c.args.ledger.now c.put.new.ledger c.args.live.now (put value) c.put.result (ledger_settled (put_refusal c.args.ledger.now c.in-PutLot.lot c.in-PutLot.class value)) c.put.ensures.does)
+
+pub returns-in-TakeLot-clause-caches : goal.returns-in-TakeLot-clause-caches
+returns-in-TakeLot-clause-caches c =
+    subst (λ e. IfOk c.take.result (Caches c.args.live.now c.args.live.now e)) (sym c.in-TakeLot.is)
+    (caches_beside c.args.ledger.now c.take.new.ledger c.args.live.now (event.TakeLot c.in-TakeLot.lot) c.take.result (ledger_settled (take_refusal c.args.ledger.now c.in-TakeLot.lot)) c.take.ensures.does)
+
+pub returns-in-MarkLot-clause-caches : goal.returns-in-MarkLot-clause-caches
+returns-in-MarkLot-clause-caches c =
+    let fits : FitsSigned w64 c.in-MarkLot.value = search rules in
+    let mark : ℤ → Event = λ value. event.MarkLot c.in-MarkLot.lot value in
+    let value = to_z w64 (of_z w64 c.in-MarkLot.value) in
+    subst (λ e. IfOk c.mark.result (Caches c.args.live.now c.args.live.now e)) (ap mark (same64 c.in-MarkLot.value fits) ∙ sym c.in-MarkLot.is)
+    (caches_beside c.args.ledger.now c.mark.new.ledger c.args.live.now (mark value) c.mark.result (ledger_settled (mark_refusal c.args.ledger.now c.in-MarkLot.lot value)) c.mark.ensures.does)
+
+pub returns-in-CloseCall-clause-caches : goal.returns-in-CloseCall-clause-caches
+returns-in-CloseCall-clause-caches c =
+    subst (λ e. IfOk c.close.result (Caches c.args.live.now c.args.live.now e)) (sym c.in-CloseCall.is)
+    (caches_beside c.args.ledger.now c.close.new.ledger c.args.live.now (event.CloseCall c.in-CloseCall.number) c.close.result (ledger_settled (close_refusal c.args.ledger.now c.in-CloseCall.number)) c.close.ensures.does)

@@ -6,7 +6,8 @@ use Rattle.set_core.specs.declared.event.Event.TheVariants as events
 use Rattle.set_core.specs.declared.reply.Reply.TheVariants as reply
 use Rattle.set_core.specs.declared.refusal.Refusal.TheVariants as refusal
 use Rattle.set_core.specs.Answer.{if_in_range, if_admitted}
-use Rattle.set_core.specs.Live.{Does}
+use Rattle.set_core.specs.Live.{Does, traded}
+use Rattle.set_core.proofs.Changes.{other_trades}
 use Rattle.set_core.proofs.answering.submit.Goals as goal
 
 accepted : (at : Option RowPlace) (fault : Option RangeFault) → at ≡ None → fault ≡ None → reply.Accepted ≡ if_admitted at fault
@@ -20,15 +21,15 @@ unknown at found trade row is = ap (λ o. if_admitted o found) (sym is)
 
 pub returns-in-Ok-clause-does : goal.returns-in-Ok-clause-does
 returns-in-Ok-clause-does c =
-    subst (λ batch. (h : Holdings) → Does c.args.live.now c.submit.new.self h h (events.Submit batch) reply.Accepted) c.trades.ensures.value
-    (λ h. record { value = accepted _ _ c.in-Ok.ensures.admitted c.in-Ok.ensures.in_range; live = c.in-Ok.ensures.book; ledger = refl })
+    subst (λ batch. (h : Holdings) → Does (traded c.args.live.now) (traded c.submit.new.self) h h (events.Submit batch) reply.Accepted) c.trades.ensures.value
+    (λ h. record { value = accepted _ _ c.in-Ok.ensures.admitted c.in-Ok.ensures.in_range; live = other_trades c.submit.new.self c.args.live.now _ c.in-Ok.ensures.params c.in-Ok.ensures.book; ledger = refl })
 
 pub returns-in-Err-BucketUnknown-clause-does : goal.returns-in-Err-BucketUnknown-clause-does
 returns-in-Err-BucketUnknown-clause-does c =
-    subst (λ batch. (h : Holdings) → Does c.args.live.now c.submit.new.self h h (events.Submit batch) (reply.Refused (refusal.BucketUnknown c.in-Err-BucketUnknown.trade c.in-Err-BucketUnknown.row))) c.trades.ensures.value
-    (λ h. record { value = unknown _ _ _ _ (c.in-Err-BucketUnknown.ensures.unadmitted c.in-Err-BucketUnknown.trade c.in-Err-BucketUnknown.row (ap Err c.in-Err-BucketUnknown.field-0-is)); live = c.in-Err-BucketUnknown.ensures.unchanged; ledger = refl })
+    subst (λ batch. (h : Holdings) → Does (traded c.args.live.now) (traded c.submit.new.self) h h (events.Submit batch) (reply.Refused (refusal.BucketUnknown c.in-Err-BucketUnknown.trade c.in-Err-BucketUnknown.row))) c.trades.ensures.value
+    (λ h. record { value = unknown _ _ _ _ (c.in-Err-BucketUnknown.ensures.unadmitted c.in-Err-BucketUnknown.trade c.in-Err-BucketUnknown.row (ap Err c.in-Err-BucketUnknown.field-0-is)); live = ap traded c.in-Err-BucketUnknown.ensures.unchanged; ledger = refl })
 
 pub returns-in-Err-Range-clause-does : goal.returns-in-Err-Range-clause-does
 returns-in-Err-Range-clause-does c =
-    subst (λ batch. (h : Holdings) → Does c.args.live.now c.submit.new.self h h (events.Submit batch) (reply.Refused (refusal.Range c.in-Err-Range.fault))) c.trades.ensures.value
-    (λ h. record { value = out_of_range _ _ _ (c.in-Err-Range.ensures.range_of_admitted c.in-Err-Range.fault (ap Err c.in-Err-Range.field-0-is)) (c.in-Err-Range.ensures.range c.in-Err-Range.fault (ap Err c.in-Err-Range.field-0-is)); live = c.in-Err-Range.ensures.unchanged; ledger = refl })
+    subst (λ batch. (h : Holdings) → Does (traded c.args.live.now) (traded c.submit.new.self) h h (events.Submit batch) (reply.Refused (refusal.Range c.in-Err-Range.fault))) c.trades.ensures.value
+    (λ h. record { value = out_of_range _ _ _ (c.in-Err-Range.ensures.range_of_admitted c.in-Err-Range.fault (ap Err c.in-Err-Range.field-0-is)) (c.in-Err-Range.ensures.range c.in-Err-Range.fault (ap Err c.in-Err-Range.field-0-is)); live = ap traded c.in-Err-Range.ensures.unchanged; ledger = refl })

@@ -4,6 +4,9 @@ use Rattle.std.proofs.lemmas.Int.{ints, to_z-of_z}
 use Rattle.mh_units.proofs.Integers.{same128}
 use Rattle.csa_terms.specs.Calendar.{due_day}
 use Rattle.set_core.specs.Answer.{is_calling_day}
+use Rattle.set_core.specs.declared.event.Event.TheVariants as event
+use Rattle.set_core.specs.Live.{traded, Caches}
+use Rattle.set_core.proofs.Caching.{always, caches_all, stays_worked_out}
 use Rattle.set_core.proofs.Demands.{is_found, demand_does, on_err}
 use Rattle.set_core.proofs.calling.ask_call.Goals as goal
 
@@ -20,18 +23,26 @@ call_on-requires-clause-margin_to c =
     subst (λ total. total ≤ℤ pos (10 ^ 21)) (sym (total_is c.in_ok-margin.field-0.total.0 c.in_ok-margin.ensures.total_from c.in_ok-margin.ensures.total_below)) within
 
 pub returns-clause-trades : goal.returns-clause-trades
-returns-clause-trades c = on_err c.call_on.result c.in_ok-margin.ensures.unchanged
+returns-clause-trades c = on_err c.call_on.result c.in_ok-margin.ensures.trades
 
 pub returns-clause-does : goal.returns-clause-does
 returns-clause-does c =
     let found : (is_calling_day c.args.moment.day ≡ true) × (c.in-Some.due ≡ due_day c.args.moment c.terms.result.now) = is_found (is_calling_day c.args.moment.day) c.in-Some.due (due_day c.args.moment c.terms.result.now) c.in-Some.ensures in
     let due_fits : FitsSigned w32 c.in-Some.due = search rules in
     let booked_fits : FitsSigned w128 c.booked-booked.result = search rules in
-    demand_does c.args.live.now _ c.args.ledger.now c.call_on.new.ledger c.args.moment
+    demand_does (traded c.args.live.now) _ c.args.ledger.now c.call_on.new.ledger c.args.moment
     (to_z w32 (of_z w32 c.in-Some.due)) (to_z w128 (of_z w128 c.in_ok-margin.field-0.total.0)) (to_z w128 (of_z w128 c.booked-booked.result))
-    c.in_ok-margin.ensures.unchanged
+    c.in_ok-margin.ensures.trades
     found.0
     (to_z-of_z w32 c.in-Some.due due_fits ∙ found.1 ∙ ap (due_day c.args.moment) c.terms.ensures)
     (total_is c.in_ok-margin.field-0.total.0 c.in_ok-margin.ensures.total_from c.in_ok-margin.ensures.total_below ∙ ap (λ b. b.total.0) c.in_ok-margin.ensures.value)
     (same128 c.booked-booked.result booked_fits ∙ c.booked-booked.ensures.value)
     c.call_on.result c.call_on.ensures.value c.call_on.ensures.after
+
+pub returns-clause-caches : goal.returns-clause-caches
+returns-clause-caches c =
+    always c.call_on.result (Caches c.args.live.now c.ask_margin.new.live (event.AskCall c.args.moment))
+    (λ r. caches_all c.args.live.now c.ask_margin.new.live (event.AskCall c.args.moment) r c.in_ok-margin.ensures.all)
+
+pub returns-clause-stays : goal.returns-clause-stays
+returns-clause-stays c = on_err c.call_on.result (stays_worked_out c.args.live.now c.ask_margin.new.live c.in_ok-margin.ensures.all)

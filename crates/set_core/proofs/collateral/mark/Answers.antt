@@ -1,7 +1,6 @@
 use Rattle.std.proofs.Common.{◌≡◌, Some, refl, subst, IfOk, ℤ, w64, to_z, of_z}
 use Rattle.mh_units.proofs.Integers.{same64}
-use Rattle.bucket_cache.specs.Live.{Live}
-use Rattle.set_core.specs.Live.{Does}
+use Rattle.set_core.specs.Live.{Traded, Does}
 use Rattle.collateral_ledger.specs.Changes.{with_value}
 use Rattle.collateral_ledger.specs.Refusals.{mark_refusal}
 use Rattle.set_core.specs.declared.event.Event.TheVariants as event
@@ -14,7 +13,7 @@ sent c = to_z w64 (of_z w64 c.args.value)
 
 pub returns-clause-does : goal.returns-clause-does
 returns-clause-does c =
-    subst (λ value. IfOk c.reply_to.result (λ r. (l : Live) → Does l l c.args.ledger.now c.mark_lot-change.new.self (event.MarkLot c.args.lot.now value) r)) (same64 c.args.value c.ranges.value)
+    subst (λ value. IfOk c.reply_to.result (λ r. (l : Traded) → Does l l c.args.ledger.now c.mark_lot-change.new.self (event.MarkLot c.args.lot.now value) r)) (same64 c.args.value c.ranges.value)
     (change_does (λ f. mark_refusal c.args.ledger.now c.args.lot.now (sent c) ≡ Some f) c.args.ledger.now c.mark_lot-change.new.self (record c.args.ledger.now { lots = with_value c.args.lot.now (sent c) c.args.ledger.now.lots })
     (mark_refusal c.args.ledger.now c.args.lot.now (sent c)) (event.MarkLot c.args.lot.now (sent c))
     (λ f why is cause. cause) (λ l. refl) (λ l r. refl) refl (λ why. refl)

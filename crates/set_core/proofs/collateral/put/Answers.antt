@@ -1,7 +1,6 @@
 use Rattle.std.proofs.Common.{◌∷◌, ◌++◌, [], refl, subst, IfOk, ℤ, w64, to_z, of_z}
 use Rattle.mh_units.proofs.Integers.{same64}
-use Rattle.bucket_cache.specs.Live.{Live}
-use Rattle.set_core.specs.Live.{Does}
+use Rattle.set_core.specs.Live.{Traded, Does}
 use Rattle.collateral_ledger.specs.Booked.{rate_of}
 use Rattle.collateral_ledger.specs.Refusals.{IsCause, put_refusal}
 use Rattle.set_core.specs.declared.event.Event.TheVariants as event
@@ -14,7 +13,7 @@ sent c = to_z w64 (of_z w64 c.args.value)
 
 pub returns-clause-does : goal.returns-clause-does
 returns-clause-does c =
-    subst (λ value. IfOk c.reply_to.result (λ r. (l : Live) → Does l l c.args.ledger.now c.put_lot-change.new.self (event.PutLot c.args.lot.now c.args.class.now value c.args.currency) r)) (same64 c.args.value c.ranges.value)
+    subst (λ value. IfOk c.reply_to.result (λ r. (l : Traded) → Does l l c.args.ledger.now c.put_lot-change.new.self (event.PutLot c.args.lot.now c.args.class.now value c.args.currency) r)) (same64 c.args.value c.ranges.value)
     (change_does (IsCause (put_refusal c.args.ledger.now c.args.lot.now c.args.class.now (sent c))) c.args.ledger.now c.put_lot-change.new.self (record c.args.ledger.now { lots = c.args.ledger.now.lots ++ record { name = c.args.lot.now; value = (sent c); rate = rate_of c.args.ledger.now.terms c.args.class.now c.args.currency } ∷ [] })
     (put_refusal c.args.ledger.now c.args.lot.now c.args.class.now (sent c)) (event.PutLot c.args.lot.now c.args.class.now (sent c) c.args.currency)
     (cause_is (put_refusal c.args.ledger.now c.args.lot.now c.args.class.now (sent c))) (λ l. refl) (λ l r. refl) refl (λ why. refl)

@@ -1,44 +1,135 @@
-use Rattle.std.proofs.Common.{◌≡◌, ◌∙◌, List, Result, Ok, Err, IfOk, ap}
-use Rattle.simm_kinds.specs.declared.row.CrifRow.{CrifRow}
-use Rattle.simm_kinds.specs.Batch.{rows_of, factor_names, is_in_range}
-use Rattle.simm_kinds.specs.Order.{same_name}
-use Rattle.simm_kinds.specs.Repeats.{repeats}
-use Rattle.std.specs.List.{flat_map, list_all}
-use Rattle.simm_rules.specs.declared.values.Breakdown.{Breakdown}
-use Rattle.simm_rules.specs.Params.{Params}
-use Rattle.simm_rules.specs.Admits.{admits}
-use Rattle.simm_rules.specs.Range.{range}
+use Rattle.std.proofs.Common.{◌∙◌, ◌+◌, ◌≤◌, is_some, ap, sym, subst, arith}
+use Rattle.simm_kinds.specs.Batch.{rows_of}
 use Rattle.simm_rules.specs.Simm.{simm}
-use Rattle.class_combine.specs.Lent.{all_rows}
-use Rattle.bucket_cache.specs.Live.{Live}
+use Rattle.factor_book.specs.Factors.{factors_of}
+use Rattle.kept_buckets.specs.Dirty.{steps_left}
+use Rattle.book_margin.specs.Right.{IsFresh, Renews}
+use Rattle.bucket_cache.specs.declared.sums.Sums.{Sums}
 use Rattle.bucket_cache.specs.Entries.{trades_of}
-use Rattle.bucket_cache.proofs.Lives.{live_once}
-use Rattle.bucket_cache.proofs.Puts.{lent_rows}
+use Rattle.bucket_cache.specs.Held.{IsMargin, IsHeld}
+use Rattle.bucket_cache.specs.Live.{Live, IsKeptAt, rows_in}
+use Rattle.bucket_cache.proofs.Keeping.{if_some, not_fresh, margin_book, right_of, renews_to}
+use Rattle.bucket_cache.proofs.Standing.{fresh_at}
 use Rattle.bucket_cache.proofs.live.LiveMargin.margin.Goals as goal
 
-same_margin : {E : Type 0} (p q : Params) (xs ys : List CrifRow) (r : Result Breakdown E) → p ≡ q → xs ≡ ys → IfOk r (λ b. b ≡ simm p xs) → IfOk r (λ b. b ≡ simm q ys)
-same_margin p q xs ys (Ok b) e d h = h ∙ ap (λ x. simm x xs) e ∙ ap (simm q) d
-same_margin p q xs ys (Err f) e d h = h
+-- ---- where the margin is known
 
-pub margin_of-requires-clause-in_range : goal.margin_of-requires-clause-in_range
-margin_of-requires-clause-in_range c =
-    ap (range c.self.inside.params) (ap all_rows c.as_slice.ensures.value ∙ lent_rows c.in_ok-lent.lent.items (trades_of c.self.inside.trades.entries) c.in_ok-lent.ensures) ∙ c.self.invariant.in_range
+pub returns-in-Some-clause-value : goal.returns-in-Some-clause-value
+returns-in-Some-clause-value g c =
+    (if_some c.self.inside.last c.in-Some.margin (IsMargin c.self.inside.params (rows_of (trades_of c.self.inside.trades.entries)) c.self.inside.kept) c.in-Some.is c.self.invariant.fresh).value
+    ∙ ap (λ (l : Live). simm l.params (rows_of l.book)) c.self.view_is
 
-pub margin_of-requires-clause-once : goal.margin_of-requires-clause-once
-margin_of-requires-clause-once c =
-    ap (λ rows. repeats same_name (flat_map factor_names rows)) (ap all_rows c.as_slice.ensures.value ∙ lent_rows c.in_ok-lent.lent.items (trades_of c.self.inside.trades.entries) c.in_ok-lent.ensures)
-    ∙ live_once c.self.inside.params (trades_of c.self.inside.trades.entries) c.self.invariant
+pub returns-in-Some-clause-total_from : goal.returns-in-Some-clause-total_from
+returns-in-Some-clause-total_from g c =
+    (if_some c.self.inside.last c.in-Some.margin (IsMargin c.self.inside.params (rows_of (trades_of c.self.inside.trades.entries)) c.self.inside.kept) c.in-Some.is c.self.invariant.fresh).total.low
 
-pub margin_of-requires-clause-amounts : goal.margin_of-requires-clause-amounts
-margin_of-requires-clause-amounts c =
-    ap (list_all is_in_range) (ap all_rows c.as_slice.ensures.value ∙ lent_rows c.in_ok-lent.lent.items (trades_of c.self.inside.trades.entries) c.in_ok-lent.ensures) ∙ c.self.invariant.amounts
+pub returns-in-Some-clause-total_below : goal.returns-in-Some-clause-total_below
+returns-in-Some-clause-total_below g c =
+    (if_some c.self.inside.last c.in-Some.margin (IsMargin c.self.inside.params (rows_of (trades_of c.self.inside.trades.entries)) c.self.inside.kept) c.in-Some.is c.self.invariant.fresh).total.below
 
-pub margin_of-requires-clause-admitted : goal.margin_of-requires-clause-admitted
-margin_of-requires-clause-admitted c =
-    ap (list_all (admits c.self.inside.params)) (ap all_rows c.as_slice.ensures.value ∙ lent_rows c.in_ok-lent.lent.items (trades_of c.self.inside.trades.entries) c.in_ok-lent.ensures) ∙ c.self.invariant.admitted
+pub returns-in-Some-clause-renewed : goal.returns-in-Some-clause-renewed
+returns-in-Some-clause-renewed g c =
+    subst (λ (l : Live). Renews l.params (factors_of (rows_of l.book)) l.kept l.kept) c.self.view_is (record { right = c.self.invariant.summed.right; values = λ place v h. h; margins = λ at m h. h })
+
+pub returns-in-Some-clause-all : goal.returns-in-Some-clause-all
+returns-in-Some-clause-all g c = λ place.
+    subst (IsKeptAt place) c.self.view_is
+    (fresh_at (factors_of (rows_of (trades_of c.self.inside.trades.entries))) c.self.inside.kept
+    (if_some c.self.inside.last c.in-Some.margin (IsMargin c.self.inside.params (rows_of (trades_of c.self.inside.trades.entries)) c.self.inside.kept) c.in-Some.is c.self.invariant.fresh).all place)
+
+pub returns-in-Some-clause-fresh : goal.returns-in-Some-clause-fresh
+returns-in-Some-clause-fresh g c = sym (ap (λ (l : Live). l.is_fresh) c.self.view_is) ∙ ap is_some c.in-Some.is
+
+pub returns-in-Some-clause-steps : goal.returns-in-Some-clause-steps
+returns-in-Some-clause-steps g c = omega arith
+
+-- ---- where it is worked out
+
+pub margin_of-requires-clause-book : goal.margin_of-requires-clause-book
+margin_of-requires-clause-book g c =
+    let us = trades_of c.self.inside.trades.entries in
+    (rows_of us, margin_book c.self.inside.params us c.self.inside.sums _ c.self.invariant.summed.live c.self.invariant.summed.summed (c.rows_in-parameters.ensures ∙ ap (rows_in us) c.empty-nameless.ensures))
+
+pub margin_of-requires-clause-right : goal.margin_of-requires-clause-right
+margin_of-requires-clause-right g c =
+    right_of c.self.inside.params (rows_of (trades_of c.self.inside.trades.entries)) c.self.inside.sums c.self.inside.kept c.self.invariant.summed.summed c.self.invariant.summed.right
+
+pub invariant_of-self : goal.invariant_of-self
+invariant_of-self g c =
+    let p = c.self.inside.params in
+    let us = trades_of c.self.inside.trades.entries in
+    subst (IsHeld p us c.self.inside.sums c.margin_of.new.kept) (sym c.in_default.is)
+    (record {
+      summed = record {
+        live = c.self.invariant.summed.live;
+        summed = c.self.invariant.summed.summed;
+        right = (renews_to p (rows_of us) c.self.inside.sums c.self.inside.kept c.margin_of.new.kept c.self.invariant.summed.summed c.margin_of.ensures.renewed).right;
+      };
+      fresh = tt;
+    })
+
+pub returns-in_err-margin-clause-renewed : goal.returns-in_err-margin-clause-renewed
+returns-in_err-margin-clause-renewed g c =
+    subst (λ (l : Live). Renews l.params (factors_of (rows_of l.book)) l.kept c.margin_of.new.kept) c.self.view_is
+    (renews_to c.self.inside.params (rows_of (trades_of c.self.inside.trades.entries)) c.self.inside.sums c.self.inside.kept c.margin_of.new.kept c.self.invariant.summed.summed c.margin_of.ensures.renewed)
+
+pub returns-in_err-margin-clause-at_once : goal.returns-in_err-margin-clause-at_once
+returns-in_err-margin-clause-at_once g c = λ fresh. absurd (not_fresh c.self.inside.last c.args.self.now.is_fresh c.in_default.is (ap (λ (l : Live). l.is_fresh) c.self.view_is) fresh)
+
+pub returns-in_err-margin-clause-as_it_was : goal.returns-in_err-margin-clause-as_it_was
+returns-in_err-margin-clause-as_it_was g c = λ fresh. absurd (not_fresh c.self.inside.last c.args.self.now.is_fresh c.in_default.is (ap (λ (l : Live). l.is_fresh) c.self.view_is) fresh)
+
+pub returns-in_err-margin-clause-no_step : goal.returns-in_err-margin-clause-no_step
+returns-in_err-margin-clause-no_step g c = λ fresh. absurd (not_fresh c.self.inside.last c.args.self.now.is_fresh c.in_default.is (ap (λ (l : Live). l.is_fresh) c.self.view_is) fresh)
+
+pub invariant_of-self-2 : goal.invariant_of-self-2
+invariant_of-self-2 g c =
+    let p = c.self.inside.params in
+    let us = trades_of c.self.inside.trades.entries in
+    let book = margin_book p us c.self.inside.sums _ c.self.invariant.summed.live c.self.invariant.summed.summed (c.rows_in-parameters.ensures ∙ ap (rows_in us) c.empty-nameless.ensures) in
+    record {
+      summed = record {
+        live = c.self.invariant.summed.live;
+        summed = c.self.invariant.summed.summed;
+        right = (renews_to p (rows_of us) c.self.inside.sums c.self.inside.kept c.margin_of.new.kept c.self.invariant.summed.summed c.margin_of.ensures.renewed).right;
+      };
+      fresh = record {
+        value = c.in_ok-margin.ensures.value (rows_of us) book;
+        total = c.in_ok-margin.ensures.total;
+        all = subst (λ factors. IsFresh factors c.margin_of.new.kept) (ap (λ (s : Sums). s.factors) c.self.invariant.summed.summed) c.in_ok-margin.ensures.fresh;
+      };
+    }
 
 pub returns-clause-value : goal.returns-clause-value
-returns-clause-value c =
-    same_margin c.self.inside.params c.args.self.now.params _ _ c.margin_of.result (ap (λ (l : Live). l.params) c.self.view_is)
-    (ap all_rows c.as_slice.ensures.value ∙ lent_rows c.in_ok-lent.lent.items (trades_of c.self.inside.trades.entries) c.in_ok-lent.ensures ∙ ap (λ (l : Live). rows_of l.book) c.self.view_is)
-    c.margin_of.ensures.value
+returns-clause-value g c =
+    let us = trades_of c.self.inside.trades.entries in
+    c.in_ok-margin.ensures.value (rows_of us)
+    (margin_book c.self.inside.params us c.self.inside.sums _ c.self.invariant.summed.live c.self.invariant.summed.summed (c.rows_in-parameters.ensures ∙ ap (rows_in us) c.empty-nameless.ensures))
+    ∙ ap (λ (l : Live). simm l.params (rows_of l.book)) c.self.view_is
+
+pub returns-clause-total_from : goal.returns-clause-total_from
+returns-clause-total_from g c = c.in_ok-margin.ensures.total.low
+
+pub returns-clause-total_below : goal.returns-clause-total_below
+returns-clause-total_below g c = c.in_ok-margin.ensures.total.below
+
+pub returns-clause-renewed : goal.returns-clause-renewed
+returns-clause-renewed g c =
+    subst (λ (l : Live). Renews l.params (factors_of (rows_of l.book)) l.kept c.margin_of.new.kept) c.self.view_is
+    (renews_to c.self.inside.params (rows_of (trades_of c.self.inside.trades.entries)) c.self.inside.sums c.self.inside.kept c.margin_of.new.kept c.self.invariant.summed.summed c.margin_of.ensures.renewed)
+
+pub returns-clause-all : goal.returns-clause-all
+returns-clause-all g c = λ place.
+    fresh_at (factors_of (rows_of (trades_of c.self.inside.trades.entries))) c.margin_of.new.kept
+    (subst (λ factors. IsFresh factors c.margin_of.new.kept) (ap (λ (s : Sums). s.factors) c.self.invariant.summed.summed) c.in_ok-margin.ensures.fresh) place
+
+pub returns-clause-steps : goal.returns-clause-steps
+returns-clause-steps g c =
+    subst (λ (l : Live). c.margin_of.new.steps + steps_left c.margin_of.new.kept (factors_of (rows_of l.book)) ≤ c.args.steps.now + steps_left l.kept (factors_of (rows_of l.book))) c.self.view_is
+    (subst (λ factors. c.margin_of.new.steps + steps_left c.margin_of.new.kept factors ≤ c.args.steps.now + steps_left c.self.inside.kept factors) (ap (λ (s : Sums). s.factors) c.self.invariant.summed.summed) c.in_ok-margin.ensures.steps)
+
+pub returns-clause-as_it_was : goal.returns-clause-as_it_was
+returns-clause-as_it_was g c = λ fresh. absurd (not_fresh c.self.inside.last c.args.self.now.is_fresh c.in_default.is (ap (λ (l : Live). l.is_fresh) c.self.view_is) fresh)
+
+pub returns-clause-no_step : goal.returns-clause-no_step
+returns-clause-no_step g c = λ fresh. absurd (not_fresh c.self.inside.last c.args.self.now.is_fresh c.in_default.is (ap (λ (l : Live). l.is_fresh) c.self.view_is) fresh)

@@ -1,27 +1,82 @@
-use Rattle.std.proofs.Common.{◌∙◌, ℕ, List, Result, Ok, Err, OnErr, ap, sym, subst}
-use Rattle.simm_kinds.specs.declared.row.CrifRow.{CrifRow}
-use Rattle.bucket_cache.specs.Live.{Live, IsLive, put_trades, first_unadmitted}
+use Rattle.std.proofs.Common.{◌≡◌, ◌∙◌, is_some, Some, Result, Ok, Err, OnErr, refl, ap, sym, subst}
+use Rattle.simm_kinds.specs.Batch.{rows_of}
+use Rattle.simm_rules.specs.declared.values.RangeFault.{RangeFault}
+use Rattle.simm_rules.specs.Range.{range}
+use Rattle.factor_book.specs.Factors.{factors_of}
+use Rattle.kept_buckets.specs.Touched.{Forgets, SameElsewhere}
+use Rattle.bucket_cache.specs.declared.fault.SubmitFault.{SubmitFault}
+use Rattle.bucket_cache.specs.declared.fault.SubmitFault.TheVariants as submit
+use Rattle.bucket_cache.specs.Live.{Live, put_trades, rows_moved}
 use Rattle.bucket_cache.specs.Entries.{trades_of}
-use Rattle.bucket_cache.proofs.Lives.{live_after}
+use Rattle.bucket_cache.proofs.Keeping.{on_some, on_none, seen_still, held_still, summed_still, held_after}
 use Rattle.bucket_cache.proofs.live.LiveMargin.submit.Goals as goal
 
 always : {T E : Type 0} (r : Result T E) (P : Type 0) → P → OnErr r P
 always (Ok x) P h = tt
 always (Err e) P h = h
 
+same_fault : {T : Type 0} (one other : RangeFault) → ◌≡◌ {A = Result T SubmitFault} (Err (submit.Range one)) (Err (submit.Range other)) → one ≡ other
+same_fault one other h = cc
+
 pub invariant_of-self : goal.invariant_of-self
-invariant_of-self c = subst (IsLive c.self.inside.params) (ap trades_of (sym c.reserve.ensures.entries)) c.self.invariant
+invariant_of-self c = held_still c.self.inside.params c.self.inside.last c.reserve.ensures.entries refl refl c.self.invariant
 
 pub returns-in_err-reserve-clause-unchanged : goal.returns-in_err-reserve-clause-unchanged
 returns-in_err-reserve-clause-unchanged c =
-    let with_entries : List (List ℕ × List CrifRow) → Live = λ es. record { params = c.self.inside.params; book = trades_of es } in
-    always c.from_residual-in_err-reserve.result _ (ap with_entries c.reserve.ensures.entries ∙ c.self.view_is)
+    always c.from_residual-in_err-reserve.result _ (seen_still c.self.inside.params (is_some c.self.inside.last) c.reserve.ensures.entries refl ∙ c.self.view_is)
+
+pub take_in-requires-clause-book : goal.take_in-requires-clause-book
+take_in-requires-clause-book c = summed_still c.self.inside.params (ap trades_of c.reserve.ensures.entries) c.self.invariant.summed
+
+pub invariant_of-self-in_err-fault : goal.invariant_of-self-in_err-fault
+invariant_of-self-in_err-fault c =
+    held_still c.self.inside.params c.self.inside.last c.reserve.ensures.entries c.in_err-fault.ensures.unchanged_sums c.in_err-fault.ensures.unchanged_kept c.self.invariant
+
+pub returns-in_err-fault-clause-unchanged : goal.returns-in_err-fault-clause-unchanged
+returns-in_err-fault-clause-unchanged c =
+    always c.from_residual-in_err-fault.result _
+    (seen_still c.self.inside.params (is_some c.self.inside.last) c.reserve.ensures.entries c.in_err-fault.ensures.unchanged_kept ∙ c.self.view_is)
+
+pub invariant_of-self-in-Some-fault : goal.invariant_of-self-in-Some-fault
+invariant_of-self-in-Some-fault c =
+    held_still c.self.inside.params c.self.inside.last c.reserve.ensures.entries
+    (on_some c.in_ok-fault.fault _ _ c.in-Some-fault.is c.in_ok-fault.ensures.refused_sums) (on_some c.in_ok-fault.fault _ _ c.in-Some-fault.is c.in_ok-fault.ensures.refused_kept) c.self.invariant
+
+pub returns-in-Some-fault-clause-range : goal.returns-in-Some-fault-clause-range
+returns-in-Some-fault-clause-range c = λ fault is.
+    sym (ap (λ (l : Live). range l.params (rows_of (put_trades c.args.trades.now l.book))) (seen_still c.self.inside.params (is_some c.self.inside.last) c.reserve.ensures.entries refl ∙ c.self.view_is))
+    ∙ sym c.in_ok-fault.ensures.range ∙ c.in-Some-fault.is ∙ ap Some (same_fault c.in-Some-fault.fault fault is)
+
+pub returns-in-Some-fault-clause-unchanged : goal.returns-in-Some-fault-clause-unchanged
+returns-in-Some-fault-clause-unchanged c =
+    seen_still c.self.inside.params (is_some c.self.inside.last) c.reserve.ensures.entries (on_some c.in_ok-fault.fault _ _ c.in-Some-fault.is c.in_ok-fault.ensures.refused_kept) ∙ c.self.view_is
 
 pub invariant_of-self-2 : goal.invariant_of-self-2
 invariant_of-self-2 c =
-    let now : IsLive c.args.self.now.params c.args.self.now.book = subst (λ (l : Live). IsLive l.params l.book) c.self.view_is c.self.invariant in
-    let put : IsLive c.args.self.now.params (put_trades c.args.trades.now c.args.self.now.book) =
-    live_after c.args.self.now.params c.args.trades.now c.args.self.now.book c.requires (ap (λ (l : Live). first_unadmitted l.params c.args.trades.now) (sym c.self.view_is) ∙ sym c.in_default.ensures) now (sym c.in_ok-fault.ensures ∙ c.in_default-2.is) in
-    subst (IsLive c.self.inside.params)
-    (sym (c.put_all.ensures ∙ ap (λ xs. put_trades xs (trades_of c.reserve.new.self.entries)) c.in_ok-copies.ensures ∙ ap (λ es. put_trades c.args.trades.now (trades_of es)) c.reserve.ensures.entries))
-    (subst (λ (l : Live). IsLive l.params (put_trades c.args.trades.now l.book)) (sym c.self.view_is) put)
+    let us = trades_of c.reserve.new.self.entries in
+    held_after c.self.inside.params c.args.trades.now us _ c.self.inside.kept _ (rows_of us) (rows_moved c.args.trades.now us) _ c.requires (sym c.first_unadmitted.ensures ∙ c.in_default.is)
+    (summed_still c.self.inside.params (ap trades_of c.reserve.ensures.entries) c.self.invariant.summed).live (sym c.in_ok-fault.ensures.range ∙ c.in_default-fault.is)
+    (c.put_all.ensures ∙ ap (λ xs. put_trades xs us) c.in_ok-copies.ensures) (on_none c.in_ok-fault.fault _ c.in_default-fault.is c.in_ok-fault.ensures.moved)
+
+pub returns-clause-in_range : goal.returns-clause-in_range
+returns-clause-in_range c =
+    sym (ap (λ (l : Live). range l.params (rows_of (put_trades c.args.trades.now l.book))) (seen_still c.self.inside.params (is_some c.self.inside.last) c.reserve.ensures.entries refl ∙ c.self.view_is))
+    ∙ sym c.in_ok-fault.ensures.range ∙ c.in_default-fault.is
+
+pub returns-clause-book : goal.returns-clause-book
+returns-clause-book c =
+    c.put_all.ensures ∙ ap (λ xs. put_trades xs (trades_of c.reserve.new.self.entries)) c.in_ok-copies.ensures
+    ∙ ap (λ (l : Live). put_trades c.args.trades.now l.book) (seen_still c.self.inside.params (is_some c.self.inside.last) c.reserve.ensures.entries refl ∙ c.self.view_is)
+
+pub returns-clause-kept : goal.returns-clause-kept
+returns-clause-kept c =
+    subst (λ (l : Live). Forgets (rows_moved c.args.trades.now l.book) l.kept c.take_in.new.kept) (seen_still c.self.inside.params (is_some c.self.inside.last) c.reserve.ensures.entries refl ∙ c.self.view_is)
+    (on_none c.in_ok-fault.fault _ c.in_default-fault.is c.in_ok-fault.ensures.moved).forgotten
+
+pub returns-clause-elsewhere : goal.returns-clause-elsewhere
+returns-clause-elsewhere c =
+    let us = trades_of c.reserve.new.self.entries in
+    subst (λ (l : Live). SameElsewhere (rows_moved c.args.trades.now l.book) (factors_of (rows_of l.book)) (factors_of (rows_of (trades_of c.put_all.new.current.entries))))
+    (seen_still c.self.inside.params (is_some c.self.inside.last) c.reserve.ensures.entries refl ∙ c.self.view_is)
+    (subst (λ book. SameElsewhere (rows_moved c.args.trades.now us) (factors_of (rows_of us)) (factors_of (rows_of book))) (sym (c.put_all.ensures ∙ ap (λ xs. put_trades xs us) c.in_ok-copies.ensures))
+    (on_none c.in_ok-fault.fault _ c.in_default-fault.is c.in_ok-fault.ensures.moved).elsewhere)

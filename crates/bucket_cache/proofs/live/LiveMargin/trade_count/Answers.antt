@@ -6,4 +6,4 @@ use Rattle.bucket_cache.proofs.live.LiveMargin.trade_count.Goals as goal
 
 pub overflow_cast-result : goal.overflow_cast-result
 overflow_cast-result c =
-    omega (arith, c.len.ensures.len, length-map c.self.inside.trades.entries trade_of, few_trades c.self.inside.params (trades_of c.self.inside.trades.entries) c.self.invariant)
+    omega (arith, c.len.ensures.len, length-map c.self.inside.trades.entries trade_of, few_trades c.self.inside.params (trades_of c.self.inside.trades.entries) c.self.invariant.summed.live)

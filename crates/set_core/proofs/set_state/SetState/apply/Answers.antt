@@ -1,27 +1,33 @@
 use Rattle.std.proofs.Common.{rules, ◌≡◌, sym, ap, ◌∙◌, subst, ◌+◌, ◌++◌, ◌∷◌, [], false}
 use Rattle.held_cell.specs.Entries.{entry}
 use Rattle.set_core.specs.Kept.{IsKept}
+use Rattle.set_core.specs.Cached.{AreCached}
+use Rattle.set_core.specs.Live.{traded}
 use Rattle.set_core.specs.Room.{is_full}
 use Rattle.set_core.specs.Set.{Set, IsAnswered}
 use Rattle.set_core.proofs.Applies.{Applied, applied, few_calls}
+use Rattle.set_core.proofs.Caching.{cached_next}
 use Rattle.set_core.proofs.set_state.SetState.apply.Goals as goal
 
 pub answer-requires : goal.answer-requires
-answer-requires c = few_calls c.self.inside.live c.self.inside.ledger c.self.inside.rows c.self.inside.journal.items c.self.invariant
+answer-requires c = few_calls (traded c.self.inside.live) c.self.inside.ledger c.self.inside.rows c.self.inside.journal.items c.self.invariant.0
 
 had_room : (c : goal.After-push_reserved) → is_full c.self.inside.journal.items c.args.event ≡ false
 had_room c = search rules
 
-it : (c : goal.After-push_reserved) → Applied c.self.inside.live c.answer.new.live c.self.inside.ledger c.answer.new.ledger c.self.inside.rows c.args.caller c.self.inside.journal.items c.args.event c.in-Ok.reply
-it c = applied c.self.inside.live c.answer.new.live c.self.inside.ledger c.answer.new.ledger c.self.inside.rows c.args.caller c.self.inside.journal.items c.args.event c.in-Ok.reply c.self.invariant (had_room c) c.facts.ensures c.in-Ok.ensures.does
+it : (c : goal.After-push_reserved) → Applied (traded c.self.inside.live) (traded c.answer.new.live) c.self.inside.ledger c.answer.new.ledger c.self.inside.rows c.args.caller c.self.inside.journal.items c.args.event c.in-Ok.reply
+it c = applied (traded c.self.inside.live) (traded c.answer.new.live) c.self.inside.ledger c.answer.new.ledger c.self.inside.rows c.args.caller c.self.inside.journal.items c.args.event c.in-Ok.reply c.self.invariant.0 (had_room c) c.facts.ensures c.in-Ok.ensures.does
 
 pushed : (c : goal.After-push_reserved) → c.push_reserved.new.self.items ≡ c.self.inside.journal.items ++ entry c.args.caller c.args.event c.in-Ok.reply ∷ []
 pushed c = c.push_reserved.ensures.items ∙ ap (λ log. log ++ entry c.args.caller c.args.event c.in-Ok.reply ∷ []) c.reserve.ensures.items
 
 pub invariant_of-self-2 : goal.invariant_of-self-2
-invariant_of-self-2 c =
-    subst (λ log. IsKept c.answer.new.live c.answer.new.ledger (c.self.inside.rows + c.row_count-rows.result) log) (sym (pushed c))
-    (subst (λ n. IsKept c.answer.new.live c.answer.new.ledger (c.self.inside.rows + n) (c.self.inside.journal.items ++ entry c.args.caller c.args.event c.in-Ok.reply ∷ [])) (sym c.row_count-rows.ensures) (it c).kept)
+invariant_of-self-2 c = (
+  subst (λ log. IsKept (traded c.answer.new.live) c.answer.new.ledger (c.self.inside.rows + c.row_count-rows.result) log) (sym (pushed c))
+      (subst (λ n. IsKept (traded c.answer.new.live) c.answer.new.ledger (c.self.inside.rows + n) (c.self.inside.journal.items ++ entry c.args.caller c.args.event c.in-Ok.reply ∷ [])) (sym c.row_count-rows.ensures) (it c).kept),
+  subst (AreCached c.answer.new.live) (sym (pushed c))
+      (cached_next c.self.inside.live c.answer.new.live c.args.caller c.self.inside.journal.items c.args.event c.in-Ok.reply c.self.invariant.0.book c.self.invariant.1 c.in-Ok.ensures.caches),
+)
 
 answered : (c : goal.After-push_reserved) (old : Set) → old ≡ record { params = c.self.inside.live.params; terms = c.self.inside.ledger.terms; journal = c.self.inside.journal.items } → IsAnswered old (record { params = c.answer.new.live.params; terms = c.answer.new.ledger.terms; journal = c.push_reserved.new.self.items }) c.args.caller c.args.event c.in-Ok.reply
 answered c old e =

@@ -2,13 +2,15 @@ use Rattle.std.proofs.Common.{[], refl, sym, subst}
 use Rattle.simm_rules.specs.Params.{Params}
 use Rattle.csa_terms.specs.Terms.{Agreement}
 use Rattle.collateral_ledger.specs.Holdings.{Holdings}
-use Rattle.bucket_cache.specs.Live.{Live}
 use Rattle.set_core.specs.Kept.{IsKept}
+use Rattle.set_core.specs.Cached.{AreCached}
 use Rattle.set_core.specs.Start.{set_none}
+use Rattle.set_core.specs.Live.{Traded}
+use Rattle.set_core.proofs.Caching.{cached_none}
 use Rattle.set_core.proofs.Words.{Log}
 use Rattle.set_core.proofs.set_state.SetState.new.Goals as goal
 
-abbrev live_none : Params → Live
+abbrev live_none : Params → Traded
 live_none p = record { params = p; book = [] }
 
 abbrev held_none : Agreement → Holdings
@@ -24,7 +26,9 @@ kept_none p t = record {
 }
 
 pub invariant_of-result : goal.invariant_of-result
-invariant_of-result c =
-    subst (λ (live : Live). IsKept live c.new-2.result 0 c.new-3.result.items) (sym c.in_ok-live.ensures)
-    (subst (λ (held : Holdings). IsKept (live_none c.args.params) held 0 c.new-3.result.items) (sym c.new-2.ensures)
-    (subst (λ (log : Log). IsKept (live_none c.args.params) (held_none c.args.terms) 0 log) (sym c.new-3.ensures.items) (kept_none c.args.params c.args.terms)))
+invariant_of-result c = (
+  subst (λ (live : Traded). IsKept live c.new-2.result 0 c.new-3.result.items) (λ i. record { params = sym c.in_ok-live.ensures.params i; book = sym c.in_ok-live.ensures.book i })
+      (subst (λ (held : Holdings). IsKept (live_none c.args.params) held 0 c.new-3.result.items) (sym c.new-2.ensures)
+      (subst (λ (log : Log). IsKept (live_none c.args.params) (held_none c.args.terms) 0 log) (sym c.new-3.ensures.items) (kept_none c.args.params c.args.terms))),
+  subst (λ (log : Log). AreCached c.in_ok-live.live log) (sym c.new-3.ensures.items) (cached_none c.in_ok-live.live c.in_ok-live.ensures.book c.in_ok-live.ensures.fresh),
+)

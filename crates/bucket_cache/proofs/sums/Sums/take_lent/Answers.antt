@@ -1,0 +1,17 @@
+use Rattle.bucket_cache.proofs.Gaining.{still_held, loses_more, all_lost}
+use Rattle.bucket_cache.proofs.sums.Sums.take_lent.Goals as goal
+
+pub loop-trade-init : goal.loop-trade-init
+loop-trade-init c = λ rest e. e
+
+pub take_rows-requires : goal.take_rows-requires
+take_rows-requires c =
+    still_held c.args.params.now c.args.self.now c.loop-trade.self c.args.lent.now c.loop-trade.trade-index c.trade-item.result c.loop-trade-test.true c.trade-item.is c.requires c.loop-trade.invariant
+
+pub loop-trade-preserved : goal.loop-trade-preserved
+loop-trade-preserved c =
+    loses_more c.args.params.now c.args.self.now c.loop-trade.self c.args.lent.now c.loop-trade.trade-index c.take_rows.new.self c.trade-item.result c.loop-trade-test.true c.trade-item.is c.loop-trade.invariant
+    c.take_rows.ensures
+
+pub returns : goal.returns
+returns c = all_lost c.args.params.now c.args.self.now c.loop-trade.self c.args.lent.now c.loop-trade.trade-index c.loop-trade-test.false c.loop-trade.invariant

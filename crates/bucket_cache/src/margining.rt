@@ -1,0 +1,53 @@
+//! The margin of a book from its sums and what is kept of its buckets.
+ghost use Rattle.std.specs.Prelude.{◌≡◌, ◌+◌, ◌≤◌, List, IfOk, OnOk};
+ghost use Rattle.simm_kinds.specs.declared.row.CrifRow.{CrifRow as Row};
+ghost use Rattle.simm_rules.specs.Simm.{simm};
+ghost use Rattle.kept_buckets.specs.Dirty.{steps_left};
+ghost use Rattle.class_combine.specs.Whole.{IsTotal};
+ghost use Rattle.book_margin.specs.Right.{AreRight, IsFresh, Renews};
+ghost use Rattle.bucket_cache.specs.Held.{IsMarginBook};
+
+use crate::sums::Sums;
+use book_margin::margin_over_kept;
+use book_range::range_bounds;
+use kept_buckets::KeptBuckets;
+use pair_sum::Steps;
+use simm_kinds::CrifRow;
+use simm_params::Params;
+use simm_rules::Breakdown;
+use std::alloc::{AllocError, Global};
+use std::sync::ledger::Ledger;
+
+/// The margin of a book in range, by the sums of its rows and its parameters, the rows of the trade without a name. What of its
+/// buckets and classes is not kept is worked out, and kept. Its total is from 0 to below 10^21 cents.
+///
+/// # Errors
+///
+/// For want of memory alone. What is kept then is right.
+pub fn margin_of<L: Ledger>(
+    alloc: Global,
+    params: &Params,
+    sums: &Sums,
+    parameters: &[CrifRow],
+    kept: &mut KeptBuckets,
+    steps: &mut Steps<L>,
+) -> Result<Breakdown, AllocError>
+    requires book { (held : List Row) × IsMarginBook params.now sums.now parameters.now held }
+    requires right { AreRight params.now sums.now.factors kept.old }
+    ensures value { (held : List Row) → IsMarginBook params.now sums.now parameters.now held → IfOk result (λ b. b ≡ simm params.now held) }
+    ensures total { IfOk result (λ b. IsTotal b.total.0) }
+    ensures renewed { Renews params.now sums.now.factors kept.old kept.new }
+    ensures fresh { OnOk result (IsFresh sums.now.factors kept.new) }
+    ensures steps { OnOk result (steps.new + steps_left kept.new sums.now.factors ≤ steps.old + steps_left kept.old sums.now.factors) }
+{
+    range_bounds(params);
+    margin_over_kept(
+        alloc,
+        params,
+        &sums.factors,
+        &sums.add_ons,
+        parameters,
+        kept,
+        steps,
+    )
+}

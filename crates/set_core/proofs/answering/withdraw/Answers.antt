@@ -1,0 +1,19 @@
+use Rattle.std.proofs.Common.{refl, sym, ap, Err}
+use Rattle.set_core.specs.Answer.{if_known}
+use Rattle.set_core.specs.Live.{traded}
+use Rattle.set_core.proofs.Changes.{other_trades}
+use Rattle.set_core.proofs.answering.withdraw.Goals as goal
+
+pub returns-in-Ok-clause-does : goal.returns-in-Ok-clause-does
+returns-in-Ok-clause-does c = λ h. record {
+  value = ap if_known (sym c.in-Ok.ensures.known);
+  live = other_trades c.withdraw.new.self c.args.live.now _ c.in-Ok.ensures.params c.in-Ok.ensures.book;
+  ledger = refl;
+}
+
+pub returns-in-Err-UnknownTrade-clause-does : goal.returns-in-Err-UnknownTrade-clause-does
+returns-in-Err-UnknownTrade-clause-does c = λ h. record {
+  value = ap if_known (sym (c.in-Err-UnknownTrade.ensures.unknown c.in-Err-UnknownTrade.place (ap Err c.in-Err-UnknownTrade.field-0-is)));
+  live = ap traded c.in-Err-UnknownTrade.ensures.unchanged;
+  ledger = refl;
+}

@@ -1,0 +1,4 @@
+use Rattle.set_core.proofs.asking.ask_margin.Given as goal
+
+abbrev pub ghosts-ask_counted : goal.ghosts-ask_counted
+ghosts-ask_counted a = record { name = a.blank.name; parts = a.blank.parts }
