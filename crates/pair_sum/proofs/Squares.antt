@@ -6,7 +6,7 @@ use Rattle.std.specs.Int.{w128}
 use Rattle.std.proofs.lemmas.Nat.{mul-le}
 use Rattle.mh_units.proofs.Integers.{mul_assoc_ℤ, unsigned_abs-add, product_size}
 use Rattle.pair_sum.specs.PairTotal.{sum_below, at_place, term, pair_total}
-use Rattle.pair_sum.proofs.Sums.{sum_below-ext, sum_below-add, sizes_below, sizes_below-mono, amount_le}
+use Rattle.pair_sum.proofs.Sums.{sum_below-ext, sum_below-add, sizes_below, sizes_below-mono}
 
 -- the sum over all ordered pairs below n
 abbrev pub square : (ℕ → ℕ → ℤ) → ℕ → ℤ
@@ -23,7 +23,8 @@ square-suc f n symmetric =
     let column : sum_below (λ i. f i n) n ≡ row_part f n = sum_below-ext (λ i. f i n) (λ j. f n j) n symmetric in
     omega (arith, ints, rows, column)
 
-swap_last : (a b c : ℤ) → a *ℤ b *ℤ c ≡ a *ℤ c *ℤ b
+-- the last two factors change places
+pub swap_last : (a b c : ℤ) → a *ℤ b *ℤ c ≡ a *ℤ c *ℤ b
 swap_last a b c = mul_assoc_ℤ a b c ∙ ap (λ z. a *ℤ z) (*ℤ_comm b c) ∙ sym (mul_assoc_ℤ a c b)
 
 -- the term is the same both ways round where the correlation is
@@ -83,23 +84,6 @@ correlates c m n same symmetric at_most_one = record {
   symmetric = λ i j p q. symmetric i j (omega arith) (omega arith);
   at_most_one = λ i j p q. at_most_one i j (omega arith) (omega arith);
 }
-
--- a row with one term more
-pub record RowStep (c : ℕ → ℕ → ℤ) (ws : List ℤ) (row place : ℕ) (sum more : ℤ) : Type 0 where
-  pub size : unsigned_abs (sum +ℤ more) ≤ 8 * 10 ^ 37
-  pub value : sum +ℤ more ≡ sum_below (λ j. term c ws row j) (place + 1)
-
-pub row_step : (c : ℕ → ℕ → ℤ) (ws : List ℤ) (n row place : ℕ) (sum more : ℤ) → Correlates n c → sizes_below (at_place ws) n < 84 * 10 ^ 14 → row < n → place < row → sum ≡ sum_below (λ j. term c ws row j) place → more ≡ term c ws row place → RowStep c ws row place sum more
-row_step c ws n row place sum more laws range in_row in_place before last =
-    let size = row_size c ws row (suc place) (λ j below. laws.at_most_one row j in_row (omega arith)) in
-    let own = amount_le (at_place ws) row n in_row in
-    let part = sizes_below-mono (at_place ws) (suc place) n (omega arith) in
-    let most : unsigned_abs (at_place ws row) * sizes_below (at_place ws) (suc place) ≤ sizes_below (at_place ws) n * sizes_below (at_place ws) n = mul-le (unsigned_abs (at_place ws row)) (sizes_below (at_place ws) (suc place)) (sizes_below (at_place ws) n) (sizes_below (at_place ws) n) own part in
-    let value : sum +ℤ more ≡ sum_below (λ j. term c ws row j) (suc place) = ap (λ z. z +ℤ more) before ∙ ap (λ z. sum_below (λ j. term c ws row j) place +ℤ z) last in
-    record {
-      size = subst (λ z. unsigned_abs z ≤ 8 * 10 ^ 37) (sym value) (omega (arith, square_in_range (sizes_below (at_place ws) n) range));
-      value = rw add-one value;
-    }
 
 -- a square with one row more
 pub record SquareStep (c : ℕ → ℕ → ℤ) (ws : List ℤ) (row : ℕ) (sum below own : ℤ) : Type 0 where

@@ -7,6 +7,7 @@ mod correlation;
 mod item;
 mod pairs;
 mod roots;
+mod row;
 mod steps;
 
 pub use correlation::Correlation;

@@ -1,8 +1,9 @@
 ghost use Rattle.std.specs.Prelude.{◌≡◌, ◌+◌, ◌-◌, ◌*◌, ◌^◌, ◌<◌, ◌≤◌, length, map, sum_by, ◌*ℤ◌, unsigned_abs};
-ghost use Rattle.pair_sum.specs.PairTotal.{pair_total, sum_below, term};
+ghost use Rattle.pair_sum.specs.PairTotal.{pair_total, term};
 
 use crate::correlation::Correlation;
 use crate::item::Weighted;
+use crate::row::row_below;
 use crate::steps::Steps;
 use mh_units::Corr6;
 use std::sync::ledger::Ledger;
@@ -39,26 +40,6 @@ pub fn pair_sum<T: Weighted, C: Correlation, L: Ledger>(
     for row in 0..items.len() {
         let below = row_below(items, row, corr, steps);
         sum += below + below + pair_at(items, row, row, corr, steps);
-    }
-    sum
-}
-
-// The terms of one row with the places before it, which are as many steps.
-pub(crate) fn row_below<T: Weighted, C: Correlation, L: Ledger>(
-    items: &[T],
-    row: usize,
-    corr: &C,
-    steps: &mut Steps<L>,
-) -> i128
-    requires row_in { row < length items.now }
-    requires size { C.size corr.now ≡ length items.now }
-    requires in_range { sum_by (λ item. unsigned_abs (T.weight item)) items.now < 84 * 10 ^ 14 }
-    ensures value { result ≡ sum_below (λ j. term (C.corr corr.now) (map T.weight items.now) row j) row }
-    ensures steps { steps.new ≡ steps.old + row }
-{
-    let mut sum = 0;
-    for place in 0..row {
-        sum += pair_at(items, row, place, corr, steps);
     }
     sum
 }

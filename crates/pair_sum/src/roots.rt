@@ -4,7 +4,7 @@ ghost use Rattle.simm_rules.specs.Bucket.{root_of};
 ghost use Rattle.pair_sum.specs.PairTotal.{at_place, margins, outer_total};
 
 use crate::correlation::Correlation;
-use crate::pairs::row_below;
+use crate::row::row_below;
 use crate::steps::Steps;
 use mh_units::{div_up, least_root};
 use simm_rules::BucketMargin;
