@@ -7,9 +7,11 @@
 mod correlated;
 mod group;
 mod margin;
+mod pairs;
 mod rho;
 mod scaling;
 mod sums;
+mod way;
 mod weighed;
 
 pub use group::{Grouped, group_cr};

@@ -2,13 +2,13 @@ ghost use Rattle.std.specs.Prelude.{◌≡◌, ◌+◌, ◌*◌, ◌^◌, ◌<�
 ghost use Rattle.simm_rules.specs.Concentration.{one};
 ghost use Rattle.weighted_bucket.specs.Bucket.{bucket_value};
 
-use crate::correlated::Correlated;
+use crate::pairs::scaled_pairs;
 use crate::rho::Rho;
 use crate::scaling::Scaling;
 use crate::sums::{gross, sum};
 use crate::weighed::Weighed;
 use mh_units::{Corr6, clamp_to};
-use pair_sum::{Steps, bucket_root, pair_sum};
+use pair_sum::{Steps, bucket_root};
 use simm_rules::BucketMargin;
 use std::sync::ledger::Ledger;
 
@@ -35,12 +35,7 @@ pub fn bucket_margin<R: Rho, L: Ledger>(
     ensures steps { let n = length factors.now in 2 * steps.new ≡ 2 * steps.old + n * (n + 1) }
     ensures at_most { steps.new ≤ steps.old + length factors.now * length factors.now }
 {
-    let correlated = Correlated {
-        rho,
-        factors,
-        scaling,
-    };
-    let q = pair_sum(factors, &correlated, steps);
+    let q = scaled_pairs(factors, rho, scaling, steps);
     let k = bucket_root(q);
     let sum = sum(factors);
     BucketMargin {
