@@ -2,4 +2,5 @@ pub mod Names
 pub mod Repeated
 pub mod Variants
 pub mod Orders
+pub mod Letters
 pub mod Rows
