@@ -64,6 +64,16 @@ cr_is x t some =
     let s = up (pos (unsigned_abs x) *ℤ pos (10 ^ 12)) (pos t) in
     factor_is x s (root s) t (up_is (pos (unsigned_abs x) *ℤ pos (10 ^ 12)) (pos t) (omega (arith, ints))) (root_is s)
 
+-- up to the threshold it is 1
+pub factor_of_few : (x T : ℤ) → pos 1 ≤ℤ T → unsigned_abs x ≤ unsigned_abs T → one ≡ cr x T
+factor_of_few x (pos t) some few =
+    let s = up (pos (unsigned_abs x) *ℤ pos (10 ^ 12)) (pos t) in
+    let u = up_is (pos (unsigned_abs x) *ℤ pos (10 ^ 12)) (pos t) (omega (arith, ints)) in
+    let square : s ≤ℤ pos (10 ^ 12) = u.least (pos (10 ^ 12)) (omega (arith, ints)) in
+    let small : root s ≤ℤ one = (root_is s).least one (omega (arith, ints)) (omega (arith, ints)) in
+    omega (arith, ints, clamps)
+factor_of_few x (negsuc t) some few = absurd some.le
+
 -- ---- the same of a result that equals the rule's
 
 pub quotient_high : (l g q : ℤ) → pos 0 ≤ℤ l → pos 0 <ℤ g → l ≤ℤ g → q ≡ down (l *ℤ one) g → q ≤ℤ one

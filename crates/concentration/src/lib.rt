@@ -12,7 +12,7 @@ ghost use Rattle.simm_rules.specs.Bucket.{combined};
 use mh_units::{Corr6, div_up, least_root, mul_corr};
 
 /// The concentration factor of a net sensitivity over its threshold, both in cents: the least `c` from 1 on with
-/// `c * c * threshold` at least the size of `net`, to the millionth.
+/// `c * c * threshold` at least the size of `net`, to the millionth. Up to the threshold it takes no root.
 pub fn cr(net: i128, threshold: i64) -> Corr6
     requires positive { pos 1 ≤ℤ threshold }
     requires threshold_in_range { threshold ≤ℤ pos (10 ^ 15) }
@@ -22,7 +22,11 @@ pub fn cr(net: i128, threshold: i64) -> Corr6
     ensures from_one { one ≤ℤ result.0 }
     ensures below { result.0 <ℤ pos 347000000 }
 {
-    let root = root_of_ratio(net.unsigned_abs(), i128::from(threshold));
+    let size = net.unsigned_abs();
+    if size <= threshold as u128 {
+        return Corr6::ONE;
+    }
+    let root = root_of_ratio(size, i128::from(threshold));
     Corr6(Corr6::ONE.0.max(root as i64))
 }
 
