@@ -1,4 +1,4 @@
-ghost use Rattle.std.specs.Prelude.{◌≡◌, ◌≤◌, ◌^◌, pos, neg_ℤ, ◌≤ℤ◌, ◌<ℤ◌, ◌*ℤ◌, unsigned_abs};
+ghost use Rattle.std.specs.Prelude.{◌≡◌, ◌+◌, ◌*◌, ◌<◌, ◌≤◌, ◌^◌, pos, neg_ℤ, ◌≤ℤ◌, ◌<ℤ◌, ◌*ℤ◌, unsigned_abs};
 ghost use Rattle.mh_units.specs.Rounding.{up, down, away, trunc, root, clamp, IsUp, IsDown, IsAway, IsTrunc, IsRoot};
 
 use crate::quantities::Corr6;
@@ -71,6 +71,17 @@ pub fn least_root(n: u128) -> u128
     ensures least { IsRoot (pos n) (pos result) }
     ensures size { result ≤ 10 ^ 19 }
 {
-    let below = n.isqrt();
+    let below = root_down(n);
     if below * below == n { below } else { below + 1 }
+}
+
+// The square root rounded downwards. The root of a number that fits 64 bits takes half the steps.
+fn root_down(n: u128) -> u128
+    ensures square_le { result * result ≤ n }
+    ensures next_square_gt { n < (result + 1) * (result + 1) }
+{
+    match u64::try_from(n) {
+        Ok(small) => u128::from(small.isqrt()),
+        Err(_) => n.isqrt(),
+    }
 }
