@@ -72,7 +72,7 @@ pub fn check(text: &[u8]) -> Result<(), usize>
 {
     let mut phase = Phase::Start;
     for (place, byte) in text.iter().enumerate() {
-        match phase.next(Kind::of(*byte)) {
+        match after(phase, *byte) {
             Some(later) => phase = later,
             None => return Err(place),
         }
@@ -81,5 +81,16 @@ pub fn check(text: &[u8]) -> Result<(), usize>
         Ok(())
     } else {
         Err(text.len())
+    }
+}
+
+// The phase after one more byte, if a numeral can go on with it. Where it may end, a digit leaves the phase as it is.
+fn after(phase: Phase, byte: u8) -> Option<Phase>
+    ensures { result ≡ next phase (kind_of byte) }
+{
+    if phase.is_end() && byte.is_ascii_digit() {
+        Some(phase)
+    } else {
+        phase.next(Kind::of(byte))
     }
 }
