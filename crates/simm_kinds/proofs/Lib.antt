@@ -3,4 +3,5 @@ pub mod Repeated
 pub mod Variants
 pub mod Orders
 pub mod Letters
+pub mod PlainText
 pub mod Rows

@@ -1,4 +1,4 @@
-ghost use Rattle.std.specs.Prelude.{◌≡◌, ◌&&◌, ◌==◌, [], IfOk};
+ghost use Rattle.std.specs.Prelude.{◌≡◌, ◌&&◌, ◌==◌, nat_le, [], IfOk};
 ghost use Rattle.std.proofs.Common.{rules};
 ghost use Rattle.std.specs.Cmp.{partial_order_from_own_ties};
 ghost use Rattle.std.specs.Cmp.Rules.{comparing, hashing};
@@ -7,7 +7,7 @@ ghost use Rattle.std.specs.Cmp.Lexicographic.{slice_cmp, pointwise};
 ghost use Rattle.std.specs.Ordering.{nat_cmp, as_partial_cmp};
 ghost use Rattle.std.specs.List.{list_all};
 ghost use Rattle.std.specs.Str.{is_utf8};
-ghost use Rattle.simm_kinds.specs.NameText.{IsName, ReadsName, name_fault, is_full_name, is_printable, is_trimmed, has_name_bytes};
+ghost use Rattle.simm_kinds.specs.NameText.{IsName, ReadsName, name_fault, is_full_name, is_printable, is_trimmed};
 
 use crate::NameFault;
 use std::alloc::{AllocError, Global};
@@ -61,10 +61,18 @@ fn is_utf8(bytes: &[u8]) -> bool
     std::str::from_utf8(bytes).is_ok()
 }
 
-fn has_name_bytes(bytes: &[u8]) -> bool
-    ensures { result ≡ has_name_bytes bytes.now }
+/// Whether each byte is a printable one of ASCII, as in most names.
+fn are_plain(bytes: &[u8]) -> bool
+    ensures { result ≡ list_all (λ byte. nat_le 32 byte && nat_le byte 126) bytes.now }
 {
-    are_printable(bytes) && is_trimmed(bytes)
+    bytes.iter().all(|byte| (b' '..=b'~').contains(byte))
+}
+
+/// Whether the bytes are UTF-8 text that prints. Plain ones are, and need not be decoded.
+fn is_printable_text(bytes: &[u8]) -> bool
+    ensures { result ≡ (is_utf8 bytes.now && list_all is_printable bytes.now) }
+{
+    are_plain(bytes) || is_utf8(bytes) && are_printable(bytes)
 }
 
 impl Name {
@@ -74,7 +82,7 @@ impl Name {
     {
         if text.len() > LONGEST {
             Some(NameFault::Long)
-        } else if is_utf8(text) && has_name_bytes(text) {
+        } else if is_printable_text(text) && is_trimmed(text) {
             None
         } else {
             Some(NameFault::Byte)
