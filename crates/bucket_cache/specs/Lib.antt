@@ -3,3 +3,4 @@ pub mod Entries
 pub mod Lent
 pub mod Sums
 pub mod Held
+pub mod Cached

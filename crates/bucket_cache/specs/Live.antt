@@ -1,5 +1,5 @@
 -- What a live margin holds, and what a batch and a withdrawal make of it.
-use Rattle.std.specs.Prelude.{◌≡◌, ◌≢◌, IsSome, ℕ, ◌+◌, zero, suc, List, [], ◌∷◌, ◌++◌, map, length, position, slice_get, find, Option, None, Some, option_map, Bool, true, false, not, ◌==◌, if◌then◌else◌}
+use Rattle.std.specs.Prelude.{◌≡◌, ℕ, ◌+◌, zero, suc, List, [], ◌∷◌, ◌++◌, map, length, position, slice_get, find, Option, None, Some, option_map, Bool, true, false, not, ◌==◌, if◌then◌else◌}
 use Rattle.std.specs.List.{filter, flat_map, list_all, list_any}
 use Rattle.simm_kinds.specs.declared.row.CrifRow.{CrifRow}
 use Rattle.simm_kinds.specs.declared.row.TradeRows.{TradeRows}
@@ -9,10 +9,7 @@ use Rattle.simm_kinds.specs.Repeats.{repeats}
 use Rattle.simm_rules.specs.Params.{Params}
 use Rattle.simm_rules.specs.Admits.{admits}
 use Rattle.simm_rules.specs.Range.{range}
-use Rattle.factor_book.specs.declared.place.Place.{Place}
-use Rattle.factor_book.specs.Factors.{factors_of}
-use Rattle.factor_book.specs.Places.{factors_at}
-use Rattle.kept_buckets.specs.Kept.{Kept, value_at}
+use Rattle.kept_buckets.specs.Kept.{Kept}
 use Rattle.bucket_cache.specs.declared.place.RowPlace.{RowPlace}
 
 -- the parameters, the current trades with their rows, what is kept of their buckets, and whether nothing has changed since a margin
@@ -22,10 +19,6 @@ pub record Live : Type 0 where
   pub book : List TradeRows
   pub kept : Kept
   pub is_fresh : Bool
-
--- where the book has a factor at a place, the values there are kept: of its bucket on the side of delta, or of volatility
-abbrev pub IsKeptAt : Place → Live → Type 0
-IsKeptAt place live = factors_at place (factors_of (rows_of live.book)) ≢ [] → IsSome (value_at live.kept place)
 
 -- a trade that is there has just its new rows afterwards, in its old place; a new one goes last
 abbrev pub put_trade : TradeRows → List TradeRows → List TradeRows

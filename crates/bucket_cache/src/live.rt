@@ -4,13 +4,15 @@ ghost use Rattle.simm_kinds.specs.Batch.{IsBatch, rows_of};
 ghost use Rattle.simm_rules.specs.declared.values.RangeFault.{RangeFault as Fault};
 ghost use Rattle.simm_rules.specs.Range.{range};
 ghost use Rattle.simm_rules.specs.Simm.{simm};
-ghost use Rattle.factor_book.specs.declared.place.Place.{Place};
+ghost use Rattle.simm_kinds.specs.declared.kinds.Measure.{Measure as Kind};
+ghost use Rattle.factor_book.specs.declared.at.BucketAt.{BucketAt as At};
 ghost use Rattle.factor_book.specs.Factors.{factors_of};
 ghost use Rattle.kept_buckets.specs.Touched.{Forgets, SameElsewhere};
 ghost use Rattle.kept_buckets.specs.Cached.{cached_in};
 ghost use Rattle.kept_buckets.specs.Dirty.{dirty_in, steps_left};
 ghost use Rattle.book_margin.specs.Right.{value_in, Renews};
-ghost use Rattle.bucket_cache.specs.Live.{IsKeptAt, put_trades, without, named, rows_moved, first_unadmitted, first_unknown, name_at, rows_named};
+ghost use Rattle.bucket_cache.specs.Cached.{IsCached};
+ghost use Rattle.bucket_cache.specs.Live.{put_trades, without, named, rows_moved, first_unadmitted, first_unknown, name_at, rows_named};
 
 use crate::admitting::first_unadmitted;
 use crate::changing::{copies_of, distinct_names, first_unknown, keep_others, put_all};
@@ -174,7 +176,7 @@ impl LiveMargin {
         ensures params { self.new.params ≡ self.old.params }
         ensures book { self.new.book ≡ self.old.book }
         ensures renewed { Renews self.old.params (factors_of (rows_of self.old.book)) self.old.kept self.new.kept }
-        ensures all { OnOk result ((place : Place) → IsKeptAt place self.new) }
+        ensures all { OnOk result ((at : At) (measure : Kind) → IsCached at measure self.new) }
         ensures fresh { OnOk result (self.new.is_fresh ≡ true) }
         ensures still_stale { OnErr result (self.new.is_fresh ≡ self.old.is_fresh) }
         ensures steps { let factors = factors_of (rows_of self.old.book) in

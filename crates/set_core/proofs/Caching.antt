@@ -1,14 +1,15 @@
 -- What a live margin has kept, after one event more.
-use Rattle.std.proofs.Common.{◌≡◌, ℕ, List, [], ◌∷◌, ◌++◌, Bool, true, false, not, Option, Some, None, Result, Ok, Err, IfOk, OnOk, OnErr, refl, sym, ap, ◌∙◌, subst, append_assoc, append-nil}
+use Rattle.std.proofs.Common.{◌≡◌, ℕ, List, [], ◌∷◌, ◌++◌, Bool, true, false, not, Option, Some, None, Result, Ok, Err, IfOk, OnErr, refl, sym, ap, ◌∙◌, subst, append_assoc, append-nil}
 use Rattle.std.proofs.lemmas.Bool.{and_parts, false≢true}
 use Rattle.std.specs.declared.alloc.AllocError.{AllocError}
 use Rattle.simm_kinds.specs.declared.row.TradeRows.{TradeRows}
 use Rattle.simm_kinds.specs.Batch.{rows_of}
 use Rattle.factor_book.specs.Factors.{factors_of}
 use Rattle.factor_book.specs.Places.{factors_at}
-use Rattle.kept_buckets.specs.Touched.{lies_at, Forgets, SameElsewhere}
-use Rattle.bucket_cache.specs.Live.{Live, IsKeptAt}
-use Rattle.bucket_cache.proofs.Standing.{elsewhere_at}
+use Rattle.kept_buckets.specs.Touched.{Forgets, SameElsewhere}
+use Rattle.bucket_cache.specs.Cached.{place_in, touches, IsCached}
+use Rattle.bucket_cache.specs.Live.{Live}
+use Rattle.bucket_cache.proofs.Standing.{elsewhere_cached}
 use Rattle.collateral_ledger.specs.declared.fault.LedgerFault.{LedgerFault}
 use Rattle.collateral_ledger.specs.Holdings.{Holdings}
 use Rattle.held_cell.specs.declared.entry.Entry.{Entry}
@@ -18,7 +19,7 @@ use Rattle.set_core.specs.declared.reply.Reply.{Reply}
 use Rattle.set_core.specs.declared.reply.Reply.TheVariants as reply
 use Rattle.set_core.specs.declared.refusal.Refusal.{Refusal}
 use Rattle.set_core.specs.Book.{book}
-use Rattle.set_core.specs.Cached.{rows_moved_by, moves_trades, is_known, known_from, is_margin_known, is_place_known, AreCached}
+use Rattle.set_core.specs.Cached.{rows_moved_by, moves_trades, is_known, known_after, is_margin_known, is_value_known, AreCached}
 use Rattle.set_core.specs.Ledger.{refusal_of, if_allowed, ledger_reply}
 use Rattle.set_core.specs.Live.{Traded, traded, live_reply, Does, IsWorkedOut, StaysKept, Carries, Caches}
 use Rattle.set_core.proofs.Applies.{is_settled}
@@ -27,18 +28,18 @@ use Rattle.set_core.proofs.Words.{Log}
 -- ---- one event
 
 pub stays_same : (old new : Live) → new ≡ old → StaysKept old new
-stays_same old new same = subst (StaysKept old) (sym same) (record { fresh = λ h. h; kept = λ place h. h })
+stays_same old new same = subst (StaysKept old) (sym same) (record { fresh = λ h. h; kept = λ at measure h. h })
 
 pub stays_worked_out : (old new : Live) → IsWorkedOut new → StaysKept old new
-stays_worked_out old new out = record { fresh = λ h. out.fresh; kept = λ place h. out.kept place }
+stays_worked_out old new out = record { fresh = λ h. out.fresh; kept = λ at measure h. out.kept at measure }
 
 pub caches_all : (old new : Live) (e : Event) (r : Reply) → IsWorkedOut new → Caches old new e r
-caches_all old new e r out = record { fresh = λ was h known. out.fresh; kept = λ place was h known. out.kept place }
+caches_all old new e r out = record { fresh = λ was h known. out.fresh; kept = λ at measure was h known. out.kept at measure }
 
 pub caches_refused : (old new : Live) (e : Event) (why : Refusal) → new ≡ old → Caches old new e (reply.Refused why)
 caches_refused old new e why same =
     let stays = stays_same old new same in
-    record { fresh = λ was h known. stays.fresh (h known); kept = λ place was h known. stays.kept place (h known) }
+    record { fresh = λ was h known. stays.fresh (h known); kept = λ at measure was h known. stays.kept at measure (h known) }
 
 untouched : (b : Bool) → not b ≡ true → b ≡ false
 untouched true h = absurd (false≢true h)
@@ -49,10 +50,10 @@ pub caches_moved : (old new : Live) (e : Event) → moves_trades e ≡ true → 
     → SameElsewhere (rows_moved_by old.book e) (factors_of (rows_of old.book)) (factors_of (rows_of new.book)) → Caches old new e reply.Accepted
 caches_moved old new e moves forgets same = record {
   fresh = λ was h known. absurd (false≢true (sym (ap not moves) ∙ (and_parts was (not (moves_trades e)) known).1));
-  kept = λ place was h known.
-      let touched = lies_at place (rows_moved_by old.book e) in
+  kept = λ at measure was h known.
+      let touched = touches at measure (rows_moved_by old.book e) in
       let parts = and_parts was (not touched) known in
-      elsewhere_at old new (rows_moved_by old.book e) forgets same place (untouched touched parts.1) (h parts.0);
+      elsewhere_cached old new (rows_moved_by old.book e) forgets same at measure (untouched touched parts.1) (h parts.0);
 }
 
 -- the live margin is left alone
@@ -76,7 +77,7 @@ pub caches_beside : (old new : Holdings) (live : Live) (e : Event) (result : Res
 caches_beside old new live e (Err _) settled is = tt
 caches_beside old new live e (Ok r) settled is =
     let so : is_settled r ≡ true = ap is_settled (is (traded live)).value ∙ settled in
-    record { fresh = carries (λ l. l.is_fresh ≡ true) (moves_trades e) live r so; kept = λ place. carries (IsKeptAt place) (lies_at place (rows_moved_by live.book e)) live r so }
+    record { fresh = carries (λ l. l.is_fresh ≡ true) (moves_trades e) live r so; kept = λ at measure. carries (IsCached at measure) (touches at measure (rows_moved_by live.book e)) live r so }
 
 -- ---- results
 
@@ -84,39 +85,35 @@ pub always : {T E : Type 0} (result : Result T E) (P : T → Type 0) → ((x : T
 always (Ok x) P h = h x
 always (Err e) P h = tt
 
-pub ok_both : {T E : Type 0} (result : Result T E) (P Q R : Type 0) → OnOk result P → OnOk result Q → (P → Q → R) → OnOk result R
-ok_both (Ok x) P Q R p q h = h p q
-ok_both (Err e) P Q R p q h = tt
-
 pub err_so : {T E : Type 0} (result : Result T E) (P R : Type 0) → OnErr result P → (P → R) → OnErr result R
 err_so (Ok x) P R p h = tt
 err_so (Err e) P R p h = h p
 
 -- ---- a journal
 
-known_push : (touches : List TradeRows → Event → Bool) (was : Bool) (before log : Log) (e : Entry Event Reply)
-    → known_from touches was before (log ++ e ∷ []) ≡ is_known (known_from touches was before log) (touches (book (before ++ log)) e.event) e.reply
-known_push touches was before [] e = ap (λ (l : Log). is_known was (touches (book l) e.event) e.reply) (sym (append-nil before))
-known_push touches was before (x ∷ log) e =
-    let now = is_known was (touches (book before) x.event) x.reply in
-    known_push touches now (before ++ x ∷ []) log e
-    ∙ ap (λ (l : Log). is_known (known_from touches now (before ++ x ∷ []) log) (touches (book l) e.event) e.reply) (append_assoc before (x ∷ []) log)
+known_push : (touched : List TradeRows → Event → Bool) (was : Bool) (before log : Log) (e : Entry Event Reply)
+    → known_after touched was before (log ++ e ∷ []) ≡ is_known (known_after touched was before log) (touched (book (before ++ log)) e.event) e.reply
+known_push touched was before [] e = ap (λ (l : Log). is_known was (touched (book l) e.event) e.reply) (sym (append-nil before))
+known_push touched was before (x ∷ log) e =
+    let now = is_known was (touched (book before) x.event) x.reply in
+    known_push touched now (before ++ x ∷ []) log e
+    ∙ ap (λ (l : Log). is_known (known_after touched now (before ++ x ∷ []) log) (touched (book l) e.event) e.reply) (append_assoc before (x ∷ []) log)
 
 pub cached_next : (old new : Live) (caller : ℕ) (log : Log) (e : Event) (r : Reply) → old.book ≡ book log → AreCached old log → Caches old new e r → AreCached new (log ++ entry caller e r ∷ [])
 cached_next old new caller log e r same cached caches = record {
   fresh = λ known.
       caches.fresh (is_margin_known log) cached.fresh (sym (known_push (λ trades event. moves_trades event) true [] log (entry caller e r)) ∙ known);
-  kept = λ place known.
-      caches.kept place (is_place_known place log) (cached.kept place)
-      (ap (λ trades. is_known (is_place_known place log) (lies_at place (rows_moved_by trades e)) r) same
-      ∙ sym (known_push (λ trades event. lies_at place (rows_moved_by trades event)) true [] log (entry caller e r)) ∙ known);
+  kept = λ at measure known.
+      caches.kept at measure (is_value_known at measure log) (cached.kept at measure)
+      (ap (λ trades. is_known (is_value_known at measure log) (touches at measure (rows_moved_by trades e)) r) same
+      ∙ sym (known_push (λ trades event. touches at measure (rows_moved_by trades event)) true [] log (entry caller e r)) ∙ known);
 }
 
 pub cached_still : (old new : Live) (log : Log) → AreCached old log → StaysKept old new → AreCached new log
-cached_still old new log cached stays = record { fresh = λ known. stays.fresh (cached.fresh known); kept = λ place known. stays.kept place (cached.kept place known) }
+cached_still old new log cached stays = record { fresh = λ known. stays.fresh (cached.fresh known); kept = λ at measure known. stays.kept at measure (cached.kept at measure known) }
 
 pub cached_none : (live : Live) → live.book ≡ [] → live.is_fresh ≡ true → AreCached live []
 cached_none live none fresh = record {
   fresh = λ known. fresh;
-  kept = λ place known some. absurd (some (ap (λ (trades : List TradeRows). factors_at place (factors_of (rows_of trades))) none));
+  kept = λ at measure known measured some. absurd (some (ap (λ (trades : List TradeRows). factors_at (place_in at measure) (factors_of (rows_of trades))) none));
 }

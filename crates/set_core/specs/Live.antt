@@ -5,9 +5,10 @@ use Rattle.simm_kinds.specs.Batch.{rows_of}
 use Rattle.simm_rules.specs.Params.{Params}
 use Rattle.simm_rules.specs.Range.{range}
 use Rattle.simm_rules.specs.Simm.{simm}
-use Rattle.factor_book.specs.declared.place.Place.{Place}
-use Rattle.kept_buckets.specs.Touched.{lies_at}
-use Rattle.bucket_cache.specs.Live.{Live, IsKeptAt, put_trades, without, first_unadmitted, first_unknown}
+use Rattle.simm_kinds.specs.declared.kinds.Measure.{Measure}
+use Rattle.factor_book.specs.declared.at.BucketAt.{BucketAt}
+use Rattle.bucket_cache.specs.Cached.{touches, IsCached}
+use Rattle.bucket_cache.specs.Live.{Live, put_trades, without, first_unadmitted, first_unknown}
 use Rattle.collateral_ledger.specs.Holdings.{Holdings}
 use Rattle.collateral_ledger.specs.Booked.{booked_of}
 use Rattle.collateral_ledger.specs.Refusals.{put_refusal, take_refusal, mark_refusal, close_refusal}
@@ -51,15 +52,15 @@ pub record Does (old new : Traded) (had has : Holdings) (e : Event) (r : Reply) 
 
 -- ---- what a live margin has kept
 
--- the margin is known, and the values of each place are kept
+-- the margin is known, and each value of a bucket is kept
 pub record IsWorkedOut (live : Live) : Type 0 where
   pub fresh : live.is_fresh ≡ true
-  pub kept : (place : Place) → IsKeptAt place live
+  pub kept : (at : BucketAt) (measure : Measure) → IsCached at measure live
 
 -- what was known is known
 pub record StaysKept (old new : Live) : Type 0 where
   pub fresh : old.is_fresh ≡ true → new.is_fresh ≡ true
-  pub kept : (place : Place) → IsKeptAt place old → IsKeptAt place new
+  pub kept : (at : BucketAt) (measure : Measure) → IsCached at measure old → IsCached at measure new
 
 abbrev pub Carries : (Live → Type 0) → Bool → Live → Live → Reply → Type 0
 Carries Known touched old new r = (was : Bool) → (was ≡ true → Known old) → is_known was touched r ≡ true → Known new
@@ -67,4 +68,4 @@ Carries Known touched old new r = (was : Bool) → (was ≡ true → Known old) 
 -- what is known after the event and its reply is kept
 pub record Caches (old new : Live) (e : Event) (r : Reply) : Type 0 where
   pub fresh : Carries (λ live. live.is_fresh ≡ true) (moves_trades e) old new r
-  pub kept : (place : Place) → Carries (IsKeptAt place) (lies_at place (rows_moved_by old.book e)) old new r
+  pub kept : (at : BucketAt) (measure : Measure) → Carries (IsCached at measure) (touches at measure (rows_moved_by old.book e)) old new r

@@ -1,9 +1,10 @@
 ghost use Rattle.std.specs.Prelude.{◌≡◌, [], true, length, map, None, Some, IfOk, OnErr, IfErr};
 ghost use Rattle.std.specs.Option.{option_copied};
-ghost use Rattle.factor_book.specs.declared.place.Place.{Place};
-ghost use Rattle.bucket_cache.specs.Live.{IsKeptAt};
+ghost use Rattle.simm_kinds.specs.declared.kinds.Measure.{Measure};
+ghost use Rattle.factor_book.specs.declared.at.BucketAt.{BucketAt};
+ghost use Rattle.bucket_cache.specs.Cached.{IsCached};
 ghost use Rattle.set_core.specs.Book.{book};
-ghost use Rattle.set_core.specs.Cached.{is_margin_known, is_place_known};
+ghost use Rattle.set_core.specs.Cached.{is_margin_known, is_value_known};
 ghost use Rattle.held_cell.specs.Halts.{Explains};
 ghost use Rattle.set_core.specs.Room.{journal_rows, event_rows, is_full_for, IsFull};
 ghost use Rattle.set_core.specs.Set.{IsSet, IsAnswered, entry_at};
@@ -139,7 +140,7 @@ impl SetState {
         ensures params { result.now.params ≡ self.now.params }
         ensures book { result.now.book ≡ book self.now.journal }
         ensures fresh { is_margin_known self.now.journal ≡ true → result.now.is_fresh ≡ true }
-        ensures kept { (place : Place) → is_place_known place self.now.journal ≡ true → IsKeptAt place result.now }
+        ensures kept { (at : BucketAt) (measure : Measure) → is_value_known at measure self.now.journal ≡ true → IsCached at measure result.now }
     {
         &self.live
     }

@@ -6,7 +6,8 @@ use Rattle.set_core.specs.declared.event.Event.TheVariants as events
 use Rattle.set_core.specs.declared.reply.Reply.TheVariants as reply
 use Rattle.set_core.specs.declared.refusal.Refusal.TheVariants as refusal
 use Rattle.set_core.specs.Answer.{if_in_range, if_admitted}
-use Rattle.set_core.specs.Live.{Does, traded}
+use Rattle.set_core.specs.Live.{Caches, Does, traded}
+use Rattle.set_core.proofs.Caching.{caches_moved}
 use Rattle.set_core.proofs.Changes.{other_trades}
 use Rattle.set_core.proofs.answering.submit.Goals as goal
 
@@ -33,3 +34,8 @@ pub returns-in-Err-Range-clause-does : goal.returns-in-Err-Range-clause-does
 returns-in-Err-Range-clause-does c =
     subst (λ batch. (h : Holdings) → Does (traded c.args.live.now) (traded c.submit.new.self) h h (events.Submit batch) (reply.Refused (refusal.Range c.in-Err-Range.fault))) c.trades.ensures.value
     (λ h. record { value = out_of_range _ _ _ (c.in-Err-Range.ensures.range_of_admitted c.in-Err-Range.fault (ap Err c.in-Err-Range.field-0-is)) (c.in-Err-Range.ensures.range c.in-Err-Range.fault (ap Err c.in-Err-Range.field-0-is)); live = ap traded c.in-Err-Range.ensures.unchanged; ledger = refl })
+
+pub returns-in-Ok-clause-caches : goal.returns-in-Ok-clause-caches
+returns-in-Ok-clause-caches c =
+    subst (λ batch. Caches c.args.live.now c.submit.new.self (events.Submit batch) reply.Accepted) c.trades.ensures.value
+    (caches_moved c.args.live.now c.submit.new.self (events.Submit c.trades.result.now) refl c.in-Ok.ensures.kept c.in-Ok.ensures.elsewhere)

@@ -7,9 +7,10 @@ use Rattle.book_margin.specs.Right.{IsFresh, Renews}
 use Rattle.bucket_cache.specs.declared.sums.Sums.{Sums}
 use Rattle.bucket_cache.specs.Entries.{trades_of}
 use Rattle.bucket_cache.specs.Held.{IsMargin, IsHeld}
-use Rattle.bucket_cache.specs.Live.{Live, IsKeptAt, rows_in}
+use Rattle.bucket_cache.specs.Cached.{IsCached}
+use Rattle.bucket_cache.specs.Live.{Live, rows_in}
 use Rattle.bucket_cache.proofs.Keeping.{if_some, not_fresh, margin_book, right_of, renews_to}
-use Rattle.bucket_cache.proofs.Standing.{fresh_at}
+use Rattle.bucket_cache.proofs.Standing.{fresh_cached}
 use Rattle.bucket_cache.proofs.live.LiveMargin.margin.Goals as goal
 
 -- ---- where the margin is known
@@ -32,10 +33,10 @@ returns-in-Some-clause-renewed g c =
     subst (λ (l : Live). Renews l.params (factors_of (rows_of l.book)) l.kept l.kept) c.self.view_is (record { right = c.self.invariant.summed.right; values = λ place v h. h; margins = λ at m h. h })
 
 pub returns-in-Some-clause-all : goal.returns-in-Some-clause-all
-returns-in-Some-clause-all g c = λ place.
-    subst (IsKeptAt place) c.self.view_is
-    (fresh_at (factors_of (rows_of (trades_of c.self.inside.trades.entries))) c.self.inside.kept
-    (if_some c.self.inside.last c.in-Some.margin (IsMargin c.self.inside.params (rows_of (trades_of c.self.inside.trades.entries)) c.self.inside.kept) c.in-Some.is c.self.invariant.fresh).all place)
+returns-in-Some-clause-all g c = λ at measure.
+    subst (IsCached at measure) c.self.view_is
+    (fresh_cached c.self.inside.params (factors_of (rows_of (trades_of c.self.inside.trades.entries))) c.self.inside.kept c.self.invariant.summed.right
+    (if_some c.self.inside.last c.in-Some.margin (IsMargin c.self.inside.params (rows_of (trades_of c.self.inside.trades.entries)) c.self.inside.kept) c.in-Some.is c.self.invariant.fresh).all at measure)
 
 pub returns-in-Some-clause-fresh : goal.returns-in-Some-clause-fresh
 returns-in-Some-clause-fresh g c = sym (ap (λ (l : Live). l.is_fresh) c.self.view_is) ∙ ap is_some c.in-Some.is
@@ -119,9 +120,11 @@ returns-clause-renewed g c =
     (renews_to c.self.inside.params (rows_of (trades_of c.self.inside.trades.entries)) c.self.inside.sums c.self.inside.kept c.margin_of.new.kept c.self.invariant.summed.summed c.margin_of.ensures.renewed)
 
 pub returns-clause-all : goal.returns-clause-all
-returns-clause-all g c = λ place.
-    fresh_at (factors_of (rows_of (trades_of c.self.inside.trades.entries))) c.margin_of.new.kept
-    (subst (λ factors. IsFresh factors c.margin_of.new.kept) (ap (λ (s : Sums). s.factors) c.self.invariant.summed.summed) c.in_ok-margin.ensures.fresh) place
+returns-clause-all g c = λ at measure.
+    let us = trades_of c.self.inside.trades.entries in
+    fresh_cached c.self.inside.params (factors_of (rows_of us)) c.margin_of.new.kept
+    (renews_to c.self.inside.params (rows_of us) c.self.inside.sums c.self.inside.kept c.margin_of.new.kept c.self.invariant.summed.summed c.margin_of.ensures.renewed).right
+    (subst (λ factors. IsFresh factors c.margin_of.new.kept) (ap (λ (s : Sums). s.factors) c.self.invariant.summed.summed) c.in_ok-margin.ensures.fresh) at measure
 
 pub returns-clause-steps : goal.returns-clause-steps
 returns-clause-steps g c =
