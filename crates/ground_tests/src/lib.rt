@@ -27,6 +27,8 @@ mod multiplier;
 #[cfg(test)]
 mod pair_sum_calls;
 #[cfg(test)]
+mod portfolio;
+#[cfg(test)]
 mod simm_kinds_calls;
 #[cfg(test)]
 mod simm_rules_calls;
