@@ -12,3 +12,4 @@ pub mod Slots
 pub mod Waiting
 pub mod Cutting
 pub mod Shared
+pub mod Empty

@@ -1,4 +1,5 @@
 pub mod Filters
+pub mod Start
 pub mod Names
 pub mod Words
 pub mod Puts

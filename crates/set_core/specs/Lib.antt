@@ -5,7 +5,6 @@ pub mod Answer
 pub mod Events
 pub mod Room
 pub mod Set
-pub mod Start
 pub mod Ledger
 pub mod Live
 pub mod Kept

@@ -1,7 +1,8 @@
 //! A netting set as a machine that its callers share: it works on its parameters and its terms, and its journal weighs its rows.
+ghost use Rattle.std.proofs.Common.{lit≤};
+ghost use Rattle.held_cell.proofs.Empty.{no_entry};
 ghost use Rattle.set_core.specs.Room.{journal_rows, IsFull};
 ghost use Rattle.set_core.specs.Set.{IsSet, base_of};
-ghost use Rattle.set_core.specs.Start.{set_none};
 
 use crate::{Event, Reply, SetState};
 use csa_terms::SetTerms;
@@ -35,5 +36,5 @@ impl Machine for SetState {
         answer
     }
 
-    ghost starts = { λ base. set_none base.0 base.1 };
+    ghost starts = { λ base. record { few = lit≤ tt; light = lit≤ tt; legal = λ before after e h. absurd (no_entry before after e h) } };
 }

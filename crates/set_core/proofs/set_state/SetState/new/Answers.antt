@@ -4,7 +4,7 @@ use Rattle.csa_terms.specs.Terms.{Agreement}
 use Rattle.collateral_ledger.specs.Holdings.{Holdings}
 use Rattle.set_core.specs.Kept.{IsKept}
 use Rattle.set_core.specs.Cached.{AreCached}
-use Rattle.set_core.specs.Start.{set_none}
+use Rattle.set_core.proofs.Start.{set_none}
 use Rattle.set_core.specs.Live.{Traded}
 use Rattle.set_core.proofs.Caching.{cached_none}
 use Rattle.set_core.proofs.Words.{Log}

@@ -1,0 +1,10 @@
+-- An empty journal is legal, and within its limits.
+use Rattle.std.specs.Prelude.{[]}
+use Rattle.std.proofs.Common.{lit≤}
+use Rattle.simm_rules.specs.Params.{Params}
+use Rattle.csa_terms.specs.Terms.{Agreement}
+use Rattle.held_cell.proofs.Empty.{no_entry}
+use Rattle.set_core.specs.Set.{IsSet}
+
+pub set_none : (p : Params) (t : Agreement) → IsSet p t []
+set_none p t = record { few = lit≤ tt; light = lit≤ tt; legal = λ before after e h. absurd (no_entry before after e h) }
