@@ -7,9 +7,6 @@ use Rattle.std.proofs.lemmas.Bool.{true≢false, false≢true, ltb-false}
 use Rattle.std.proofs.lemmas.Option.{slice_get-get_or}
 use Rattle.std.proofs.lemmas.List.Quantifiers.{position-Some}
 use Rattle.std.proofs.lemmas.List.Sums.{fails_before_first}
-use Rattle.std.proofs.lemmas.Slice.Eq.{bytes_eq-Decides}
-use Rattle.std.proofs.lemmas.Map.Text.{is_eq-slice_cmp}
-use Rattle.std.proofs.lemmas.Cmp.{eq_by_cmp_equiv, nat_list_cmp_total}
 use Rattle.simm_kinds.specs.Order.{same_name}
 use Rattle.crif_reader.specs.declared.fault.CrifFault.{CrifFault}
 use Rattle.crif_reader.specs.declared.fault.CrifFault.TheVariants as crif
@@ -21,18 +18,12 @@ use Rattle.set_core.specs.Set.{Set}
 use Rattle.feed_gate.specs.declared.report.RefusedMessage.TheVariants as refused
 use Rattle.feed_gate.specs.Calls.{set_of, event_of, called, after_calls, after_feed}
 use Rattle.feed_gate.specs.Refused.{place_of, refusal, unless_no_batch, unless_unknown, set_at}
+use Rattle.feed_gate.proofs.Names.{one_name, same_name_sym}
 
 abbrev pub has_name : List ℕ → Set → Bool
 has_name name s = same_name name s.terms.name
 
 -- ---- which sets have a name
-
--- names that compare equal are equal
-one_name : (a b : List ℕ) → same_name a b ≡ true → a ≡ b
-one_name a b h = (bytes_eq-Decides a b).0 (sym (is_eq-slice_cmp a b) ∙ h)
-
-same_name_sym : (a b : List ℕ) → same_name a b ≡ same_name b a
-same_name_sym = (eq_by_cmp_equiv nat_list_cmp_total).symm
 
 all_at : {X : Type 0} (P : X → Type 0) (xs : List X) → ((k : ℕ) (d : X) → k < length xs → P (get_or xs k d)) → AllByRecursion P xs
 all_at P [] h = tt

@@ -22,7 +22,8 @@ use Rattle.feed_gate.specs.Calls.{after_feed}
 use Rattle.feed_gate.specs.Refused.{refusal}
 use Rattle.feed_gate.specs.Run.{no_report, with_answer, Meets, EndsAt, TakesItem, Takes, RanTo, RanLines, BreaksAt, IsEnd, RanSource}
 use Rattle.feed_gate.specs.Sets.{AreLegal}
-use Rattle.feed_gate.proofs.Runs.{sets_after, nothing_after, refused-push, done-push, answer_done, answer_refused, kept_after}
+use Rattle.feed_gate.proofs.Reports.{answer_done, answer_refused}
+use Rattle.feed_gate.proofs.Runs.{sets_after, nothing_after, refused-push, done-push, kept_after}
 
 -- nothing more comes
 nothing_more : (s : Supply) → CanCome s [] (is_ended s)
@@ -117,7 +118,7 @@ module _ {S : Type 0} (seen : S → SourceSeen) where
     came = λ later ended can. can;
   }
 
-  tells_none_yet : (held : Lined S) → TellsItems seen held held []
+  pub tells_none_yet : (held : Lined S) → TellsItems seen held held []
   tells_none_yet held = record {
     given = [];
     lines = record { taken = []; took = took_nothing held; lines = λ later ended _. refl; count = omega arith };

@@ -87,14 +87,6 @@ done-push sets items item =
     ap (count_by is_none) (refusals-push sets [] items item)
     ∙ sum_by-append (λ r. cond (is_none r) 1 0) (refusals_from sets [] items) (refusal (map (after_feed items) sets) item ∷ [])
 
-pub answer_done : (r : FeedReport) (a : Option RefusedMessage) → (with_answer r a).done ≡ r.done + count_by is_none (a ∷ [])
-answer_done r None = omega arith
-answer_done r (Some refused) = omega arith
-
-pub answer_refused : (r : FeedReport) (a : Option RefusedMessage) → (with_answer r a).refused ≡ r.refused ++ filter_map (λ x. x) (a ∷ [])
-answer_refused r None = sym (append-nil r.refused)
-answer_refused r (Some refused) = refl
-
 -- ---- a line that is no message
 
 pub bad_line_met : (line : ℕ) (sets : List Set) (old new : FeedReport) (why : Option FeedEnd) → Reports old new line (Some (refused.BadLine line)) why → Meets (BadAt line) sets sets old new why
@@ -102,10 +94,6 @@ bad_line_met line sets old new None h = (sym (bad_line_stays line sets), h)
 bad_line_met line sets old new (Some why) h = (refl, h.0, h.1)
 
 -- ---- what is kept from one message to the next
-
-pub answer_few : (r : FeedReport) (a : Option RefusedMessage) → (with_answer r a).done ≤ r.done + 1
-answer_few r None = omega arith
-answer_few r (Some refused) = omega arith
 
 same_names : (items : List Item) (sets : List Set) → map (λ s. s.terms.name) (map (after_feed items) sets) ≡ map (λ s. s.terms.name) sets
 same_names items [] = refl

@@ -3,3 +3,7 @@ pub mod Calls
 pub mod Refused
 pub mod Sets
 pub mod Run
+pub mod Fates
+pub mod Seats
+pub mod Met
+pub mod Jobs

@@ -1,17 +1,16 @@
 //! One message as a call on the set that it names.
 ghost use Rattle.std.specs.Prelude.{◌≡◌, ◌≢◌, ◌∷◌, [], Some, map, IfOk, IfSome, OnOk, OnErr};
 ghost use Rattle.crif_reader.specs.declared.fault.CrifFault.TheVariants as crif;
-ghost use Rattle.crif_reader.specs.Reads.{Gives};
 ghost use Rattle.feed_reader.specs.Feed.{Sent};
 ghost use Rattle.feed_gate.specs.declared.report.RefusedMessage.TheVariants as refused;
-ghost use Rattle.feed_gate.specs.Calls.{set_of, submit_of, event_of, called, after_feed};
+ghost use Rattle.feed_gate.specs.Calls.{called, after_feed};
 ghost use Rattle.feed_gate.specs.Refused.{place_of, unless_full, refusal};
 ghost use Rattle.feed_gate.specs.Sets.{AreApart};
 
 use crate::RefusedMessage;
-use crif_reader::{CrifFault, read_batch};
-use feed_reader::{Fed, Message};
-use mh_units::Bytes;
+use crate::fate::{event_of, set_of};
+use crif_reader::CrifFault;
+use feed_reader::Fed;
 use set_core::{Event, Halt, SetState};
 use simm_kinds::Name;
 use std::alloc::{AllocError, Global};
@@ -38,62 +37,11 @@ pub(crate) fn make_call(
     }
 }
 
-/// The set that a message names.
-fn set_of(message: &Message) -> &Name
-    ensures { result.now ≡ set_of message.now }
-{
-    match message {
-        Message::Crif { set, .. }
-        | Message::Withdraw { set, .. }
-        | Message::Put { set, .. }
-        | Message::Take { set, .. }
-        | Message::Mark { set, .. }
-        | Message::Close { set, .. }
-        | Message::Ask { set }
-        | Message::Call { set, .. } => set,
-    }
-}
-
 fn find_set(sets: &[SetState], name: &Name) -> Option<usize>
     ensures { result ≡ place_of name.now sets.now }
 {
     sets.iter()
         .position(|set| name.cmp(set.terms().name()).is_eq())
-}
-
-/// The event of a message; the fault is that of its block, which is no batch.
-fn event_of(alloc: Global, message: Message) -> Result<Event, CrifFault>
-    ensures { Gives (λ e. e) result (event_of message) }
-{
-    match message {
-        Message::Crif { block, .. } => submit_of(alloc, &block),
-        Message::Withdraw { names, .. } => Ok(Event::Withdraw(names)),
-        Message::Put {
-            lot,
-            class,
-            value,
-            currency,
-            ..
-        } => Ok(Event::PutLot {
-            lot,
-            class,
-            value,
-            currency,
-        }),
-        Message::Take { lot, .. } => Ok(Event::TakeLot { lot }),
-        Message::Mark { lot, value, .. } => Ok(Event::MarkLot { lot, value }),
-        Message::Close { number, .. } => Ok(Event::CloseCall { number }),
-        Message::Ask { .. } => Ok(Event::AskMargin),
-        Message::Call { moment, .. } => Ok(Event::AskCall { moment }),
-    }
-}
-
-/// The submit of a block of CRIF records.
-fn submit_of(alloc: Global, block: &Bytes) -> Result<Event, CrifFault>
-    ensures { Gives (λ e. e) result (submit_of block.now) }
-{
-    let read = read_batch(alloc, block.as_slice())?;
-    Ok(Event::Submit(read.batch))
 }
 
 /// Refuses a block for the first fault of its records. Want of memory is none of theirs.

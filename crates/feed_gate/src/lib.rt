@@ -1,9 +1,21 @@
-//! A feed's messages as calls on the netting sets that they name.
+//! Feeds that run side by side: their messages are calls on the netting sets that they name, which they share.
+//!
+//! A [`FeedJob`] is a feed with its seats, one for each set. [`run_feeds`] gives each job a thread of its own where it can.
+//! What a feed did is told set by set and by its own entries, whatever the other feeds did.
 #![tactic(auto)]
 
 mod calling;
+mod fate;
+mod feed;
+mod gate;
+mod job;
+mod jobs;
 mod report;
 mod run;
+mod set_call;
 
+pub use gate::{Gate, NoGate};
+pub use job::FeedJob;
+pub use jobs::run_feeds;
 pub use report::{FeedEnd, FeedReport, RefusedMessage};
 pub use run::run_feed;

@@ -75,7 +75,7 @@ pub struct FeedReport {
 
 impl FeedReport {
     /// Of no message. It takes no memory.
-    pub(crate) fn new(alloc: Global) -> FeedReport
+    pub fn new(alloc: Global) -> FeedReport
         ensures { result ≡ no_report }
     {
         FeedReport {

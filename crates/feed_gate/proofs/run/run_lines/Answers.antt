@@ -2,7 +2,8 @@ use Rattle.std.proofs.Common.{arith, ◌∷◌, [], ◌++◌, refl, sym, ap, ◌
 use Rattle.feed_gate.specs.Refused.{refusal}
 use Rattle.feed_gate.specs.Sets.{AreApart}
 use Rattle.feed_gate.specs.Run.{RanTo}
-use Rattle.feed_gate.proofs.Runs.{answer_few, apart_after}
+use Rattle.feed_gate.proofs.Reports.{answer_few}
+use Rattle.feed_gate.proofs.Runs.{apart_after}
 use Rattle.feed_gate.proofs.Feeds.{ran_none, ran_more}
 use Rattle.feed_gate.proofs.run.run_lines.Goals as goal
 

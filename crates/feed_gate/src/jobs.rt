@@ -1,0 +1,76 @@
+//! Many feeds side by side.
+ghost use Rattle.std.specs.Prelude.{All};
+ghost use Rattle.std.specs.List.{AllZip};
+ghost use Rattle.std.specs.Thread.{IsSync};
+ghost use denote.Param.Send.{IsSend};
+ghost use Rattle.feed_gate.specs.Seats.{AreNamed, AreSeats};
+ghost use Rattle.feed_gate.specs.Jobs.{RanFeed};
+
+use crate::feed::run_feed;
+use crate::{FeedJob, Gate};
+use held_cell::HeldCell;
+use mh_io::Source;
+use set_core::SetState;
+use simm_kinds::Name;
+use std::alloc::Global;
+use std::sync::Wait;
+use std::thread::{Threads, join_mut};
+
+/// Runs feeds at the same time, each in a thread of its own; where a thread can't be started this one runs the feed itself.
+///
+/// Each feed's messages are calls on the sets that they name, one after another, by the feed's own seats: there are at most
+/// sixteen sets, each in a cell and with a name of its own, and a job has a seat of each cell. Afterwards the entries of a
+/// feed in the journal of a set are its calls on that set, each once and in its order, but for those that are reported as
+/// `Full`, whatever the other feeds did. The report has the other messages, and how the feed ended. A feed that ends early
+/// has its whole messages done; for want of memory it ends in the message for which there was none, of which there is no
+/// entry. The gate is called before and after each call on a set.
+#[cycle(feeds)]
+pub fn run_feeds<R: Threads + Wait + Sync, S: Source + Send, G: Gate>(
+    rt: &R,
+    alloc: Global,
+    cells: &[HeldCell<SetState>],
+    names: &[Name],
+    gate: &G,
+    jobs: &mut [FeedJob<S>],
+)
+    requires named { AreNamed names.now cells.now }
+    requires seats { All (λ job. AreSeats cells.now job.seats.items) jobs.old }
+    ensures { AllZip (RanFeed S.seen names.now) jobs.old jobs.new }
+{
+    match jobs {
+        [] => {}
+        [job] => run_feed(rt, alloc, cells, names, gate, job),
+        _ => {
+            let (front, back) = jobs.split_at_mut(jobs.len() / 2);
+            run_both(rt, alloc, cells, names, gate, front, back);
+        }
+    }
+}
+
+/// Runs two lists of feeds at the same time.
+#[cycle(feeds)]
+fn run_both<R: Threads + Wait + Sync, S: Source + Send, G: Gate>(
+    rt: &R,
+    alloc: Global,
+    cells: &[HeldCell<SetState>],
+    names: &[Name],
+    gate: &G,
+    front: &mut [FeedJob<S>],
+    back: &mut [FeedJob<S>],
+)
+    requires named { AreNamed names.now cells.now }
+    requires front { All (λ job. AreSeats cells.now job.seats.items) front.old }
+    requires back { All (λ job. AreSeats cells.now job.seats.items) back.old }
+    ensures front { AllZip (RanFeed S.seen names.now) front.old front.new }
+    ensures back { AllZip (RanFeed S.seen names.now) back.old back.new }
+{
+    let mut first = ||
+        requires { IsSync R.row × IsSync G.row × IsSend S.row × AreNamed names.now cells.now × All (λ job. AreSeats cells.now job.seats.items) front.now }
+        ensures { AllZip (RanFeed S.seen names.entry.now) front.entry.now front.exit.now }
+    { run_feeds(rt, alloc, cells, names, gate, front) };
+    let mut second = ||
+        requires { IsSync R.row × IsSync G.row × IsSend S.row × AreNamed names.now cells.now × All (λ job. AreSeats cells.now job.seats.items) back.now }
+        ensures { AllZip (RanFeed S.seen names.entry.now) back.entry.now back.exit.now }
+    { run_feeds(rt, alloc, cells, names, gate, back) };
+    join_mut(rt, &mut first, &mut second);
+}
