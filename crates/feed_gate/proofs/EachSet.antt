@@ -1,9 +1,10 @@
 -- What a feed does to all its sets.
-use Rattle.std.proofs.Common.{◌≡◌, ◌≢◌, ℕ, zero, suc, ◌<◌, ◌≤◌, arith, List, [], ◌∷◌, ◌++◌, true, false, cond, length, get_or, set, length-set, Option, Some, None, Result, Ok, Err, IfOk, OnErr, refl, sym, ap, ◌∙◌, subst, ⊎_elim}
+use Rattle.std.proofs.Common.{◌≡◌, ◌≢◌, ℕ, zero, suc, ◌<◌, ◌≤◌, arith, List, [], ◌∷◌, ◌++◌, true, false, cond, length, take, drop, get_or, set, length-set, Option, Some, None, Result, Ok, Err, IfOk, OnErr, refl, sym, ap, ◌∙◌, subst, ⊎_elim}
 use Rattle.std.specs.List.{slice_get, IsDistinct}
 use Rattle.std.specs.Result.{result_ok}
 use Rattle.std.specs.declared.alloc.AllocError.{AllocError}
 use Rattle.std.proofs.lemmas.Bool.{cases_lt}
+use Rattle.std.proofs.lemmas.List.{take_at}
 use Rattle.std.proofs.lemmas.Option.{same_Some, slice_get_within, slice_get-get_or}
 use Rattle.simm_kinds.specs.Order.{same_name}
 use Rattle.crif_reader.specs.declared.fault.CrifFault.{CrifFault}
@@ -86,6 +87,10 @@ one_sees place old new h = record {
       (cases_lt place k))
       (cases_lt k place);
 }
+
+-- what holds of seats that were lent and written holds of the list that they are put back into
+pub put_back : (P : List Seat → List Seat → Type 0) (n : ℕ) (lent old new : List Seat) → lent ≡ old → length new ≡ n → P lent new → P old (take n (new ++ drop (length new) old))
+put_back P n lent old new same long h = subst (λ seats. P old seats) (sym (take_at new (drop (length new) old) n long)) (subst (λ seats. P seats new) same h)
 
 -- what a call answers and does to the seat at its place
 pub one_meets : (call : Call) (seats : List Seat) (a b : Seat) (r : Result (Option RefusedMessage) AllocError) → slice_get seats call.place ≡ Some a → IfOk r (λ why. MayBeFull call why) → IfOk r (λ why. CallsSeat call.event why a b) → IfOk r (λ why. MeetsFate (fate.Calls call) why seats (set seats call.place b))

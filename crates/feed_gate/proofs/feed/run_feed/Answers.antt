@@ -14,7 +14,7 @@ loop-end-init g c = (
 
 -- the seats are still of their cells
 pub take_item-requires-clause-seats : goal.take_item-requires-clause-seats
-take_item-requires-clause-seats g c =
+take_item-requires-clause-seats g c lifetimes live =
     seats_stay c.loop-end.invariant.0.0 c.args.names.now c.args.cells.now c.args.job.now.seats.items c.loop-end.job.seats.items c.requires.named c.requires.seats c.loop-end.invariant.0.1.sets
 
 pub returns-in-Some : goal.returns-in-Some

@@ -11,6 +11,3 @@ returns-in-Full-clause-calls g c = record {
   rows = c.in-Full.ensures.answer.2;
   full = c.in-Full.ensures.answer.3;
 }
-
-pub returns-in-Memory-clause-sees : goal.returns-in-Memory-clause-sees
-returns-in-Memory-clause-sees g c = record { sees = c.in-Memory.ensures.answer.0; all = λ _. c.in-Memory.ensures.own }
