@@ -31,7 +31,7 @@ nothing_more supply.Open = tt
 nothing_more supply.Ended = (refl, refl)
 nothing_more supply.Failed = (refl, refl)
 
-ended_supply : (s : Supply) → is_ended s ≡ true → s ≡ supply.Ended
+pub ended_supply : (s : Supply) → is_ended s ≡ true → s ≡ supply.Ended
 ended_supply supply.Open h = absurd (false≢true h)
 ended_supply supply.Ended h = refl
 ended_supply supply.Failed h = absurd (false≢true h)
@@ -168,7 +168,7 @@ module _ {S : Type 0} (seen : S → SourceSeen) where
     pub whole : why ≡ end_at.End → new.supply ≡ supply.Ended
     pub failed : why ≡ end_at.ReadFault → new.supply ≡ supply.Failed
 
-  ended : {s : S} {new : Lined S} {items : List Item} (why : FeedEnd) → EndsAt seen why (fresh s) new items → Ended s new items why
+  pub ended : {s : S} {new : Lined S} {items : List Item} (why : FeedEnd) → EndsAt seen why (fresh s) new items → Ended s new items why
   ended end_at.End ends = record { bytes = ends.0.taken; took = ends.0.took; stop = ends.0.feed; whole = λ _. ends.1; failed = λ e. absurd (end_fault e) }
   ended (end_at.Cut line) ends = record { bytes = ends.0.taken; took = ends.0.took; stop = ends.0.feed; whole = λ e. absurd (whole_other (end_at.Cut line) refl e); failed = λ e. absurd (fault_other (end_at.Cut line) refl e) }
   ended (end_at.LineLong line) ends = record { bytes = ends.taken; took = ends.took; stop = ends.feed; whole = λ e. absurd (whole_other (end_at.LineLong line) refl e); failed = λ e. absurd (fault_other (end_at.LineLong line) refl e) }

@@ -6,3 +6,7 @@ pub mod Feeds
 pub mod OneSet
 pub mod EachSet
 pub mod ManyFeeds
+pub mod Zips
+pub mod Shares
+pub mod Closings
+pub mod Sources

@@ -1,6 +1,6 @@
 -- A feed beside others: nothing yet, one item more, and its end; and lists of feeds.
 use Rattle.std.proofs.Common.{◌≡◌, ℕ, ◌+◌, List, [], ◌∷◌, ◌++◌, map, Option, Some, None, cond, refl, sym, ap, ◌∙◌, subst}
-use Rattle.std.specs.List.{AllByRecursion, AllZip, IsDistinct, count_by, filter_map}
+use Rattle.std.specs.List.{AllByRecursion, IsDistinct, count_by, filter_map}
 use Rattle.std.specs.Option.{is_none}
 use Rattle.std.proofs.lemmas.List.{map-append}
 use Rattle.std.proofs.lemmas.List.Elements.{filter_map-append}
@@ -28,12 +28,6 @@ use Rattle.feed_gate.proofs.EachSet.{none_ran, all_see_self, all_ran_sees, all_r
 all_push : {X : Type 0} (P : X → Type 0) (xs : List X) (x : X) → AllByRecursion P xs → P x → AllByRecursion P (xs ++ x ∷ [])
 all_push P [] x all here = (here, tt)
 all_push P (y ∷ ys) x all here = (all.0, all_push P ys x all.1 here)
-
-pub zip_append : {X Y : Type 0} (R : X → Y → Type 0) (xs : List X) (ys : List Y) (us : List X) (vs : List Y) → AllZip R xs ys → AllZip R us vs → AllZip R (xs ++ us) (ys ++ vs)
-zip_append R [] [] us vs p q = q
-zip_append R [] (y ∷ ys) us vs p q = absurd p
-zip_append R (x ∷ xs) [] us vs p q = absurd p
-zip_append R (x ∷ xs) (y ∷ ys) us vs p q = (p.0, zip_append R xs ys us vs p.1 q)
 
 module _ {S : Type 0} (seen : S → SourceSeen) where
   -- ---- one item

@@ -30,7 +30,7 @@ front_longer first count xs ys pre before (Some e) (Some (refused.BadBatch line 
 front_longer first count xs ys pre before (Some e) (Some (refused.Full line set entries rows)) h =
     record { front = h.front; begins = prefix_trans h.front xs ys h.begins pre; entries = h.entries; rows = h.rows; full = h.full; own = h.own }
 
-fronts_longer : (first count : ℕ) (xs ys : List (Entry Event Reply)) → IsPrefix xs ys → (name : List ℕ) (before : List Event) (mets : List Met) → ShowFronts first count xs name before mets → ShowFronts first count ys name before mets
+pub fronts_longer : (first count : ℕ) (xs ys : List (Entry Event Reply)) → IsPrefix xs ys → (name : List ℕ) (before : List Event) (mets : List Met) → ShowFronts first count xs name before mets → ShowFronts first count ys name before mets
 fronts_longer first count xs ys pre name before [] h = tt
 fronts_longer first count xs ys pre name before (m ∷ mets) h =
     (front_longer first count xs ys pre before (call_on name m.item) m.refused h.0, fronts_longer first count xs ys pre name (before ++ events_done name (m ∷ [])) mets h.1)

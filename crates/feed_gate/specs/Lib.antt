@@ -7,3 +7,5 @@ pub mod Fates
 pub mod Seats
 pub mod Met
 pub mod Jobs
+pub mod Share
+pub mod SetsRun

@@ -5,6 +5,7 @@
 #![tactic(auto)]
 
 mod calling;
+mod close;
 mod fate;
 mod feed;
 mod gate;
@@ -13,9 +14,12 @@ mod jobs;
 mod report;
 mod run;
 mod set_call;
+mod sets_run;
+mod share;
 
 pub use gate::{Gate, NoGate};
 pub use job::FeedJob;
 pub use jobs::run_feeds;
 pub use report::{FeedEnd, FeedReport, RefusedMessage};
 pub use run::run_feed;
+pub use sets_run::{SetsRun, run_on_sets};

@@ -1,7 +1,7 @@
 use Rattle.std.proofs.Common.{◌++◌, sym, subst}
 use Rattle.std.specs.List.{AllZip}
 use Rattle.feed_gate.specs.Jobs.{RanFeed}
-use Rattle.feed_gate.proofs.ManyFeeds.{zip_append}
+use Rattle.feed_gate.proofs.Zips.{zip_append}
 use Rattle.feed_gate.proofs.jobs.+feeds.Goals as goal
 
 pub run_feeds-returns-in_default : goal.run_feeds-returns-in_default

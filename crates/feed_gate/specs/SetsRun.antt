@@ -1,0 +1,66 @@
+-- What running feeds side by side on sets does, from each feed's first byte to its end.
+use Rattle.std.specs.Prelude.{◌≡◌, ℕ, ◌+◌, ◌≤◌, List, [], ◌∷◌, length, map, Bool, true}
+use Rattle.std.specs.List.{AllByRecursion, AllZip}
+use Rattle.std.specs.Io.KnownBytes.{IsAtEnd}
+use Rattle.mh_io.specs.Source.{SourceSeen}
+use Rattle.mh_io.specs.Source as source
+use Rattle.mh_io.specs.Faults.{Rises}
+use Rattle.mh_io.specs.Limits.{most_bytes}
+use Rattle.held_cell.specs.declared.entry.Entry.{Entry}
+use Rattle.held_cell.specs.Entries.{own_of}
+use Rattle.set_core.specs.declared.event.Event.{Event}
+use Rattle.set_core.specs.declared.reply.Reply.{Reply}
+use Rattle.set_core.specs.Set.{Set, IsSet}
+use Rattle.feed_gate.specs.declared.report.FeedEnd.TheVariants as end_at
+use Rattle.feed_gate.specs.declared.report.FeedReport.{FeedReport}
+use Rattle.feed_gate.specs.Run.{IsEnd}
+use Rattle.feed_gate.specs.Met.{Met, IsMet, refused_of, done_of, events_of, events_done, ShowFronts}
+
+-- A set behind the run of so many feeds: it has the parameters and the terms that it had, its journal is legal and within
+-- its limits, and all entries in it are of these feeds.
+pub record IsRun (feeds : ℕ) (old new : Set) : Type 0 where
+  pub params : new.params ≡ old.params
+  pub terms : new.terms ≡ old.terms
+  pub legal : IsSet new.params new.terms new.journal
+  pub callers : own_of 0 feeds new.journal ≡ new.journal
+
+-- What a feed did to the set of this name, by the set's journal at the end: its entries are its calls, each once and in its
+-- order, without those for which the journal was full, and each full journal was a front of that.
+pub record IsFedBy (feed : ℕ) (mets : List Met) (name : List ℕ) (log : List (Entry Event Reply)) : Type 0 where
+  pub own : events_of (own_of feed 1 log) ≡ events_done name mets
+  pub fronts : ShowFronts feed 1 log name [] mets
+
+-- What became of the bytes of a feed, where `ended` says that they are all: its items by the grammar, each of which met its
+-- set, and what is reported of them.
+pub record RanOver (feed : ℕ) (taken : List ℕ) (ended : Bool) (sets : List Set) (r : FeedReport) : Type 0 where
+  pub mets : List Met
+  pub stop : IsEnd r.end (map (λ m. m.item) mets) taken ended
+  pub met : AllByRecursion (IsMet (map (λ s. s.terms.name) sets)) mets
+  pub done : r.done ≡ done_of mets
+  pub refused : r.refused ≡ refused_of mets
+  pub each : AllByRecursion (λ s. IsFedBy feed mets s.terms.name s.journal) sets
+
+module _ {S : Type 0} (seen : S → SourceSeen) where
+  -- a source that was run: the bytes that were taken from it are done, all of them where it ended, and they are no more
+  -- than 33,554,433; it failed only where a fault was met
+  pub record RanSource (sets : List Set) (feed : ℕ) (old new : S) (r : FeedReport) : Type 0 where
+    pub taken : List ℕ
+    pub ended : Bool
+    pub takes : source.Takes (seen old) (seen new) taken
+    pub few : length taken ≤ most_bytes + 1
+    pub count : (seen old).faults ≤ (seen new).faults
+    pub named : (seen new).name ≡ (seen old).name
+    pub ran : RanOver feed taken ended sets r
+    pub at_end : ended ≡ true → IsAtEnd (seen new).left
+    pub whole : r.end ≡ end_at.End → ended ≡ true
+    pub failed : r.end ≡ end_at.ReadFault → Rises (seen old).faults (seen new).faults
+
+  -- each source was run, with its report, as the feed of the next number
+  abbrev pub AllRan : List Set → ℕ → List S → List S → List FeedReport → Type 0
+  AllRan sets from [] [] [] = Unit {0}
+  AllRan sets from (old ∷ olds) (new ∷ news) (r ∷ reports) = RanSource sets from old new r × AllRan sets (from + 1) olds news reports
+  AllRan sets from _ _ _ = ⊥
+
+  pub record RanOnSets (old_sets new_sets : List Set) (old new : List S) (reports : List FeedReport) : Type 0 where
+    pub sets : AllZip (IsRun (length old)) old_sets new_sets
+    pub feeds : AllRan new_sets 0 old new reports
