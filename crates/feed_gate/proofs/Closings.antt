@@ -1,19 +1,17 @@
 -- Rows of seats from which a cell's seats are taken, from the last to the first, and joined.
-use Rattle.std.proofs.Common.{◌≡◌, ℕ, zero, suc, ◌+◌, ◌≤◌, arith, List, [], ◌∷◌, ◌++◌, length, map, take, drop, Some, refl, sym, ap, ◌∙◌, subst}
-use Rattle.std.specs.List.{AllZip, slice_get}
+use Rattle.std.proofs.Common.{◌≡◌, ℕ, zero, suc, ◌+◌, arith, List, [], ◌∷◌, ◌++◌, length, map, take, drop, Some, refl, sym, ap, ◌∙◌, subst}
+use Rattle.std.specs.List.{slice_get}
 use Rattle.std.proofs.lemmas.Option.{none-some, same_Some}
 use Rattle.std.proofs.lemmas.List.{same_from_push, take_all}
-use mathlib.Core.List.{IsPrefix}
 use Rattle.held_cell.specs.declared.entry.Entry.{Entry}
 use Rattle.held_cell.specs.Entries.{own_of}
 use Rattle.held_cell.specs.Seats.{IsJoined}
 use Rattle.held_cell.proofs.Owns.{own_within}
-use Rattle.held_cell.proofs.Begins.{prefix_trans}
 use Rattle.set_core.specs.declared.event.Event.{Event}
 use Rattle.set_core.specs.declared.reply.Reply.{Reply}
 use Rattle.set_core.specs.Set.{Set}
 use Rattle.feed_gate.specs.Seats.{Cell, Seat}
-use Rattle.feed_gate.specs.Share.{IsFor, AreCellRows, IsLast, AreLasts, IsCut, AreCut, Holds, Gathers, AreKeptIn}
+use Rattle.feed_gate.specs.Share.{IsFor, AreCellRows, AreLasts, AreCut, Holds, Gathers, AreKeptIn}
 use Rattle.feed_gate.proofs.Zips.{zip_get, zip_length, behind_front}
 
 -- ---- a list without what stands at a place and behind it

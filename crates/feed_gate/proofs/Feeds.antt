@@ -1,7 +1,5 @@
 -- A feed from its lines to its end.
-use Rattle.std.proofs.Common.{◌≡◌, ℕ, ◌+◌, ◌<◌, arith, List, [], ◌∷◌, ◌++◌, length, Bool, true, false, map, Option, Some, None, refl, sym, ap, ◌∙◌, subst, append_assoc, append-nil}
-use Rattle.std.specs.List.{count_by, filter_map}
-use Rattle.std.specs.Option.{is_none}
+use Rattle.std.proofs.Common.{◌≡◌, ℕ, ◌+◌, ◌<◌, arith, List, [], ◌++◌, length, Bool, true, false, Option, Some, None, refl, sym, ap, ◌∙◌, subst, append_assoc, append-nil}
 use Rattle.std.specs.Io.KnownBytes.{append_known, prepend_known}
 use Rattle.std.proofs.lemmas.Bool.{false≢true}
 use Rattle.mh_io.specs.Source.{SourceSeen}
@@ -12,18 +10,11 @@ use Rattle.mh_io.specs.Lined.{Lined, CanCome, Took, is_ended, lines_now}
 use Rattle.mh_io.specs.declared.lines_answer.Supply.{Supply}
 use Rattle.mh_io.specs.declared.lines_answer.Supply.TheVariants as supply
 use Rattle.feed_reader.specs.Feed as message
-use Rattle.feed_reader.specs.Feed.{Item, FeedRun, AreItems, items_of, line_of, feed}
+use Rattle.feed_reader.specs.Feed.{Item, FeedRun, AreItems, items_of, feed}
 use Rattle.feed_reader.specs.Answers.{TellsItems, ComesTo, GoesOn, fresh}
-use Rattle.set_core.specs.Set.{Set}
 use Rattle.feed_gate.specs.declared.report.FeedEnd.{FeedEnd}
 use Rattle.feed_gate.specs.declared.report.FeedEnd.TheVariants as end_at
-use Rattle.feed_gate.specs.declared.report.FeedReport.{FeedReport}
-use Rattle.feed_gate.specs.Calls.{after_feed}
-use Rattle.feed_gate.specs.Refused.{refusal}
-use Rattle.feed_gate.specs.Run.{no_report, with_answer, Meets, EndsAt, TakesItem, Takes, RanTo, RanLines, BreaksAt, IsEnd, RanSource}
-use Rattle.feed_gate.specs.Sets.{AreLegal}
-use Rattle.feed_gate.proofs.Reports.{answer_done, answer_refused}
-use Rattle.feed_gate.proofs.Runs.{sets_after, nothing_after, refused-push, done-push, kept_after}
+use Rattle.feed_gate.specs.Run.{EndsAt, BreaksAt, IsEnd}
 
 -- nothing more comes
 nothing_more : (s : Supply) → CanCome s [] (is_ended s)
@@ -83,26 +74,11 @@ alone before items are =
     ap (λ ls. items_of 1 0 ls cut.Whole) (sym (append-nil before)) ∙ are.told [] cut.Whole
     ∙ ap (λ (xs : List Item). let all : FeedRun = record { items = xs; stop = message.Whole } in all) (append-nil items)
 
--- of no bytes
-breaks_at_once : BreaksAt 1 [] [] false
-unfolding lines_behind items_of
-breaks_at_once = record { before = []; behind = []; lines = refl; number = refl; whole = refl; there = λ _. refl; rest = ([], refl, tt) }
-
 some_behind : (xs : List (List ℕ)) (taken : List ℕ) → 0 < length xs → xs ≡ [] → taken ≡ []
 some_behind xs taken some none = absurd (omega (arith, some, ap length none))
 
 module _ {S : Type 0} (seen : S → SourceSeen) where
-  -- ---- one item
-
-  pub met : {first new : Lined S} (told : List Item) (item : Item) (s0 s1 : List Set) (r0 r1 : FeedReport) (why : Option FeedEnd) → TellsItems seen first new (told ++ item ∷ []) × ComesTo seen first new told (line_of item) → Meets item s0 s1 r0 r1 why → Takes seen first new told s0 s1 r0 r1 why
-  met told item s0 s1 r0 r1 None at m = record { item = item; tells = at.0; sets = m.0; report = m.1 }
-  met {first} {new} told item s0 s1 r0 r1 (Some why) at m = record {
-    ends = subst (λ w. EndsAt seen w first new told) (sym m.2) at.1;
-    sets = m.0;
-    report = m.1;
-  }
-
-  -- ---- many items
+  -- ---- nothing yet
 
   took_nothing : (held : Lined S) → Took seen held held []
   took_nothing held = record {
@@ -124,19 +100,6 @@ module _ {S : Type 0} (seen : S → SourceSeen) where
     lines = record { taken = []; took = took_nothing held; lines = λ later ended _. refl; count = omega arith };
     items = no_lines (held.given + 1);
   }
-
-  pub ran_none : (held : Lined S) (sets : List Set) → RanTo seen held held sets sets no_report []
-  ran_none held sets = record { told = tells_none_yet held; sets = sym (nothing_after sets); done = refl; refused = refl }
-
-  pub ran_more : {a b c : Lined S} {s0 s1 s2 : List Set} {r1 r2 : FeedReport} {items : List Item} → RanTo seen a b s0 s1 r1 items → (t : TakesItem seen a c items s1 s2 r1 r2) → RanTo seen a c s0 s2 r2 (items ++ t.item ∷ [])
-  ran_more {a} {b} {c} {s0} {s1} {s2} {r1} {r2} {items} ran t =
-      let answer : refusal s1 t.item ≡ refusal (map (after_feed items) s0) t.item = ap (λ s. refusal s t.item) ran.sets in
-      record {
-        told = t.tells;
-        sets = t.sets ∙ ap (map (after_feed (t.item ∷ []))) ran.sets ∙ sets_after items (t.item ∷ []) s0;
-        done = ap (λ r. r.done) t.report ∙ ap (λ x. (with_answer r1 x).done) answer ∙ answer_done r1 (refusal (map (after_feed items) s0) t.item) ∙ ap (λ n. n + count_by is_none (refusal (map (after_feed items) s0) t.item ∷ [])) ran.done ∙ sym (done-push s0 items t.item);
-        refused = ap (λ r. r.refused) t.report ∙ ap (λ x. (with_answer r1 x).refused) answer ∙ answer_refused r1 (refusal (map (after_feed items) s0) t.item) ∙ ap (λ rs. rs ++ filter_map (λ x. x) (refusal (map (after_feed items) s0) t.item ∷ [])) ran.refused ∙ sym (refused-push s0 items t.item);
-      }
 
   -- ---- the whole
 
@@ -175,37 +138,3 @@ module _ {S : Type 0} (seen : S → SourceSeen) where
   ended (end_at.TooLong taken) ends = record { bytes = ends.0.taken; took = ends.0.took; stop = (ends.0.feed, ends.1); whole = λ e. absurd (whole_other (end_at.TooLong taken) refl e); failed = λ e. absurd (fault_other (end_at.TooLong taken) refl e) }
   ended end_at.ReadFault ends = record { bytes = ends.0.taken; took = ends.0.took; stop = ends.0.feed; whole = λ e. absurd (whole_other end_at.ReadFault refl e); failed = λ _. ends.1 }
   ended (end_at.Memory line) ends = record { bytes = ends.lines.taken; took = ends.lines.took; stop = starved line ends; whole = λ e. absurd (whole_other (end_at.Memory line) refl e); failed = λ e. absurd (fault_other (end_at.Memory line) refl e) }
-
-  -- the items and the end of a feed that was run from its first byte
-  pub over : (s : S) (new : Lined S) (s0 s1 : List Set) (r : FeedReport) → RanLines seen (fresh s) new s0 s1 r → AreLegal s1 → RanSource seen s new.source s0 s1 r
-  over s new s0 s1 r ran legal =
-      let its : Ended s new ran.items r.end = ended r.end ran.ends in
-      record {
-        taken = its.bytes;
-        ended = is_ended new.supply;
-        takes = its.took.takes;
-        few = let few = its.took.few (omega arith) in omega (arith, few, its.took.total);
-        count = its.took.count;
-        named = its.took.named;
-        ran = record { items = ran.items; stop = its.stop; sets = ran.sets; done = ran.done; refused = ran.refused };
-        kept = kept_after ran.items s0 s1 ran.sets legal;
-        at_end = λ e. its.took.at_end refl (ended_supply new.supply e);
-        whole = λ e. ap is_ended (its.whole e);
-        failed = λ e. its.took.failed refl (its.failed e);
-      }
-
-  -- a feed for which there was no memory from the start
-  pub never : (s : S) (sets : List Set) → AreLegal sets → RanSource seen s s sets sets (record no_report { end = end_at.Memory 1 })
-  never s sets legal = record {
-    taken = [];
-    ended = false;
-    takes = nothing_taken (seen s);
-    few = omega arith;
-    count = omega arith;
-    named = refl;
-    ran = record { items = []; stop = breaks_at_once; sets = sym (nothing_after sets); done = refl; refused = refl };
-    kept = record { params = refl; terms = refl; legal = legal };
-    at_end = λ e. absurd (false≢true e);
-    whole = λ e. absurd (whole_other (end_at.Memory 1) refl e);
-    failed = λ e. absurd (fault_other (end_at.Memory 1) refl e);
-  }

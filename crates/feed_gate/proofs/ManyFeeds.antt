@@ -17,10 +17,10 @@ use Rattle.feed_gate.specs.declared.report.RefusedMessage.TheVariants as refused
 use Rattle.feed_gate.specs.declared.report.FeedEnd.{FeedEnd}
 use Rattle.feed_gate.specs.declared.report.FeedReport.{FeedReport}
 use Rattle.feed_gate.specs.declared.job.FeedJob.{FeedJob}
-use Rattle.feed_gate.specs.Run.{no_report, with_answer, Reports, EndsAt}
+use Rattle.feed_gate.specs.Run.{no_report, Reports, EndsAt}
 use Rattle.feed_gate.specs.Fates.{fate_of}
-use Rattle.feed_gate.specs.Met.{Met, IsMet, MeetsFate, refused_of, done_of}
-use Rattle.feed_gate.specs.Jobs.{TakesMessage, Meets, TakesItem, TakesNone, Takes, RanTo, RanFeed}
+use Rattle.feed_gate.specs.Met.{Met, IsMet, MeetsFate}
+use Rattle.feed_gate.specs.Jobs.{Meets, TakesItem, TakesNone, Takes, RanTo, RanFeed}
 use Rattle.feed_gate.proofs.Reports.{answer_done, answer_refused}
 use Rattle.feed_gate.proofs.Feeds.{tells_none_yet}
 use Rattle.feed_gate.proofs.EachSet.{none_ran, all_see_self, all_ran_sees, all_ran_step, all_rest, meets_set, refusal_sees}

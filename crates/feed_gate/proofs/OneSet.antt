@@ -1,5 +1,5 @@
 -- What a feed does to one set, by the seat of it: nothing yet, one message more, and what is seen without a call.
-use Rattle.std.proofs.Common.{◌≡◌, ℕ, List, [], ◌∷◌, ◌++◌, map, Option, Some, None, cond, refl, sym, ap, ◌∙◌, subst, append_assoc, append-nil}
+use Rattle.std.proofs.Common.{◌≡◌, ℕ, List, [], ◌∷◌, ◌++◌, Option, Some, None, cond, refl, sym, ap, ◌∙◌, subst, append_assoc, append-nil}
 use Rattle.std.specs.List.{filter_map}
 use Rattle.std.specs.Option.{is_none}
 use Rattle.std.proofs.lemmas.List.{map-append}
@@ -16,7 +16,7 @@ use Rattle.feed_gate.specs.declared.report.RefusedMessage.{RefusedMessage}
 use Rattle.feed_gate.specs.declared.report.RefusedMessage.TheVariants as refused
 use Rattle.feed_gate.specs.Calls.{call_on}
 use Rattle.feed_gate.specs.Seats.{Seat, Sees, Enters, FindsFull}
-use Rattle.feed_gate.specs.Met.{Met, StepsBy, Steps, event_done, events_done, events_of, WasFull, ShowsFront, ShowFronts}
+use Rattle.feed_gate.specs.Met.{Met, StepsBy, Steps, event_done, events_done, events_of, ShowsFront, ShowFronts}
 use Rattle.feed_gate.specs.Jobs.{RanOnSet}
 
 -- ---- fronts of what was seen

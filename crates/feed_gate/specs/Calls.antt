@@ -1,6 +1,5 @@
--- The calls of a feed on a set, and the journal that they make.
-use Rattle.std.specs.Prelude.{ℕ, List, [], ◌∷◌, Option, None, Result, Ok, if◌then◌else◌}
-use Rattle.std.specs.List.{filter_map}
+-- The calls of a feed on a set.
+use Rattle.std.specs.Prelude.{ℕ, List, Option, None, Result, Ok, if◌then◌else◌}
 use Rattle.std.specs.Result.{result_map_both, result_ok}
 use Rattle.simm_kinds.specs.Order.{same_name}
 use Rattle.crif_reader.specs.declared.fault.CrifFault.{CrifFault}
@@ -10,9 +9,6 @@ use Rattle.feed_reader.specs.declared.message.Message.TheVariants as message
 use Rattle.feed_reader.specs.Feed.{Item, Sent, BadAt}
 use Rattle.set_core.specs.declared.event.Event.{Event}
 use Rattle.set_core.specs.declared.event.Event.TheVariants as event
-use Rattle.set_core.specs.Answer.{answer}
-use Rattle.set_core.specs.Room.{is_full}
-use Rattle.set_core.specs.Set.{Set, with_entry}
 
 -- the set that a message names
 abbrev pub set_of : Message → List ℕ
@@ -44,19 +40,3 @@ event_of (message.Call set moment) = Ok (event.AskCall moment)
 abbrev pub call_on : List ℕ → Item → Option Event
 call_on name (Sent fed) = if same_name (set_of fed.message) name then result_ok (event_of fed.message) else None
 call_on name (BadAt line) = None
-
--- the calls on a set: each message that names it makes its one call, in the feed's order
-abbrev pub calls : List ℕ → List Item → List Event
-calls name items = filter_map (call_on name) items
-
--- a set after a call of caller 0: its answer joins the journal, unless the journal is full
-abbrev pub called : Set → Event → Set
-called s e = if is_full s.journal e then s else with_entry s 0 e (answer s.params s.terms s.journal e)
-
-abbrev pub after_calls : Set → List Event → Set
-after_calls s [] = s
-after_calls s (e ∷ events) = after_calls (called s e) events
-
--- a set after a feed
-abbrev pub after_feed : List Item → Set → Set
-after_feed items s = after_calls s (calls s.terms.name items)

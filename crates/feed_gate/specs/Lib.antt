@@ -1,6 +1,5 @@
 pub mod Numbers
 pub mod Calls
-pub mod Refused
 pub mod Sets
 pub mod Run
 pub mod Fates

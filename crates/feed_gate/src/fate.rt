@@ -52,7 +52,7 @@ pub(crate) fn fate_of(alloc: Global, names: &[Name], fed: Fed) -> Result<Fate, A
 }
 
 /// The set that a message names.
-pub(crate) fn set_of(message: &Message) -> &Name
+fn set_of(message: &Message) -> &Name
     ensures { result.now ≡ set_of message.now }
 {
     match message {
@@ -74,7 +74,7 @@ fn find_set(names: &[Name], name: &Name) -> Option<usize>
 }
 
 /// The event of a message; the fault is that of its block, which is no batch.
-pub(crate) fn event_of(alloc: Global, message: Message) -> Result<Event, CrifFault>
+fn event_of(alloc: Global, message: Message) -> Result<Event, CrifFault>
     ensures { Gives (λ e. e) result (event_of message) }
 {
     match message {

@@ -4,7 +4,6 @@
 //! What a feed did is told set by set and by its own entries, whatever the other feeds did.
 #![tactic(auto)]
 
-mod calling;
 mod close;
 mod fate;
 mod feed;
@@ -12,7 +11,6 @@ mod gate;
 mod job;
 mod jobs;
 mod report;
-mod run;
 mod set_call;
 mod sets_run;
 mod share;
@@ -21,5 +19,4 @@ pub use gate::{Gate, NoGate};
 pub use job::FeedJob;
 pub use jobs::run_feeds;
 pub use report::{FeedEnd, FeedReport, RefusedMessage};
-pub use run::run_feed;
 pub use sets_run::{SetsRun, run_on_sets};

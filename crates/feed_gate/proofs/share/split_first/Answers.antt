@@ -1,4 +1,4 @@
-use Rattle.std.proofs.Common.{◌≡◌, ◌<◌, arith, List, [], ◌∷◌, ◌++◌, length, length-drop, map, take, drop, get_or, Some, IfSome, refl, sym, ap, ◌∙◌, subst}
+use Rattle.std.proofs.Common.{◌≡◌, ◌<◌, arith, [], ◌∷◌, ◌++◌, length, length-drop, map, take, drop, get_or, IfSome, refl, sym, ap, ◌∙◌, subst}
 use Rattle.std.proofs.lemmas.List.{drop-drop, take_all, map_more}
 use Rattle.std.proofs.lemmas.Option.{slice_get_read}
 use Rattle.held_cell.specs.Seats.{IsSeatOf, left_seat, right_seat}
