@@ -2,10 +2,12 @@ ghost use Rattle.std.specs.Prelude.{◌<◌, ◌^◌};
 ghost use Rattle.std.specs.Vec.{vec_len};
 
 use call_desk::{Desk, push_notice};
-use margin_top::{Status, margin_house};
+use margin_top::{NoGate, Status, margin_house};
 use mh_io::{Folder, MemSink};
 use mh_units::Text;
 use std::alloc::{AllocError, Global};
+use std::sync::Wait;
+use std::thread::Threads;
 
 /// The words of a command: a line's pieces between single spaces, so that two spaces have an empty word between them. An
 /// empty line has none.
@@ -21,7 +23,8 @@ fn words_of(alloc: Global, line: &str) -> Result<Vec<String>, AllocError> {
 }
 
 /// Runs the command of a line over a folder, into a sink, with desks. The only error is want of memory.
-pub fn run_line<F: Folder>(
+pub fn run_line<R: Threads + Wait + Sync, F: Folder>(
+    rt: &R,
     alloc: Global,
     line: &str,
     folder: &mut F,
@@ -32,7 +35,16 @@ pub fn run_line<F: Folder>(
     requires { vec_len desks.old < 2 ^ 32 }
 {
     let words = words_of(alloc, line)?;
-    Ok(margin_house(alloc, words.as_slice(), folder, out, desks, retired))
+    Ok(margin_house(
+        rt,
+        alloc,
+        words.as_slice(),
+        folder,
+        out,
+        desks,
+        retired,
+        &NoGate,
+    ))
 }
 
 /// Adds the lines of the notices that a desk was told.

@@ -211,6 +211,7 @@ fn a_desk_is_told_all_calls_or_retired(rt: HostRuntime) -> Result<(), Fail> {
         };
         let mut folder = folder(rt.alloc(), setup)?;
         let outcome = run_with_desks(
+            &rt,
             rt.alloc(),
             case.line,
             &mut folder,

@@ -1,7 +1,9 @@
 use crate::memory_house::{Failing, Outcome, Setup, WELL, run};
 use margin_top::Status;
 use std::alloc::{AllocError, Global};
+use std::sync::Wait;
 use std::test::Fail;
+use std::thread::Threads;
 
 const CALC: &str = "calc params crif";
 
@@ -132,7 +134,7 @@ const FAILING: [(&str, Failing, Status, &str, &str); 15] = [
 #[test]
 fn a_find_or_a_read_that_fails_has_its_line(rt: HostRuntime) -> Result<(), Fail> {
     for (line, failing, status, front, end) in FAILING {
-        let outcome = run(rt.alloc(), line, Setup { failing, ..WELL })?;
+        let outcome = run(&rt, rt.alloc(), line, Setup { failing, ..WELL })?;
         assert!(rt; outcome.is(status, front, end), "{line} {failing:?}");
     }
     Ok(())
@@ -163,7 +165,7 @@ fn pieces_change_nothing(rt: HostRuntime) -> Result<(), Fail> {
                 sink_most,
                 ..WELL
             };
-            let outcome = run(rt.alloc(), line, setup)?;
+            let outcome = run(&rt, rt.alloc(), line, setup)?;
             assert!(rt; outcome.is(status, front, end), "{line} {most}");
         }
     }
@@ -172,7 +174,8 @@ fn pieces_change_nothing(rt: HostRuntime) -> Result<(), Fail> {
 
 /// Whether a command that ends so leaves a front of its text in a sink that takes a byte at a time and fails at each of
 /// its calls in turn.
-fn leaves_fronts(
+fn leaves_fronts<R: Threads + Wait + Sync>(
+    rt: &R,
     alloc: Global,
     line: &str,
     status: Status,
@@ -181,6 +184,7 @@ fn leaves_fronts(
     for (put, _) in text.bytes().enumerate() {
         let failing = Failing::Put(put as u64 + 1);
         let outcome = run(
+            rt,
             alloc,
             line,
             Setup {
@@ -209,7 +213,7 @@ fn a_sink_that_fails_holds_a_front(rt: HostRuntime) -> Result<(), Fail> {
         };
         let text = format!(in rt.alloc(); "{front}{end}")?;
         assert!(rt;
-            leaves_fronts(rt.alloc(), line, status, text.as_str())?,
+            leaves_fronts(&rt, rt.alloc(), line, status, text.as_str())?,
             "{line}"
         );
     }
@@ -225,6 +229,7 @@ fn a_sink_that_takes_nothing_holds_nothing(rt: HostRuntime) -> Result<(), Fail> 
             whole
         };
         let outcome = run(
+            &rt,
             rt.alloc(),
             line,
             Setup {

@@ -9,6 +9,8 @@ mod desks;
 #[cfg(test)]
 mod faults;
 #[cfg(test)]
+mod many_feeds;
+#[cfg(test)]
 mod memory_house;
 #[cfg(test)]
 mod sizes;
@@ -34,6 +36,7 @@ fn run_case<W: Write>(rt: HostRuntime, line: &str, out: &mut W) -> Result<()> {
     desks.push(Box::new(alloc, desk)?)?;
     let mut retired = Vec::new(alloc);
     let status = run_line(
+        &rt,
         alloc,
         line,
         &mut folder,

@@ -7,6 +7,8 @@ use margin_top::Status;
 use mh_io::{MemFolder, MemSink};
 use mh_units::Bytes;
 use std::alloc::{AllocError, Global};
+use std::sync::Wait;
+use std::thread::Threads;
 
 /// Whole parameters. Foreign exchange has two weights, 7.4 for regular currencies and 10 for BRL, and each of its thresholds
 /// is 100,000,000 dollars.
@@ -231,7 +233,8 @@ pub fn folder(alloc: Global, setup: Setup) -> Result<MemFolder, AllocError> {
 }
 
 /// Runs the words of a line over a folder, with desks.
-pub fn run_with_desks(
+pub fn run_with_desks<R: Threads + Wait + Sync>(
+    rt: &R,
     alloc: Global,
     line: &str,
     folder: &mut MemFolder,
@@ -243,7 +246,7 @@ pub fn run_with_desks(
 {
     let failing = puts_that_fail(alloc, setup.failing)?;
     let mut out = MemSink::new(alloc, ROOM, setup.sink_most, failing)?;
-    let status = run_line(alloc, line, folder, &mut out, desks, retired)?;
+    let status = run_line(rt, alloc, line, folder, &mut out, desks, retired)?;
     Ok(Outcome {
         status,
         text: out.bytes().to_vec(alloc)?,
@@ -251,7 +254,8 @@ pub fn run_with_desks(
 }
 
 /// Runs the words of a line over a folder, without desks.
-pub fn run_over(
+pub fn run_over<R: Threads + Wait + Sync>(
+    rt: &R,
     alloc: Global,
     line: &str,
     folder: &mut MemFolder,
@@ -259,10 +263,15 @@ pub fn run_over(
 ) -> Result<Outcome, AllocError> {
     let mut desks = Vec::new(alloc);
     let mut retired = Vec::new(alloc);
-    run_with_desks(alloc, line, folder, setup, &mut desks, &mut retired)
+    run_with_desks(rt, alloc, line, folder, setup, &mut desks, &mut retired)
 }
 
 /// Runs the words of a line over the files, without desks.
-pub fn run(alloc: Global, line: &str, setup: Setup) -> Result<Outcome, AllocError> {
-    run_over(alloc, line, &mut folder(alloc, setup)?, setup)
+pub fn run<R: Threads + Wait + Sync>(
+    rt: &R,
+    alloc: Global,
+    line: &str,
+    setup: Setup,
+) -> Result<Outcome, AllocError> {
+    run_over(rt, alloc, line, &mut folder(alloc, setup)?, setup)
 }

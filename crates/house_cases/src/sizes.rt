@@ -2,17 +2,25 @@ use crate::memory_house::{Outcome, WELL, folder, run_over};
 use margin_top::Status;
 use mh_units::Bytes;
 use std::alloc::{AllocError, Global};
+use std::sync::Wait;
 use std::test::Fail;
+use std::thread::Threads;
 
 const CALC: &str = "calc params crif";
 
 const RUN: &str = "run params terms feed";
 
 /// Runs the words of a line with these bytes in the file of this name.
-fn run_with(alloc: Global, line: &str, name: &str, bytes: Bytes) -> Result<Outcome, AllocError> {
+fn run_with<R: Threads + Wait + Sync>(
+    rt: &R,
+    alloc: Global,
+    line: &str,
+    name: &str,
+    bytes: Bytes,
+) -> Result<Outcome, AllocError> {
     let mut folder = folder(alloc, WELL)?;
     folder.add(alloc, name, bytes, 65_536, Vec::new(alloc))?;
-    run_over(alloc, line, &mut folder, WELL)
+    run_over(rt, alloc, line, &mut folder, WELL)
 }
 
 /// A text, then a line as often.
@@ -70,7 +78,7 @@ const LONG: [(&str, &str, Status, &str, Status, &str); 4] = [
 #[test]
 fn a_file_may_have_as_many_bytes(rt: HostRuntime) -> Result<(), Fail> {
     for (name, line, status, text, _, _) in LONG {
-        let outcome = run_with(rt.alloc(), line, name, comments(rt.alloc(), "")?)?;
+        let outcome = run_with(&rt, rt.alloc(), line, name, comments(rt.alloc(), "")?)?;
         assert!(rt; outcome.is(status, text, ""), "{name}");
     }
     Ok(())
@@ -79,7 +87,7 @@ fn a_file_may_have_as_many_bytes(rt: HostRuntime) -> Result<(), Fail> {
 #[test]
 fn a_file_with_a_byte_too_many_is_too_long(rt: HostRuntime) -> Result<(), Fail> {
     for (name, line, _, _, status, text) in LONG {
-        let outcome = run_with(rt.alloc(), line, name, comments(rt.alloc(), "\n")?)?;
+        let outcome = run_with(&rt, rt.alloc(), line, name, comments(rt.alloc(), "\n")?)?;
         assert!(rt; outcome.is(status, text, ""), "{name}");
     }
     Ok(())
@@ -100,7 +108,7 @@ const ROWS: [(u32, Status, &str); 2] = [
 fn a_file_with_a_row_too_many_is_refused(rt: HostRuntime) -> Result<(), Fail> {
     for (count, status, text) in ROWS {
         let bytes = repeated(rt.alloc(), HEADER, ROW, count)?;
-        let outcome = run_with(rt.alloc(), CALC, "crif", bytes)?;
+        let outcome = run_with(&rt, rt.alloc(), CALC, "crif", bytes)?;
         assert!(rt; outcome.is(status, text, ""), "{count}");
     }
     Ok(())
@@ -132,8 +140,13 @@ fn puts(alloc: Global, count: u32) -> Result<Bytes, AllocError> {
 }
 
 /// Whether a run of the feed is done, and what it prints ends so.
-fn ends(alloc: Global, feed: Bytes, end: &str) -> Result<bool, AllocError> {
-    let outcome = run_with(alloc, RUN, "feed", feed)?;
+fn ends<R: Threads + Wait + Sync>(
+    rt: &R,
+    alloc: Global,
+    feed: Bytes,
+    end: &str,
+) -> Result<bool, AllocError> {
+    let outcome = run_with(rt, alloc, RUN, "feed", feed)?;
     Ok(outcome.status == Status::Done && outcome.text.ends_with(end.as_bytes()))
 }
 
@@ -156,7 +169,7 @@ ROW\tRatesFX\tRisk_FX\tUSD\t\t\t\t\t1.00\nFEED\t0\t3\t0\tEND\n",
 fn a_row_too_many_is_refused(rt: HostRuntime) -> Result<(), Fail> {
     for (trades, end) in BLOCKS {
         let feed = blocks(rt.alloc(), trades)?;
-        assert!(rt; ends(rt.alloc(), feed, end)?, "{trades}");
+        assert!(rt; ends(&rt, rt.alloc(), feed, end)?, "{trades}");
     }
     Ok(())
 }
@@ -165,7 +178,7 @@ fn a_row_too_many_is_refused(rt: HostRuntime) -> Result<(), Fail> {
 fn a_lot_too_many_is_refused(rt: HostRuntime) -> Result<(), Fail> {
     let end = "4096\t0\tPUT\tL4096\tCASH-USD\t1.00\tsame\t=\tOK\n\
 4097\t0\tPUT\tL4097\tCASH-USD\t1.00\tsame\t=\tREFUSED\t9\t4096\nFEED\t0\t4097\t0\tEND\n";
-    assert!(rt; ends(rt.alloc(), puts(rt.alloc(), 4_097)?, end)?);
+    assert!(rt; ends(&rt, rt.alloc(), puts(rt.alloc(), 4_097)?, end)?);
     Ok(())
 }
 
@@ -177,6 +190,6 @@ REFUSED\t0\t65536\t4\tALPHA\t65535\t0\n\
 REFUSED\t0\t65537\t4\tALPHA\t65535\t0\n\
 FEED\t0\t65535\t2\tEND\n";
     let feed = repeated(rt.alloc(), "", b"ASK\tALPHA\n", 65_537)?;
-    assert!(rt; ends(rt.alloc(), feed, end)?);
+    assert!(rt; ends(&rt, rt.alloc(), feed, end)?);
     Ok(())
 }

@@ -3,7 +3,7 @@
 #![tactic(auto)]
 
 use call_desk::{Desk, SinkDesk};
-use margin_top::{Status, margin_house};
+use margin_top::{NoGate, Status, margin_house};
 use mh_io::{RealFolder, RealSink};
 use std::alloc::AllocError;
 use std::process::ExitCode;
@@ -29,12 +29,14 @@ fn run(rt: HostRuntime, words: &[String]) -> Result<Status, AllocError> {
     desks.push(Box::new(alloc, desk)?)?;
     let mut retired = Vec::new(alloc);
     Ok(margin_house(
+        &rt,
         alloc,
         words,
         &mut folder,
         &mut out,
         &mut desks,
         &mut retired,
+        &NoGate,
     ))
 }
 

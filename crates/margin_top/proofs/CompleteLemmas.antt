@@ -1,5 +1,5 @@
 -- A calculation for which all is well succeeds, or finds no memory.
-use Rattle.std.proofs.Common.{◌≡◌, ℕ, List, Some, None, Result, Ok, Err, IsOkAnd, ap, sym, refl, subst, inl, inr, ◌∙◌}
+use Rattle.std.proofs.Common.{◌≡◌, ℕ, List, Some, Result, Ok, Err, IsOkAnd, ap, sym, refl, subst, inl, inr, ◌∙◌}
 use Rattle.mh_io.specs.Faults.{Rises}
 use Rattle.mh_io.specs.Sink.{SinkSeen}
 use Rattle.mh_io.specs.Folder.{FolderSeen}

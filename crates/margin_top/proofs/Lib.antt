@@ -3,6 +3,7 @@ pub mod PrintLemmas
 pub mod CalcLemmas
 pub mod CompleteLemmas
 pub mod RunLemmas
+pub mod FeedLemmas
 pub mod KnownFiles
 pub mod LongLines
 pub mod FeedStops

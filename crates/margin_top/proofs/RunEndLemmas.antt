@@ -17,7 +17,7 @@ use Rattle.margin_top.specs.declared.run_printing.Printed.TheVariants as printed
 use Rattle.margin_top.specs.Printed.{Got, GotLine}
 use Rattle.margin_top.specs.Notices.{notices}
 use Rattle.margin_top.specs.Desks.{Desks}
-use Rattle.margin_top.specs.Run.{run_text, status_of_end, RunLeaves}
+use Rattle.margin_top.specs.Run.{run_text, status_of_end, end_of, RunLeaves}
 use Rattle.margin_top.specs.RunStages.{TextGoes, status_at_end}
 use Rattle.margin_top.proofs.DeskLemmas.{told, one_failed, one_wanted, all_stay}
 
@@ -36,35 +36,35 @@ line_of text old new printed.Cut front = record {
   cut = λ _. front.rose;
 }
 
-module _ {B : Type 0} (sets : List Set) (r : FeedReport) (old new : SinkSeen) (d : Desks B) (published : Published) (outcomes : List (Outcome B))
+module _ {B : Type 0} (sets : List Set) (reports : List FeedReport) (old new : SinkSeen) (d : Desks B) (published : Published) (outcomes : List (Outcome B))
     (h : Publishes d.seen (notices sets) d.before d.after d.retired_before d.retired published outcomes) where
   -- the feed ended whole, and all of the text is out
-  all_out : r.end ≡ end_at.End → Got old new (run_text sets r) → (failed memory : Bool)
+  all_out : end_of reports ≡ end_at.End → Got old new (run_text sets reports) → (failed memory : Bool)
       → nat_lt 0 published.failed ≡ failed → nat_lt 0 published.memory ≡ memory
-      → RunLeaves sets r old new d (cond failed status.Desk (cond memory status.Memory status.Done))
+      → RunLeaves sets reports old new d (cond failed status.Desk (cond memory status.Memory status.Done))
   all_out whole got true memory some also = (whole, got, one_failed (notices sets) d published outcomes h (grind (arith, nat_tests)))
   all_out whole got false true none some =
       inr (inr (record { whole = whole; printed = got; told = one_wanted (notices sets) d published outcomes h (grind (arith, nat_tests)) (grind (arith, nat_tests)) }))
   all_out whole got false false none also =
       (whole, got, record { told = told (notices sets) d published outcomes h; stay = all_stay (notices sets) d published outcomes h (grind (arith, nat_tests)) (grind (arith, nat_tests)) })
 
-  pub leaves_at : (end : FeedEnd) (p : Printed) → r.end ≡ end → TextGoes (run_text sets r) old new p
-      → RunLeaves sets r old new d (status_at_end end p published)
+  pub leaves_at : (end : FeedEnd) (p : Printed) → end_of reports ≡ end → TextGoes (run_text sets reports) old new p
+      → RunLeaves sets reports old new d (status_at_end end p published)
   leaves_at end_at.End printed.Whole e text = all_out e text (nat_lt 0 published.failed) (nat_lt 0 published.memory) refl refl
   leaves_at end_at.End printed.Cut e text = (e, text, told (notices sets) d published outcomes h)
-  leaves_at (end_at.Cut line) p e text = (ap status_of_end e, line_of (run_text sets r) old new p text, told (notices sets) d published outcomes h)
-  leaves_at (end_at.LineLong line) p e text = (ap status_of_end e, line_of (run_text sets r) old new p text, told (notices sets) d published outcomes h)
-  leaves_at (end_at.TooLong taken) p e text = (ap status_of_end e, line_of (run_text sets r) old new p text, told (notices sets) d published outcomes h)
-  leaves_at end_at.ReadFault p e text = (e, line_of (run_text sets r) old new p text, told (notices sets) d published outcomes h)
+  leaves_at (end_at.Cut line) p e text = (ap status_of_end e, line_of (run_text sets reports) old new p text, told (notices sets) d published outcomes h)
+  leaves_at (end_at.LineLong line) p e text = (ap status_of_end e, line_of (run_text sets reports) old new p text, told (notices sets) d published outcomes h)
+  leaves_at (end_at.TooLong taken) p e text = (ap status_of_end e, line_of (run_text sets reports) old new p text, told (notices sets) d published outcomes h)
+  leaves_at end_at.ReadFault p e text = (e, line_of (run_text sets reports) old new p text, told (notices sets) d published outcomes h)
   leaves_at (end_at.Memory line) p e text =
-      inr (inl (record { short = ap status_of_end e; printed = line_of (run_text sets r) old new p text; told = told (notices sets) d published outcomes h }))
+      inr (inl (record { short = ap status_of_end e; printed = line_of (run_text sets reports) old new p text; told = told (notices sets) d published outcomes h }))
 
 -- the sets lent to the telling are those of the run
-pub end_leaves : {B : Type 0} (sets lent : List Set) (r : FeedReport) (old new : SinkSeen) (d : Desks B) (published : Published) (p : Printed) (s : Status)
+pub end_leaves : {B : Type 0} (sets lent : List Set) (reports : List FeedReport) (old new : SinkSeen) (d : Desks B) (published : Published) (p : Printed) (s : Status)
     → lent ≡ sets
     → (outcomes : List (Outcome B)) × Publishes d.seen (notices lent) d.before d.after d.retired_before d.retired published outcomes
-    → TextGoes (run_text sets r) old new p → s ≡ status_at_end r.end p published → RunLeaves sets r old new d s
-end_leaves sets lent r old new d published p s same told text is =
-    subst (RunLeaves sets r old new d) (sym is)
-    (leaves_at sets r old new d published told.0
-    (subst (λ xs. Publishes d.seen (notices xs) d.before d.after d.retired_before d.retired published told.0) same told.1) r.end p refl text)
+    → TextGoes (run_text sets reports) old new p → s ≡ status_at_end (end_of reports) p published → RunLeaves sets reports old new d s
+end_leaves sets lent reports old new d published p s same told text is =
+    subst (RunLeaves sets reports old new d) (sym is)
+    (leaves_at sets reports old new d published told.0
+    (subst (λ xs. Publishes d.seen (notices xs) d.before d.after d.retired_before d.retired published told.0) same told.1) (end_of reports) p refl text)

@@ -1,12 +1,10 @@
 -- The stages of a run, one after the other.
-use Rattle.std.proofs.Common.{◌≡◌, ℕ, ◌≤◌, arith, List, [], ◌∷◌, ◌++◌, map, length, take, drop, zero, suc, append-nil, false, Result, Ok, Err, Some, IsErrAnd, refl, sym, ap, ◌∙◌, subst, ⊎_elim}
-use Rattle.std.specs.List.{AllByRecursion, IsDistinct}
+use Rattle.std.proofs.Common.{◌≡◌, ℕ, ◌≤◌, arith, All, List, [], ◌∷◌, map, length, take, zero, suc, false, Result, Ok, Err, IsErrAnd, Some, refl, sym, ap, ◌∙◌, subst, ⊎_elim}
+use Rattle.std.specs.List.{AllByRecursion, AllZip, IsDistinct}
 use Rattle.std.proofs.lemmas.Bool.{cases_lt}
-use Rattle.std.proofs.lemmas.List.{length-map, length-take-le, drop_all, take_all}
-use Rattle.mh_io.specs.Faults.{Rises}
-use Rattle.mh_io.specs.Folder.{told_after_find, FolderSeen}
-use Rattle.mh_io.specs.declared.folder.FindRefused.{FindRefused}
-use Rattle.mh_io.specs.declared.folder.FindRefused.TheVariants as find
+use Rattle.std.proofs.lemmas.List.{length-map, length-take-le, take_all}
+use Rattle.std.proofs.lemmas.List.Elements.{All-nil, All-cons}
+use Rattle.mh_io.specs.Folder.{FolderSeen}
 use Rattle.simm_kinds.specs.Order.{same_name}
 use Rattle.simm_rules.specs.Params.{Params}
 use Rattle.simm_params.specs.Grammar.{params_of}
@@ -14,22 +12,18 @@ use Rattle.csa_terms.specs.Grammar.{terms_of}
 use Rattle.csa_terms.specs.Terms.{Agreement, AreTerms}
 use Rattle.set_core.specs.Set.{Set}
 use Rattle.feed_gate.specs.declared.report.FeedReport.{FeedReport}
-use Rattle.feed_gate.specs.Sets.{AreApart, AreKept}
-use Rattle.margin_top.specs.declared.fault.FileFault.{FileFault}
-use Rattle.margin_top.specs.Faults.{fault_of_find}
-use Rattle.margin_top.specs.Files.{no_deeds, with_reading, IsRead, FindEnds}
-use Rattle.margin_top.specs.Run.{start, HasInputs, IsFed, HasRun}
-use Rattle.margin_top.specs.RunStages.{FeedEnds}
-use Rattle.margin_top.proofs.FileLemmas.{did_ask, did_nothing, did_more}
+use Rattle.feed_gate.specs.Sets.{AreApart}
+use Rattle.feed_gate.specs.SetsRun.{IsRun}
+use Rattle.margin_top.specs.declared.run_files.Outcome.{Outcome}
+use Rattle.margin_top.specs.declared.fault.InputFile.TheVariants as input
+use Rattle.margin_top.specs.declared.fault.Fault.{Fault}
+use Rattle.margin_top.specs.declared.fault.Fault.TheVariants as fault
+use Rattle.margin_top.specs.Files.{no_deeds, with_reading, IsRead}
+use Rattle.margin_top.specs.FeedFiles.{FeedsFail, AreFed}
+use Rattle.margin_top.specs.Run.{start, HasInputs, HasRun, RunCause}
+use Rattle.margin_top.specs.RunStages.{RunFilesEnd}
+use Rattle.margin_top.proofs.FileLemmas.{did_more}
 use Rattle.margin_top.proofs.CalcLemmas.{whole_before}
-
--- a feed that wasn't found
-pub feed_missing : (S : Type 0) (old new : FolderSeen) (name : List ℕ) (old_sets new_sets : List Set) (r : FindRefused) (result : Result FeedReport FileFault) → IsErrAnd result (λ e. e ≡ fault_of_find r) → new.told ≡ told_after_find {S = S} (Err r) name old.told → (r ≡ find.Failed → Rises old.find_faults new.find_faults) → FeedEnds old new name old_sets new_sets result
-feed_missing S old new name old_sets new_sets r (Ok report) h told rose = absurd h
-feed_missing S old new name old_sets new_sets find.Failed (Err e) h told rose =
-    subst (FindEnds old new name) (sym h) (record { did = told ∙ did_ask old.told name; rose = rose refl })
-feed_missing S old new name old_sets new_sets find.Memory (Err e) h told rose =
-    subst (FindEnds old new name) (sym h) (told ∙ did_nothing old.told)
 
 -- both files were read
 pub inputs_read : (old mid new : FolderSeen) (pn tn : List ℕ) (p : Params) (agreements : List Agreement) → IsRead old mid no_deeds pn (λ bytes. params_of bytes ≡ Some p) → IsRead mid new no_deeds tn (λ bytes. terms_of bytes ≡ Ok agreements) → old.find_faults ≤ new.find_faults → old.read_faults ≤ new.read_faults → HasInputs pn tn old new p agreements
@@ -87,17 +81,36 @@ start_terms : (p : Params) (agreements : List Agreement) → map (λ s. s.terms)
 start_terms p [] = refl
 start_terms p (t ∷ ts) = ap (λ us. t ∷ us) (start_terms p ts)
 
--- all items of a list were written
-pub written : {X : Type 0} (new old : List X) (n : ℕ) → length new ≡ length old → n ≡ length old → take n (new ++ drop (length new) old) ≡ new
-written new old n same e =
-    ap (λ xs. take n (new ++ xs)) (drop_all (length new) old (omega (arith, same)))
-    ∙ ap (take n) (append-nil new)
-    ∙ take_all n new (omega (arith, same, e))
+-- the sets of the terms have no calls yet
+pub none_called : (p : Params) (agreements : List Agreement) → All (λ s. s.journal ≡ []) (map (start p) agreements)
+none_called p [] = All-nil (λ (s : Set). s.journal ≡ [])
+none_called p (t ∷ ts) = All-cons (λ (s : Set). s.journal ≡ []) (start p t) (map (start p) ts) refl (none_called p ts)
 
--- the feed was run on the sets of the terms
-pub has_run : (old mid new : FolderSeen) (pn tn fn : List ℕ) (p : Params) (agreements : List Agreement) (started sets : List Set) (r : FeedReport) → HasInputs pn tn old mid p agreements → started ≡ map (start p) agreements → IsFed fn mid new started sets r → AreApart started → AreKept started sets → HasRun pn tn fn old new sets r × (agreements ≡ map (λ s. s.terms) sets) × (length sets ≤ 16)
-has_run old mid new pn tn fn p agreements started sets r inputs begun fed apart kept = (
-  record { p = p; agreements = agreements; mid = mid; inputs = inputs; fed = subst (λ ss. IsFed fn mid new ss sets r) begun fed; legal = kept.legal },
-  sym (kept.terms ∙ ap (map (λ s. s.terms)) begun ∙ start_terms p agreements),
-  omega (arith, apart.few, ap length kept.terms, length-map sets (λ (s : Set). s.terms), length-map started (λ (s : Set). s.terms)),
-)
+-- sets that were run have the terms that they had
+run_terms : (n : ℕ) (old new : List Set) → AllZip (IsRun n) old new → map (λ s. s.terms) new ≡ map (λ s. s.terms) old
+run_terms n [] [] all = refl
+run_terms n [] (t ∷ new) all = absurd all
+run_terms n (s ∷ old) [] all = absurd all
+run_terms n (s ∷ old) (t ∷ new) all = ap (λ u. u ∷ map (λ (x : Set). x.terms) new) all.0.terms ∙ ap (λ us. s.terms ∷ us) (run_terms n old new all.1)
+
+-- the feeds were run on the sets of the terms
+pub has_run : (old mid new : FolderSeen) (pn tn : List ℕ) (fns : List (List ℕ)) (p : Params) (agreements : List Agreement) (started sets : List Set) (reports : List FeedReport) → HasInputs pn tn old mid p agreements → started ≡ map (start p) agreements → AreApart started → AreFed fns mid new started sets reports → HasRun pn tn fns old new sets reports × (agreements ≡ map (λ s. s.terms) sets) × (length sets ≤ 16)
+has_run old mid new pn tn fns p agreements started sets reports inputs begun apart fed =
+    let same = run_terms (length fns) started sets fed.sets in (
+      record { p = p; agreements = agreements; mid = mid; inputs = inputs; fed = subst (λ ss. AreFed fns mid new ss sets reports) begun fed },
+      sym (same ∙ ap (map (λ s. s.terms)) begun ∙ start_terms p agreements),
+      omega (arith, apart.few, ap length same, length-map sets (λ (s : Set). s.terms), length-map started (λ (s : Set). s.terms)),
+    )
+
+-- no feed was run
+pub no_run : (old mid new : FolderSeen) (pn tn : List ℕ) (fns : List (List ℕ)) (p : Params) (agreements : List Agreement) (f : Fault) → HasInputs pn tn old mid p agreements → FeedsFail fns mid new f → RunCause pn tn fns old new f
+no_run old mid new pn tn fns p agreements (fault.OfFile input.Params name f) inputs fails = absurd fails
+no_run old mid new pn tn fns p agreements (fault.OfFile input.Crif name f) inputs fails = absurd fails
+no_run old mid new pn tn fns p agreements (fault.OfFile input.Terms name f) inputs fails = absurd fails
+no_run old mid new pn tn fns p agreements (fault.OfFile input.Feed name f) inputs fails = record { p = p; agreements = agreements; mid = mid; inputs = inputs; fails = fails }
+no_run old mid new pn tn fns p agreements (fault.OfBatch line) inputs fails = absurd fails
+no_run old mid new pn tn fns p agreements fault.Memory inputs fails = record { p = p; agreements = agreements; mid = mid; inputs = inputs; fails = fails }
+
+pub failed_run : (old new : FolderSeen) (pn tn : List ℕ) (fns : List (List ℕ)) (f : Fault) (result : Result Outcome Fault) → IsErrAnd result (λ e. e ≡ f) → RunCause pn tn fns old new f → RunFilesEnd pn tn fns old new result
+failed_run old new pn tn fns f (Ok run) is cause = absurd is
+failed_run old new pn tn fns f (Err e) is cause = subst (RunCause pn tn fns old new) (sym is) cause

@@ -1,5 +1,5 @@
 -- What a margin calculation does: for each status what happened, and what was printed.
-use Rattle.std.specs.Prelude.{ℕ, ◌≡◌, List, Some, None, ◌⊎◌, Result, Ok, Err}
+use Rattle.std.specs.Prelude.{ℕ, ◌≡◌, List, None, ◌⊎◌, Result, Ok, Err}
 use Rattle.mh_io.specs.Folder.{FolderSeen}
 use Rattle.mh_io.specs.Sink.{SinkSeen}
 use Rattle.simm_kinds.specs.declared.row.TradeRows.{TradeRows}

@@ -107,10 +107,10 @@ RefusesNone bytes line = ⊥
 abbrev pub FileEnds : FolderSeen → FolderSeen → List ℕ → Result (List ℕ) FileFault → Type 0
 FileEnds old new name result = ValueEnds (λ read bytes. read ≡ bytes) RefusesNone old new name result
 
--- what finding a file does where no source of it comes: it is missing, or memory ran out
-abbrev pub FindEnds : FolderSeen → FolderSeen → List ℕ → FileFault → Type 0
-FindEnds old new name why.Missing = IsMissing old new no_deeds name
-FindEnds old new name why.Unread = ⊥
-FindEnds old new name why.Long = ⊥
-FindEnds old new name (why.Refused line) = ⊥
-FindEnds old new name why.Memory = Did old new no_deeds
+-- what finding a file does where no source of it comes, after what was done before: it is missing, or memory ran out
+abbrev pub FindEnds : FolderSeen → FolderSeen → Deeds → List ℕ → FileFault → Type 0
+FindEnds old new before name why.Missing = IsMissing old new before name
+FindEnds old new before name why.Unread = ⊥
+FindEnds old new before name why.Long = ⊥
+FindEnds old new before name (why.Refused line) = ⊥
+FindEnds old new before name why.Memory = Did old new before

@@ -22,7 +22,7 @@ pub record EndsAtWords {B : Type 0} (old new : FolderSeen) (out_old out_new : Si
 abbrev pub FormEnds : {B : Type 0} → Option Form → FolderSeen → FolderSeen → SinkSeen → SinkSeen → Desks B → Status → Type 0
 FormEnds None old new out_old out_new d s = EndsAtWords old new out_old out_new d s
 FormEnds (Some (Calc params crif)) old new out_old out_new d s = CalcEnds params crif old new out_old out_new s × AreUntold d
-FormEnds (Some (Run params terms feed)) old new out_old out_new d s = RunEnds params terms feed old new out_old out_new d s
+FormEnds (Some (Run params terms feeds)) old new out_old out_new d s = RunEnds params terms feeds old new out_old out_new d s
 
 abbrev pub HouseEnds : {B : Type 0} → List (List ℕ) → FolderSeen → FolderSeen → SinkSeen → SinkSeen → Desks B → Status → Type 0
 HouseEnds words old new out_old out_new d s = FormEnds (form_of words) old new out_old out_new d s

@@ -12,6 +12,7 @@ pub mod Calc
 pub mod Notices
 pub mod Desks
 pub mod Complete
+pub mod FeedFiles
 pub mod Run
 pub mod RunStages
 pub mod House

@@ -4,30 +4,29 @@ use Rattle.mh_io.specs.Folder.{FolderSeen}
 use Rattle.mh_io.specs.Sink.{SinkSeen}
 use Rattle.set_core.specs.Set.{Set}
 use Rattle.feed_gate.specs.declared.report.FeedEnd.{FeedEnd}
-use Rattle.feed_gate.specs.declared.report.FeedReport.{FeedReport}
 use Rattle.call_desk.specs.declared.publishing.Published.{Published}
 use Rattle.margin_top.specs.declared.status.Status.{Status}
 use Rattle.margin_top.specs.declared.status.Status.TheVariants as status
+use Rattle.margin_top.specs.declared.feed_files.FeedsRun.{FeedsRun}
 use Rattle.margin_top.specs.declared.run_files.Outcome.{Outcome}
-use Rattle.margin_top.specs.declared.fault.FileFault.{FileFault}
 use Rattle.margin_top.specs.declared.fault.Fault.{Fault}
 use Rattle.margin_top.specs.declared.run_printing.Printed.{Printed}
 use Rattle.margin_top.specs.declared.run_printing.Printed.TheVariants as printed
-use Rattle.margin_top.specs.Files.{FindEnds}
+use Rattle.margin_top.specs.FeedFiles.{FeedsFail, AreFed}
 use Rattle.margin_top.specs.Printed.{Got, GotFront}
-use Rattle.margin_top.specs.Run.{IsFed, HasRun, RunCause, status_of_end}
+use Rattle.margin_top.specs.Run.{HasRun, RunCause, status_of_end}
 
--- what running a feed's file does
-abbrev pub FeedEnds : FolderSeen → FolderSeen → List ℕ → List Set → List Set → Result FeedReport FileFault → Type 0
-FeedEnds old new name old_sets new_sets (Ok r) = IsFed name old new old_sets new_sets r
-FeedEnds old new name old_sets new_sets (Err f) = FindEnds old new name f
+-- what running the feeds does
+abbrev pub FeedsEnd : FolderSeen → FolderSeen → List (List ℕ) → List Set → Result FeedsRun Fault → Type 0
+FeedsEnd old new names sets (Ok run) = AreFed names old new sets run.sets.items run.reports.items
+FeedsEnd old new names sets (Err f) = FeedsFail names old new f
 
 -- what the files of a run do; there are at most sixteen sets, and they keep their terms
-abbrev pub RunFilesEnd : List ℕ → List ℕ → List ℕ → FolderSeen → FolderSeen → Result Outcome Fault → Type 0
-RunFilesEnd params_name terms_name feed_name old new (Ok run) =
-    HasRun params_name terms_name feed_name old new run.sets.items run.report
+abbrev pub RunFilesEnd : List ℕ → List ℕ → List (List ℕ) → FolderSeen → FolderSeen → Result Outcome Fault → Type 0
+RunFilesEnd params_name terms_name feed_names old new (Ok run) =
+    HasRun params_name terms_name feed_names old new run.sets.items run.reports.items
     × (run.terms ≡ map (λ s. s.terms) run.sets.items) × (length run.sets.items ≤ 16)
-RunFilesEnd params_name terms_name feed_name old new (Err f) = RunCause params_name terms_name feed_name old new f
+RunFilesEnd params_name terms_name feed_names old new (Err f) = RunCause params_name terms_name feed_names old new f
 
 -- what putting the text out does
 abbrev pub TextGoes : List ℕ → SinkSeen → SinkSeen → Printed → Type 0
@@ -40,7 +39,7 @@ status_of_desks published =
     if nat_lt 0 published.failed then status.Desk
     else (if nat_lt 0 published.memory then status.Memory else status.Done)
 
--- the first that is not Done: of the feed's end, of the sink, of the desks
+-- the first that is not Done: of the feeds' ends, of the sink, of the desks
 abbrev pub first_status : Status → Printed → Published → Status
 first_status status.Done printed.Whole published = status_of_desks published
 first_status status.Done printed.Cut published = status.Write

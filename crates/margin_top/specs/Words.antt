@@ -1,21 +1,27 @@
 -- Which words are a command.
-use Rattle.std.specs.Prelude.{ℕ, List, [], ◌∷◌, Option, Some, None, Bool, false, ◌&&◌, not, ◌==◌, codes, if◌then◌else◌}
+use Rattle.std.specs.Prelude.{ℕ, List, [], ◌∷◌, length, Option, Some, None, Bool, false, ◌&&◌, not, ◌==◌, nat_le, codes, if◌then◌else◌}
+use Rattle.std.specs.List.{list_all}
 use Rattle.std.specs.Str.{bytes_eq}
 
 -- the forms of a command, each with its file words
 pub data Form : Type 0 where
   Calc : (params crif : List ℕ) → Form
-  Run : (params terms feed : List ℕ) → Form
+  Run : (params terms : List ℕ) (feeds : List (List ℕ)) → Form
 
 -- a word that names something: it isn't empty, and doesn't begin with `-`
 abbrev pub is_name_word : List ℕ → Bool
 is_name_word [] = false
 is_name_word (b ∷ bs) = not (b == 45)
 
--- `calc PARAMS CRIF` and `run PARAMS TERMS FEED`; all other words are no form
+-- words that name 1 to 32 feeds
+abbrev pub are_feed_words : List (List ℕ) → Bool
+are_feed_words words = not (length words == 0) && nat_le (length words) 32 && list_all is_name_word words
+
+-- `calc PARAMS CRIF` and `run PARAMS TERMS FEED..` with 1 to 32 feeds; all other words are no form
 abbrev pub form_of : List (List ℕ) → Option Form
 form_of (command ∷ params ∷ crif ∷ []) =
     if bytes_eq command (codes "calc") && is_name_word params && is_name_word crif then Some (Calc params crif) else None
-form_of (command ∷ params ∷ terms ∷ feed ∷ []) =
-    if bytes_eq command (codes "run") && is_name_word params && is_name_word terms && is_name_word feed then Some (Run params terms feed) else None
+form_of (command ∷ params ∷ terms ∷ feed ∷ feeds) =
+    if bytes_eq command (codes "run") && is_name_word params && is_name_word terms && are_feed_words (feed ∷ feeds)
+    then Some (Run params terms (feed ∷ feeds)) else None
 form_of _ = None

@@ -13,24 +13,30 @@ use crate::running::run;
 use crate::status::Status;
 use crate::words::{Command, command_of};
 use call_desk::Desk;
+use feed_gate::Gate;
 use mh_io::{Folder, Sink};
 use std::alloc::Global;
+use std::sync::Wait;
+use std::thread::Threads;
 
-/// All that the program does: `calc PARAMS CRIF` prints the margin of one batch, as `calc` says; `run PARAMS TERMS FEED`
-/// runs a feed on the netting sets of the terms, prints the journals, and tells each desk the calls that were made. Words
-/// that are no form of a command are status `Words`, with one fault line; then the folder isn't asked for anything.
+/// All that the program does: `calc PARAMS CRIF` prints the margin of one batch, as `calc` says; `run PARAMS TERMS FEED..`
+/// runs 1 to 32 feeds at the same time on the netting sets of the terms, prints the journals and what became of the feeds,
+/// and tells each desk the calls that were made. Words that are no form of a command are status `Words`, with one fault
+/// line; then the folder isn't asked for anything. The gate is called before and after each call of a feed on a set.
 ///
-/// A run that reached its feed tells each desk the notices of all calls, set after set, each set's in the order of its
+/// A run that reached its feeds tells each desk the notices of all calls, set after set, each set's in the order of its
 /// journal, unless memory ran out for the text or for the notices (`Memory`). A desk that fails is told nothing more and is
-/// moved to the end of `retired`; the caller drops it. The status is then `Desk`, but for a feed that didn't end whole and for
+/// moved to the end of `retired`; the caller drops it. The status is then `Desk`, but for a feed that didn't end whole, the first of which has its status, and for
 /// a sink that failed, whose statuses come first. At every other end no desk is told anything, and both lists stand.
-pub fn margin_house<F: Folder, K: Sink>(
+pub fn margin_house<R: Threads + Wait + Sync, F: Folder, K: Sink, G: Gate>(
+    rt: &R,
     alloc: Global,
     words: &[String],
     folder: &mut F,
     out: &mut K,
     desks: &mut Vec<Box<dyn Desk>>,
     retired: &mut Vec<Box<dyn Desk>>,
+    gate: &G,
 ) -> Status
     requires few_desks { vec_len desks.old < 2 ^ 32 }
     ensures counts { KeepsCounts (F.seen folder.old) (F.seen folder.new) }
@@ -45,7 +51,7 @@ pub fn margin_house<F: Folder, K: Sink>(
 {
     match command_of(words) {
         Some(Command::Calc(files)) => calc(alloc, files.params, files.crif, folder, out),
-        Some(Command::Run(files)) => run(alloc, files, folder, out, desks, retired),
+        Some(Command::Run(files)) => run(rt, alloc, files, folder, out, desks, retired, gate),
         None => {
             print_line(out, FaultLine::Whole(b"FAULT\tWORDS\n"));
             Status::Words

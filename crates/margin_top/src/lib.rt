@@ -4,6 +4,7 @@
 mod calculation;
 mod fault;
 mod fault_line;
+mod feed_files;
 mod file;
 mod house;
 mod margin_of;
@@ -18,6 +19,7 @@ mod value_files;
 mod words;
 
 pub use calculation::calc;
+pub use feed_gate::{Gate, NoGate};
 pub use house::margin_house;
 pub use margin_text::journal_text;
 pub use status::Status;

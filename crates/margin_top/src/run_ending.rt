@@ -1,8 +1,8 @@
-//! How a run ends that reached its feed: it is printed, the desks are told, and then it has a status.
+//! How a run ends that reached its feeds: it is printed, the desks are told, and then it has a status.
 ghost use Rattle.std.specs.Prelude.{◌≡◌, ◌<◌, ◌≤◌, ◌^◌, map, length};
 ghost use Rattle.std.specs.Vec.{vec_len};
 ghost use Rattle.margin_top.specs.Desks.{desks_of};
-ghost use Rattle.margin_top.specs.Run.{status_of_end, RunLeaves};
+ghost use Rattle.margin_top.specs.Run.{status_of_end, end_of, RunLeaves};
 ghost use Rattle.margin_top.specs.RunStages.{status_of_desks, status_at_end};
 
 use crate::run_files::Outcome;
@@ -10,7 +10,7 @@ use crate::run_printing::{Printed, print_run};
 use crate::status::Status;
 use crate::telling::tell_desks;
 use call_desk::{Desk, Published};
-use feed_gate::FeedEnd;
+use feed_gate::{FeedEnd, FeedReport};
 use mh_io::Sink;
 use std::alloc::Global;
 
@@ -26,6 +26,18 @@ fn status_of_end(end: FeedEnd) -> Status
     }
 }
 
+/// How the first feed ended that didn't end whole, or that all did.
+fn end_of(reports: &[FeedReport]) -> FeedEnd
+    ensures { result ≡ end_of reports.now }
+{
+    for report in reports {
+        if report.end != FeedEnd::End {
+            return report.end;
+        }
+    }
+    FeedEnd::End
+}
+
 /// The status of desks that were told.
 fn status_of_desks(published: Published) -> Status
     ensures { result ≡ status_of_desks published }
@@ -39,7 +51,7 @@ fn status_of_desks(published: Published) -> Status
     }
 }
 
-/// The status of a run that was printed and whose desks were told: the feed's comes first, then the sink's, then the desks'.
+/// The status of a run that was printed and whose desks were told: the feeds' comes first, then the sink's, then the desks'.
 fn status_at_end(end: FeedEnd, printed: Printed, published: Published) -> Status
     ensures { result ≡ status_at_end end printed published }
 {
@@ -62,15 +74,16 @@ pub(crate) fn end_run<K: Sink>(
     requires few_desks { vec_len desks.old < 2 ^ 32 }
     requires terms { run.now.terms ≡ map (λ s. s.terms) run.now.sets.items }
     requires few_sets { length run.now.sets.items ≤ 16 }
+    requires few_feeds { length run.now.reports.items ≤ 32 }
     ensures count { (K.seen out.old).faults ≤ (K.seen out.new).faults }
-    ensures leaves { RunLeaves run.now.sets.items run.now.report (K.seen out.old) (K.seen out.new)
+    ensures leaves { RunLeaves run.now.sets.items run.now.reports.items (K.seen out.old) (K.seen out.new)
         (desks_of (λ desk. (Desk-box desk).seen desk.value) desks.old.items desks.new.items retired.old.items retired.new.items) result }
 {
     let Ok(printed) = print_run(alloc, out, run) else {
         return Status::Memory;
     };
     match tell_desks(alloc, desks, retired, &run.sets) {
-        Ok(published) => status_at_end(run.report.end, printed, published),
+        Ok(published) => status_at_end(end_of(&run.reports), printed, published),
         Err(_) => Status::Memory,
     }
 }

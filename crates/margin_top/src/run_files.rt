@@ -1,25 +1,30 @@
-//! The files of a run: parameters, terms, and the feed run on its sets.
-ghost use Rattle.std.specs.Prelude.{◌≡◌, map, IfOk, OnOk};
-ghost use Rattle.feed_gate.specs.Sets.{AreApart, AreKept};
+//! The files of a run: parameters, terms, and the feeds that are run on its sets.
+ghost use Rattle.std.specs.Prelude.{◌≡◌, ◌≤◌, length, map, IfOk};
+ghost use Rattle.std.specs.String.{string_bytes};
+ghost use Rattle.feed_gate.specs.Sets.{AreApart};
 ghost use Rattle.margin_top.specs.Files.{KeepsCounts};
 ghost use Rattle.margin_top.specs.Run.{start};
-ghost use Rattle.margin_top.specs.RunStages.{FeedEnds, RunFilesEnd};
+ghost use Rattle.margin_top.specs.RunStages.{RunFilesEnd};
 
-use crate::fault::{Fault, FileFault, InputFile};
+use crate::fault::{Fault, InputFile};
+use crate::feed_files::run_feed_files;
 use crate::value_files::{read_param_file, read_terms_file};
+use crate::words::RunFiles;
 use csa_terms::Terms;
-use feed_gate::{FeedReport, run_feed};
+use feed_gate::{FeedReport, Gate};
 use mh_io::Folder;
 use set_core::SetState;
 use simm_params::Params;
 use std::alloc::{AllocError, Global};
+use std::sync::Wait;
+use std::thread::Threads;
 
-/// What a run leaves: its sets with their terms, and the report of its feed.
+/// What a run leaves: its sets with their terms, and a report of each feed.
 #[derive(Drop)]
 pub(crate) struct Outcome {
     pub terms: Terms,
     pub sets: Vec<SetState>,
-    pub report: FeedReport,
+    pub reports: Vec<FeedReport>,
 }
 
 /// A set for each of the terms, without calls.
@@ -35,64 +40,41 @@ fn make_sets(alloc: Global, params: &Params, terms: &Terms) -> Result<Vec<SetSta
     Ok(sets)
 }
 
-/// Finds the feed of this name, runs it on the sets, and hands it back.
-fn run_feed_file<F: Folder>(
+/// Reads both files, and runs the feeds on the sets of the terms.
+pub(crate) fn run_files<'a, R: Threads + Wait + Sync, F: Folder, G: Gate>(
+    rt: &R,
     alloc: Global,
+    files: RunFiles<'a>,
     folder: &mut F,
-    name: &str,
-    sets: &mut [SetState],
-) -> Result<FeedReport, FileFault>
-    requires { AreApart sets.old }
-    ensures counts { KeepsCounts (F.seen folder.old) (F.seen folder.new) }
-    ensures kept { OnOk result (AreKept sets.old sets.new) }
-    ensures ends { FeedEnds (F.seen folder.old) (F.seen folder.new) name.now sets.old sets.new result }
-{
-    let source = folder.find(alloc, name)?;
-    let (source, report) = run_feed(alloc, source, sets);
-    folder.done(source);
-    Ok(report)
-}
-
-/// Reads both files, and runs the feed on the sets of the terms.
-pub(crate) fn run_files<'a, F: Folder>(
-    alloc: Global,
-    params: &'a str,
-    terms: &'a str,
-    feed: &'a str,
-    folder: &mut F,
+    gate: &G,
 ) -> Result<Outcome, Fault<'a>>
+    requires { (1 ≤ length files.feeds.now) × (length files.feeds.now ≤ 32) }
     ensures counts { KeepsCounts (F.seen folder.old) (F.seen folder.new) }
-    ensures ends { RunFilesEnd params.now terms.now feed.now (F.seen folder.old) (F.seen folder.new) result }
+    ensures ends { RunFilesEnd files.entry.params.now files.entry.terms.now (map string_bytes files.entry.feeds.now) (F.seen folder.old) (F.seen folder.new) result }
 {
-    let values = match read_param_file(alloc, folder, params) {
+    let values = match read_param_file(alloc, folder, files.params) {
         Ok(values) => values,
         Err(why) => return Err(Fault::OfFile {
             file: InputFile::Params,
-            name: params,
+            name: files.params,
             why,
         }),
     };
-    let agreements = match read_terms_file(alloc, folder, terms) {
+    let agreements = match read_terms_file(alloc, folder, files.terms) {
         Ok(agreements) => agreements,
         Err(why) => return Err(Fault::OfFile {
             file: InputFile::Terms,
-            name: terms,
+            name: files.terms,
             why,
         }),
     };
-    let Ok(mut sets) = make_sets(alloc, &values, &agreements) else {
+    let Ok(sets) = make_sets(alloc, &values, &agreements) else {
         return Err(Fault::Memory);
     };
-    match run_feed_file(alloc, folder, feed, &mut sets) {
-        Ok(report) => Ok(Outcome {
-            terms: agreements,
-            sets,
-            report,
-        }),
-        Err(why) => Err(Fault::OfFile {
-            file: InputFile::Feed,
-            name: feed,
-            why,
-        }),
-    }
+    let run = run_feed_files(rt, alloc, folder, files.feeds, sets, gate)?;
+    Ok(Outcome {
+        terms: agreements,
+        sets: run.sets,
+        reports: run.reports,
+    })
 }

@@ -1,6 +1,7 @@
 ghost use Rattle.std.specs.Prelude.{◌≡◌, map};
+ghost use Rattle.std.specs.List.{list_all};
 ghost use Rattle.std.specs.String.{string_bytes};
-ghost use Rattle.margin_top.specs.Words.{is_name_word, form_of};
+ghost use Rattle.margin_top.specs.Words.{is_name_word, are_feed_words, form_of};
 ghost use Rattle.margin_top.specs.WordsRead.{IsForm};
 
 /// The files of a margin calculation.
@@ -19,15 +20,31 @@ fn is_name(word: &str) -> bool
     !matches!(word.as_bytes(), [] | [b'-', ..])
 }
 
-/// The files of a feed's run.
+/// The files of a run.
 #[derive(Clone, Copy, Debug)]
 pub(crate) struct RunFiles<'a> {
     /// The name of the parameter file.
     pub params: &'a str,
     /// The name of the terms file.
     pub terms: &'a str,
-    /// The name of the feed.
-    pub feed: &'a str,
+    /// The names of the feeds, of which there are 1 to 32.
+    pub feeds: &'a [String],
+}
+
+/// How many feeds a run has at most.
+const MOST_FEEDS: usize = 32;
+
+fn are_names(words: &[String]) -> bool
+    ensures { result ≡ list_all (λ word. is_name_word (string_bytes word)) words.now }
+{
+    words.iter().all(|word| is_name(word.as_str()))
+}
+
+/// Words that name the feeds of a run.
+fn are_feeds(words: &[String]) -> bool
+    ensures { result ≡ are_feed_words (map string_bytes words.now) }
+{
+    !words.is_empty() && words.len() <= MOST_FEEDS && are_names(words)
 }
 
 /// A command with its files.
@@ -49,15 +66,15 @@ pub(crate) fn command_of(words: &[String]) -> Option<Command<'_>>
                 crif: crif.as_str(),
             }))
         }
-        [command, params, terms, feed]
+        [command, params, terms, feeds @ ..]
             if command.as_str() == "run"
                 && is_name(params.as_str())
                 && is_name(terms.as_str())
-                && is_name(feed.as_str()) => {
+                && are_feeds(feeds) => {
             Some(Command::Run(RunFiles {
                 params: params.as_str(),
                 terms: terms.as_str(),
-                feed: feed.as_str(),
+                feeds,
             }))
         }
         _ => None,

@@ -1,11 +1,20 @@
-use Rattle.std.proofs.Common.{inl, inr, refl, sym}
+use Rattle.std.proofs.Common.{inl, inr, arith, map, refl, sym}
+use Rattle.std.specs.String.{string_bytes}
+use Rattle.std.proofs.lemmas.List.{length-map}
+use Rattle.margin_top.proofs.FeedLemmas.{fed_length}
 use Rattle.margin_top.proofs.RunComplete.{run_ends_well}
 use Rattle.margin_top.proofs.running.run.Goals as goal
+
+pub end_run-requires-clause-few_feeds : goal.end_run-requires-clause-few_feeds
+end_run-requires-clause-few_feeds g c =
+    let run = c.in-Ok.ensures.ends.0 in
+    let fed = run.fed in
+    omega (arith, c.requires.feeds, length-map c.args.files.feeds.now string_bytes, fed_length _ _ c.in-Ok.run'.sets.items 0 (map string_bytes c.args.files.feeds.now) c.in-Ok.run'.reports.items fed.readings fed.feeds)
 
 pub returns-in-Ok-clause-ends : goal.returns-in-Ok-clause-ends
 returns-in-Ok-clause-ends g c = inl (record {
   sets = c.in-Ok.run'.sets.items;
-  r = c.in-Ok.run'.report;
+  reports = c.in-Ok.run'.reports.items;
   run = c.in-Ok.ensures.ends.0;
   leaves = c.end_run.ensures.leaves;
 })
@@ -13,7 +22,7 @@ returns-in-Ok-clause-ends g c = inl (record {
 pub returns-in-Ok-clause-complete : goal.returns-in-Ok-clause-complete
 returns-in-Ok-clause-complete g c w = run_ends_well w c.end_run.result (inl (record {
   sets = c.in-Ok.run'.sets.items;
-  r = c.in-Ok.run'.report;
+  reports = c.in-Ok.run'.reports.items;
   run = c.in-Ok.ensures.ends.0;
   leaves = c.end_run.ensures.leaves;
 }))
