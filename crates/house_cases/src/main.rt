@@ -22,12 +22,19 @@ use mh_io::{MemSink, RealFolder};
 use mh_units::Text;
 use std::fs;
 use std::io::{self, BufWriter, Write};
+use std::sync::Wait;
+use std::thread::Threads;
 
 /// The bytes that a command may print, above what any of the cases prints.
 const ROOM: usize = 1 << 20;
 
-/// Runs the words, and writes them with their status, their text and their notices.
-fn run_case<W: Write>(rt: HostRuntime, line: &str, out: &mut W) -> Result<()> {
+/// Runs the words by these threads, and writes them with their status, their text and their notices.
+fn run_case<R: Threads + Wait + Sync, W: Write>(
+    threads: &R,
+    rt: HostRuntime,
+    line: &str,
+    out: &mut W,
+) -> Result<()> {
     let alloc = rt.alloc();
     let mut folder = RealFolder::new(rt);
     let mut text = MemSink::new(alloc, ROOM, ROOM, Vec::new(alloc))?;
@@ -36,7 +43,7 @@ fn run_case<W: Write>(rt: HostRuntime, line: &str, out: &mut W) -> Result<()> {
     desks.push(Box::new(alloc, desk)?)?;
     let mut retired = Vec::new(alloc);
     let status = run_line(
-        &rt,
+        threads,
         alloc,
         line,
         &mut folder,
@@ -59,7 +66,7 @@ fn main(rt: HostRuntime) -> Result<()> {
     let mut out = BufWriter::new(rt.alloc(), io::writer(&rt))?;
     for line in cases.as_str().lines() {
         if !line.starts_with('#') {
-            run_case(rt, line, &mut out)?;
+            run_case(&rt, rt, line, &mut out)?;
         }
     }
     out.flush()?;

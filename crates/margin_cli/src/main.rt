@@ -8,6 +8,8 @@ use mh_io::{RealFolder, RealSink};
 use std::alloc::AllocError;
 use std::process::ExitCode;
 use std::rt::Env;
+use std::sync::Wait;
+use std::thread::Threads;
 use std::{env, io};
 
 /// The words behind the program's own name.
@@ -19,8 +21,12 @@ fn words(rt: &(impl Env + AllocGlobal)) -> io::Result<Vec<String>> {
     Ok(words)
 }
 
-/// Runs the words, with standard error as the one desk. The only error is want of memory.
-fn run(rt: HostRuntime, words: &[String]) -> Result<Status, AllocError> {
+/// Runs the words by these threads, with standard error as the one desk. The only error is want of memory.
+fn run<R: Threads + Wait + Sync>(
+    threads: &R,
+    rt: HostRuntime,
+    words: &[String],
+) -> Result<Status, AllocError> {
     let alloc = rt.alloc();
     let mut folder = RealFolder::new(rt);
     let mut out = RealSink::new(rt.stdout());
@@ -29,7 +35,7 @@ fn run(rt: HostRuntime, words: &[String]) -> Result<Status, AllocError> {
     desks.push(Box::new(alloc, desk)?)?;
     let mut retired = Vec::new(alloc);
     Ok(margin_house(
-        &rt,
+        threads,
         alloc,
         words,
         &mut folder,
@@ -42,9 +48,9 @@ fn run(rt: HostRuntime, words: &[String]) -> Result<Status, AllocError> {
 
 fn main(rt: HostRuntime) -> ExitCode {
     let outcome = match words(&rt) {
-        Ok(words) => run(rt, words.as_slice()),
+        Ok(words) => run(&rt, rt, words.as_slice()),
         Err(error) if error.kind() == io::ErrorKind::OutOfMemory => Err(AllocError),
-        Err(_) => run(rt, &[]),
+        Err(_) => run(&rt, rt, &[]),
     };
     ExitCode::from(outcome.unwrap_or(Status::Memory).code())
 }

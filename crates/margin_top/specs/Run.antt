@@ -121,8 +121,8 @@ pub record IsToldShort {B : Type 0} (sets : List Set) (reports : List FeedReport
   pub told : OneWanted (notices sets) d
 
 -- What printing a run and telling the desks its calls do, by the run's status. That is want of memory where there was none
--- for the text or the notices; else that of the first feed that didn't end whole; else Write where the sink failed; else Desk where a
--- desk failed; else want of memory where a desk found none. But for the first of these each desk was told.
+-- for the text or the notices; else that of the first feed that didn't end whole; else Write where the sink failed; else Desk
+-- where a desk failed; else want of memory where a desk found none. But for the first of these each desk was told.
 abbrev pub RunLeaves : {B : Type 0} → List Set → List FeedReport → SinkSeen → SinkSeen → Desks B → Status → Type 0
 RunLeaves sets reports old new d status.Done = (end_of reports ≡ end_at.End) × Got old new (run_text sets reports) × AllAreTold (notices sets) d
 RunLeaves sets reports old new d status.Write = (end_of reports ≡ end_at.End) × GotFront old new (run_text sets reports) × AreTold (notices sets) d

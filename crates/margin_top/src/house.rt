@@ -26,8 +26,8 @@ use std::thread::Threads;
 ///
 /// A run that reached its feeds tells each desk the notices of all calls, set after set, each set's in the order of its
 /// journal, unless memory ran out for the text or for the notices (`Memory`). A desk that fails is told nothing more and is
-/// moved to the end of `retired`; the caller drops it. The status is then `Desk`, but for a feed that didn't end whole, the first of which has its status, and for
-/// a sink that failed, whose statuses come first. At every other end no desk is told anything, and both lists stand.
+/// moved to the end of `retired`; the caller drops it. The status is then `Desk`, but for the first feed that didn't end whole
+/// and for a sink that failed, whose statuses come first. At every other end no desk is told anything, and both lists stand.
 pub fn margin_house<R: Threads + Wait + Sync, F: Folder, K: Sink, G: Gate>(
     rt: &R,
     alloc: Global,
