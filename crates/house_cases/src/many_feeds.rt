@@ -1,5 +1,5 @@
 use crate::memory_house::{WELL, folder};
-use margin_top::{Gate, Status, margin_house};
+use margin_top::{Gate, NoGate, Status, margin_house};
 use mh_io::{MemFolder, MemSink};
 use mh_units::Bytes;
 use std::alloc::{AllocError, Global};
@@ -15,7 +15,8 @@ const ROOM: usize = 1 << 20;
 /// How often the gate turns at most.
 const TURNS: u32 = 1_000_000_000;
 
-/// Holds the first call of feed 0 until a call of feed 1 was answered.
+/// Holds the calls of feed 0 until one of feed 1 was answered.
+#[derive(Drop)]
 struct Held {
     answered: AtomicBool,
     in_vain: AtomicBool,
@@ -100,17 +101,17 @@ fn feeds_run_at_the_same_time(rt: HostRuntime) -> Result<(), Fail> {
 
 #[test]
 fn thirty_two_feeds_stand_in_one_journal(rt: HostRuntime) -> Result<(), Fail> {
-    let (status, text) = run_questions(&rt, rt.alloc(), 32, &margin_top::NoGate)?;
+    let (status, text) = run_questions(&rt, rt.alloc(), 32, &NoGate)?;
     assert!(rt; status == Status::Done);
-    assert!(rt; text.starts_with(b"SET\tALPHA\t32\n"));
-    assert!(rt; text.ends_with(b"FEED\t31\t1\t0\tEND\n"));
+    assert!(rt; text.starts_with("SET\tALPHA\t32\n".as_bytes()));
+    assert!(rt; text.ends_with("FEED\t31\t1\t0\tEND\n".as_bytes()));
     Ok(())
 }
 
 #[test]
 fn a_thirty_third_feed_makes_no_command(rt: HostRuntime) -> Result<(), Fail> {
-    let (status, text) = run_questions(&rt, rt.alloc(), 33, &margin_top::NoGate)?;
+    let (status, text) = run_questions(&rt, rt.alloc(), 33, &NoGate)?;
     assert!(rt; status == Status::Words);
-    assert!(rt; text.as_slice() == b"FAULT\tWORDS\n".as_slice());
+    assert!(rt; text.as_slice() == "FAULT\tWORDS\n".as_bytes());
     Ok(())
 }
