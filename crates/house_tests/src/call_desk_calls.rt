@@ -7,7 +7,7 @@ use std::alloc::AllocError;
 use std::process::Abort;
 
 /// A notice of the set ALPHA.
-fn notice(rt: &(impl Abort + AllocGlobal), flow: Flow, amount: i64, due: i32) -> Notice {
+pub fn notice(rt: &(impl Abort + AllocGlobal), flow: Flow, amount: i64, due: i32) -> Notice {
     Notice {
         set: Name::read(rt.alloc(), b"ALPHA").ok().expect(rt, "a name"),
         number: 1,

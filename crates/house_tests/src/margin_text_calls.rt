@@ -1,34 +1,29 @@
-use crate::makers::{params, set_terms};
 use crif_reader::{Column, CrifFault, RowFault};
+use csa_terms::{Terms, read_terms};
 use feed_gate::{FeedEnd, FeedReport, RefusedMessage};
-use margin_text::{crif_line, journal_text, margin_lines, push_report};
+use margin_text::{crif_line, margin_lines, push_report};
 use mh_units::{Cents, NumeralFault, Text};
-use set_core::{Event, SetState};
 use simm_kinds::Listed;
 use simm_rules::{Breakdown, ClassMargins, ProductMargin};
 use std::process::Abort;
 
-/// The journal of ALPHA after one question by this caller.
-fn asked(rt: &(impl Abort + AllocGlobal), caller: u32) -> Text {
-    let set = SetState::new(rt.alloc(), params(rt), set_terms(rt, 0));
-    let mut set = set.ok().expect(rt, "memory");
-    assert!(rt; set.apply(caller, Event::AskMargin).is_ok());
-    journal_text(rt.alloc(), &set, set.terms().name())
-        .ok()
-        .expect(rt, "memory")
-}
+/// The terms of ALPHA and BETA.
+const TERMS: &str =
+    "[[set]]\nname = \"ALPHA\"\nthreshold = \"0\"\nmta_delivery = \"0\"\nmta_return = \"0\"\n\
+rounding = \"100\"\nnotification = \"13:00\"\nfx_haircut = \"0\"\nhaircuts = {}\nholidays = []\n\
+[[set]]\nname = \"BETA\"\nthreshold = \"0\"\nmta_delivery = \"0\"\nmta_return = \"0\"\n\
+rounding = \"100\"\nnotification = \"13:00\"\nfx_haircut = \"0\"\nhaircuts = {}\nholidays = []\n";
 
-#[test]
-fn a_journal_is_printed_with_its_callers(rt: HostRuntime) {
-    let text = asked(&rt, 7);
-    assert!(rt; text.as_slice() == "SET\tALPHA\t1\n1\t7\tASK\t=\tMARGIN\t0.00\n".as_bytes());
+fn terms(rt: &(impl Abort + AllocGlobal)) -> Terms {
+    read_terms(rt.alloc(), TERMS.as_bytes())
+        .ok()
+        .expect(rt, "terms")
 }
 
 /// The text of a feed's report.
 fn printed(rt: &(impl Abort + AllocGlobal), report: &FeedReport) -> Text {
-    let sets = [set_terms(rt, 0), set_terms(rt, 1)];
     let mut text = Text::new(rt.alloc());
-    push_report(&mut text, 7, &sets, report)
+    push_report(&mut text, 7, terms(rt).sets(), report)
         .ok()
         .expect(rt, "memory");
     text

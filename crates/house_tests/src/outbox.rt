@@ -1,4 +1,4 @@
-use crate::makers::name;
+use crate::call_desk_calls::notice;
 use call_desk::{Desk, DeskFault, Notice, Published, publish};
 use csa_terms::{Flow, push_day};
 use mh_units::{Cents, Text, push_cents};
@@ -65,20 +65,14 @@ fn empty_outbox(alloc: Global) -> Outbox {
     }
 }
 
-fn notice(rt: &(impl Abort + AllocGlobal), flow: Flow) -> Notice {
-    Notice {
-        set: name(rt, "ALPHA"),
-        number: 1,
-        flow,
-        amount: 240_000,
-        due: 19_786,
-    }
-}
-
 #[test]
 fn a_full_outbox_fails(rt: HostRuntime) {
     let mut outbox = empty_outbox(rt.alloc());
-    assert!(rt; outbox.tell(&notice(&rt, Flow::Return)).is_ok());
+    assert!(rt;
+        outbox
+            .tell(&notice(&rt, Flow::Return, 240_000, 19_786))
+            .is_ok()
+    );
     let text = "ALPHA: please return 2400.00 by 2024-03-04";
     assert!(rt;
         outbox
@@ -86,7 +80,7 @@ fn a_full_outbox_fails(rt: HostRuntime) {
             .iter()
             .all(|m| m.as_slice() == text.as_bytes())
     );
-    let again = outbox.tell(&notice(&rt, Flow::Delivery));
+    let again = outbox.tell(&notice(&rt, Flow::Delivery, 240_000, 19_786));
     assert!(rt; again == Err(DeskFault::Failed));
     assert!(rt; outbox.messages.len() == 1 && outbox.faults == 1 && outbox.wants == 0);
 }
@@ -97,7 +91,10 @@ fn a_full_outbox_is_retired(rt: HostRuntime) -> Result<(), AllocError> {
     desks.push(Box::new(rt.alloc(), empty_outbox(rt.alloc()))?)?;
     let mut retired = Vec::new(rt.alloc());
     assert!(rt; desks.len() == 1);
-    let notices = [notice(&rt, Flow::Return), notice(&rt, Flow::Delivery)];
+    let notices = [
+        notice(&rt, Flow::Return, 240_000, 19_786),
+        notice(&rt, Flow::Delivery, 240_000, 19_786),
+    ];
     let published = publish(&mut desks, &mut retired, &notices)?;
     let wanted = Published {
         told: 1,
