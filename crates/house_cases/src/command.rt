@@ -2,7 +2,7 @@ ghost use Rattle.std.specs.Prelude.{◌<◌, ◌^◌};
 ghost use Rattle.std.specs.Vec.{vec_len};
 
 use call_desk::{Desk, push_notice};
-use margin_top::{NoGate, Status, margin_house};
+use margin_top::{Gate, Status, margin_house};
 use mh_io::{Folder, MemSink};
 use mh_units::Text;
 use std::alloc::{AllocError, Global};
@@ -22,8 +22,8 @@ fn words_of(alloc: Global, line: &str) -> Result<Vec<String>, AllocError> {
     Ok(words)
 }
 
-/// Runs the command of a line over a folder, into a sink, with desks. The only error is want of memory.
-pub fn run_line<R: Threads + Wait + Sync, F: Folder>(
+/// Runs the command of a line over a folder, into a sink, with desks and a gate. The only error is want of memory.
+pub fn run_line<R: Threads + Wait + Sync, F: Folder, G: Gate>(
     rt: &R,
     alloc: Global,
     line: &str,
@@ -31,6 +31,7 @@ pub fn run_line<R: Threads + Wait + Sync, F: Folder>(
     out: &mut MemSink,
     desks: &mut Vec<Box<dyn Desk>>,
     retired: &mut Vec<Box<dyn Desk>>,
+    gate: &G,
 ) -> Result<Status, AllocError>
     requires { vec_len desks.old < 2 ^ 32 }
 {
@@ -43,7 +44,7 @@ pub fn run_line<R: Threads + Wait + Sync, F: Folder>(
         out,
         desks,
         retired,
-        &NoGate,
+        gate,
     ))
 }
 

@@ -3,6 +3,8 @@
 //! printed, and the notices that the desk was told.
 #![tactic(auto)]
 
+#[cfg(test)]
+mod bad_feeds;
 mod command;
 #[cfg(test)]
 mod desks;
@@ -13,11 +15,14 @@ mod many_feeds;
 #[cfg(test)]
 mod memory_house;
 #[cfg(test)]
+mod merges;
+#[cfg(test)]
 mod sizes;
 
 use anyhow::{Context, Result};
 use call_desk::{Desk, MemDesk};
 use command::{push_told, run_line};
+use margin_top::NoGate;
 use mh_io::{MemSink, RealFolder};
 use mh_units::Text;
 use std::fs;
@@ -50,6 +55,7 @@ fn run_case<R: Threads + Wait + Sync, W: Write>(
         &mut text,
         &mut desks,
         &mut retired,
+        &NoGate,
     )?;
     let mut notices = Text::new(alloc);
     for desk in &desks {

@@ -3,7 +3,7 @@ ghost use Rattle.std.specs.Vec.{vec_len};
 
 use crate::command::run_line;
 use call_desk::Desk;
-use margin_top::Status;
+use margin_top::{Gate, NoGate, Status};
 use mh_io::{MemFolder, MemSink};
 use mh_units::Bytes;
 use std::alloc::{AllocError, Global};
@@ -88,7 +88,7 @@ credit_q.base_weight = "10"
 credit_q.base_rho = "0.3"
 "#;
 
-const TERMS: &str = r#"[[set]]
+pub const TERMS: &str = r#"[[set]]
 name = "ALPHA"
 threshold = "5000.00"
 mta_delivery = "500.00"
@@ -246,7 +246,7 @@ pub fn run_with_desks<R: Threads + Wait + Sync>(
 {
     let failing = puts_that_fail(alloc, setup.failing)?;
     let mut out = MemSink::new(alloc, ROOM, setup.sink_most, failing)?;
-    let status = run_line(rt, alloc, line, folder, &mut out, desks, retired)?;
+    let status = run_line(rt, alloc, line, folder, &mut out, desks, retired, &NoGate)?;
     Ok(Outcome {
         status,
         text: out.bytes().to_vec(alloc)?,
@@ -274,4 +274,31 @@ pub fn run<R: Threads + Wait + Sync>(
     setup: Setup,
 ) -> Result<Outcome, AllocError> {
     run_over(rt, alloc, line, &mut folder(alloc, setup)?, setup)
+}
+
+/// Runs the words of a line over a folder, without desks, through a gate.
+pub fn run_through<R: Threads + Wait + Sync, G: Gate>(
+    rt: &R,
+    alloc: Global,
+    line: &str,
+    folder: &mut MemFolder,
+    gate: &G,
+) -> Result<Outcome, AllocError> {
+    let mut out = MemSink::new(alloc, ROOM, ROOM, Vec::new(alloc))?;
+    let mut desks = Vec::new(alloc);
+    let mut retired = Vec::new(alloc);
+    let status = run_line(
+        rt,
+        alloc,
+        line,
+        folder,
+        &mut out,
+        &mut desks,
+        &mut retired,
+        gate,
+    )?;
+    Ok(Outcome {
+        status,
+        text: out.bytes().to_vec(alloc)?,
+    })
 }

@@ -33,7 +33,7 @@ fn repeated(alloc: Global, front: &str, line: &[u8], count: u32) -> Result<Bytes
 }
 
 /// A text, and behind it 33,554,432 bytes of comments: the most that a file or a feed may have.
-fn comments(alloc: Global, front: &str) -> Result<Bytes, AllocError> {
+pub fn comments(alloc: Global, front: &str) -> Result<Bytes, AllocError> {
     let mut line = vec![in alloc; b'#'; 65_535]?;
     line.push(b'\n')?;
     repeated(alloc, front, line.as_slice(), 512)
