@@ -13,6 +13,8 @@ mod csa_calls_amounts;
 #[cfg(test)]
 mod csa_terms_calls;
 #[cfg(test)]
+mod kept_buckets_at_random;
+#[cfg(test)]
 mod kept_buckets_calls;
 #[cfg(test)]
 mod makers;
