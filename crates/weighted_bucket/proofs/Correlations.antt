@@ -1,17 +1,21 @@
 -- What makes the correlations of a bucket's factors correlations.
-use Rattle.std.proofs.Common.{◌≡◌, ℕ, ◌<◌, ◌≤◌, List, length, All, ℤ, ◌*ℤ◌, ◌≤ℤ◌, unsigned_abs, ap, ◌∙◌, arith}
+use Rattle.std.proofs.Common.{◌≡◌, ℕ, ◌<◌, ◌≤◌, List, length, map, All, ◌==◌, if◌then◌else◌, ℤ, pos, negsuc, ◌*ℤ◌, ◌≤ℤ◌, ◌<ℤ◌, unsigned_abs, refl, ap, ◌∙◌, subst, arith}
 use Rattle.std.specs.Int.{int_min, int_max}
 use Rattle.std.proofs.lemmas.Int.{ints, clamps}
-use Rattle.mh_units.specs.Rounding.{down}
-use Rattle.mh_units.proofs.Roundings.{correlation_size}
-use Rattle.concentration.proofs.Factors.{ratio_bounds}
+use Rattle.std.proofs.lemmas.List.{length-map}
+use Rattle.mh_units.specs.Rounding.{down, trunc, up}
+use Rattle.mh_units.proofs.Roundings.{correlation_size, up_is}
+use Rattle.concentration.proofs.Factors.{ratio_bounds, ratio_of_equals}
 use Rattle.simm_rules.specs.Concentration.{one, ratio}
 use Rattle.simm_rules.specs.Bucket.{combined}
+use Rattle.pair_sum.specs.PairTotal.{at_place}
+use Rattle.pair_sum.proofs.Sums.{sum_below-ext}
 use Rattle.pair_sum.proofs.Itself.{with_itself-symmetric, with_itself-at_most_one}
 use Rattle.weighted_bucket.specs.declared.scaling.Scaling.{Scaling}
 use Rattle.weighted_bucket.specs.declared.scaling.Scaling.TheVariants as scaling
 use Rattle.weighted_bucket.specs.declared.weighed.Weighed.{Weighed}
-use Rattle.weighted_bucket.specs.Correlated.{no_factor, cr_at, scaled, scaled_at, correlation}
+use Rattle.weighted_bucket.specs.Bucket.{pairs_of}
+use Rattle.weighted_bucket.specs.Correlated.{no_factor, cr_at, scaled, scaled_at, correlation, ShareConcentration}
 
 min_symmetric : (a b : ℤ) → int_min a b ≡ int_min b a
 min_symmetric a b = omega (arith, ints, clamps)
@@ -48,3 +52,29 @@ pub correlation-small : (way : Scaling) (factors : List Weighed) (rho : ℕ → 
 correlation-small way factors rho n same from_one small i j p q =
     with_itself-at_most_one (scaled_at way factors rho) i j
     (scaled-small way (rho i j) (cr_at factors i) (cr_at factors j) (from_one i no_factor p) (from_one j no_factor q) (small i j (omega arith) (omega arith)))
+
+-- ---- factors that share one concentration
+
+trunc-below : (z : ℤ) → z <ℤ pos 0 → up z one ≡ trunc z one
+trunc-below (pos n) h = omega (arith, ints)
+trunc-below (negsuc n) h = refl
+
+combined-one : (r : ℤ) → r ≡ combined r one
+combined-one (pos n) = omega (arith, ints)
+combined-one (negsuc n) =
+    let u = up_is (negsuc n *ℤ one) one (omega (arith, ints)) in
+    let low = u.least (negsuc n) (omega (arith, ints)) in
+    let whole : negsuc n ≡ up (negsuc n *ℤ one) one = omega (arith, ints, u.enough, low) in
+    whole ∙ trunc-below (negsuc n *ℤ one) (omega (arith, ints))
+
+-- a table's correlation, times the ratio of two equal concentrations
+even : (r a b : ℤ) → one ≤ℤ a → a ≡ b → r ≡ combined r (ratio a b)
+even r a b from_one e = subst (λ z. r ≡ combined r z) (ratio_of_equals a b from_one e) (combined-one r)
+
+pub pairs_of-shared : (factors : List Weighed) (rho : ℕ → ℕ → ℤ) → All (λ factor. one ≤ℤ factor.cr.0) factors → ShareConcentration factors → pairs_of scaling.Plain factors rho ≡ pairs_of scaling.Concentrated factors rho
+pairs_of-shared factors rho from_one share =
+    let ws = map (λ (factor : Weighed). factor.w) factors in
+    let sized : length ws ≡ length factors = length-map factors (λ (factor : Weighed). factor.w) in
+    sum_below-ext _ _ (length ws) (λ i p. sum_below-ext _ _ (length ws) (λ j q.
+    ap (λ r. (if i == j then one else r) *ℤ at_place ws i *ℤ at_place ws j)
+    (even (rho i j) (cr_at factors i) (cr_at factors j) (from_one i no_factor (omega (arith, sized))) (share i j (omega (arith, sized)) (omega (arith, sized))))))

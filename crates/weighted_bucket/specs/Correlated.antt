@@ -1,7 +1,7 @@
 -- The correlations of the factors of a bucket, made of the parameters' correlations of two different factors.
 -- (ISDA SIMM methodology: delta and vega margin, correlations times the ratio of concentrations; curvature margin, squared
 -- correlations.)
-use Rattle.std.specs.Prelude.{ℕ, List, slice_index_or, ℤ, pos}
+use Rattle.std.specs.Prelude.{◌≡◌, ℕ, ◌<◌, List, length, slice_index_or, ℤ, pos}
 use Rattle.simm_rules.specs.Concentration.{ratio}
 use Rattle.simm_rules.specs.Bucket.{combined}
 use Rattle.pair_sum.specs.WithItself.{with_itself}
@@ -16,6 +16,10 @@ no_factor = record { w = pos 0; cr = record { 0 = pos 1000000 } }
 -- the concentration factor of the factor at a place
 abbrev pub cr_at : List Weighed → ℕ → ℤ
 cr_at factors i = ((slice_index_or factors i no_factor).cr).0
+
+-- all factors have the same concentration factor
+abbrev pub ShareConcentration : List Weighed → Type 0
+ShareConcentration factors = (i j : ℕ) → i < length factors → j < length factors → cr_at factors i ≡ cr_at factors j
 
 -- made of rho, of two different factors with the concentration factors a and b
 abbrev pub scaled : Scaling → ℤ → ℤ → ℤ → ℤ
