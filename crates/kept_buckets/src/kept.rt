@@ -88,7 +88,7 @@ impl KeptBuckets {
     pub fn keep_margin(&mut self, at: ClassAt, margin: Cents)
         ensures { KeepsMargin self.old self.new at margin }
     {
-        self.margins = self.margins.with(at, Some(margin));
+        self.margins.set(at, Some(margin));
     }
 
     /// Forgets, for each row that is a sensitivity, what is kept of its place and the margin of its class. It takes no memory.
@@ -192,7 +192,7 @@ impl KeptBuckets {
         ensures margins { (at : At) → margin_at self.new at ≡ (if is_class (class_at place) at then None else margin_at self.old at) }
     {
         self.values.remove(&place);
-        self.margins = self.margins.with(class_at(place), None);
+        self.margins.set(class_at(place), None);
     }
 }
 

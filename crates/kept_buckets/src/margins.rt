@@ -49,29 +49,17 @@ impl KeptClasses {
         }
     }
 
-    /// With another of a class.
-    pub fn with(self, class: RiskClass, margin: Option<Cents>) -> KeptClasses
-        ensures { (other : Class) → class_in result other ≡ (if same_class class other then margin else class_in self other) }
+    /// Puts another for a class.
+    pub fn set(&mut self, class: RiskClass, margin: Option<Cents>)
+        ensures { (other : Class) → class_in self.new other ≡ (if same_class class other then margin else class_in self.old other) }
     {
         match class {
-            RiskClass::IR => KeptClasses { ir: margin, ..self },
-            RiskClass::CreditQ => KeptClasses {
-                credit_q: margin,
-                ..self
-            },
-            RiskClass::CreditNonQ => KeptClasses {
-                credit_nonq: margin,
-                ..self
-            },
-            RiskClass::Equity => KeptClasses {
-                equity: margin,
-                ..self
-            },
-            RiskClass::Commodity => KeptClasses {
-                commodity: margin,
-                ..self
-            },
-            RiskClass::FX => KeptClasses { fx: margin, ..self },
+            RiskClass::IR => self.ir = margin,
+            RiskClass::CreditQ => self.credit_q = margin,
+            RiskClass::CreditNonQ => self.credit_nonq = margin,
+            RiskClass::Equity => self.equity = margin,
+            RiskClass::Commodity => self.commodity = margin,
+            RiskClass::FX => self.fx = margin,
         }
     }
 }
@@ -110,27 +98,15 @@ impl KeptMargins {
         }
     }
 
-    /// With another of a risk class in a product class.
-    pub fn with(self, at: ClassAt, margin: Option<Cents>) -> KeptMargins
-        ensures { (other : At) → margin_in result other ≡ (if is_class at other then margin else margin_in self other) }
+    /// Puts another for a risk class in a product class.
+    pub fn set(&mut self, at: ClassAt, margin: Option<Cents>)
+        ensures { (other : At) → margin_in self.new other ≡ (if is_class at other then margin else margin_in self.old other) }
     {
         match at.product {
-            ProductClass::RatesFX => KeptMargins {
-                rates_fx: self.rates_fx.with(at.class, margin),
-                ..self
-            },
-            ProductClass::Credit => KeptMargins {
-                credit: self.credit.with(at.class, margin),
-                ..self
-            },
-            ProductClass::Equity => KeptMargins {
-                equity: self.equity.with(at.class, margin),
-                ..self
-            },
-            ProductClass::Commodity => KeptMargins {
-                commodity: self.commodity.with(at.class, margin),
-                ..self
-            },
+            ProductClass::RatesFX => self.rates_fx.set(at.class, margin),
+            ProductClass::Credit => self.credit.set(at.class, margin),
+            ProductClass::Equity => self.equity.set(at.class, margin),
+            ProductClass::Commodity => self.commodity.set(at.class, margin),
         }
     }
 }
