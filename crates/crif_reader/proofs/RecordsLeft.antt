@@ -12,7 +12,7 @@ use Rattle.csv.specs.declared.parser.Terminator.{Terminator}
 use Rattle.csv.specs.declared.parser.Terminator.TheVariants as term
 use Rattle.csv.specs.declared.reader.Reader.{Reader}
 use Rattle.csv.proofs.ReadFacts.{rows-more, rows-end}
-use Rattle.crif_reader.specs.Records.{records_after, records_left, source_left}
+use Rattle.crif_reader.specs.Records.{records_after, reader_left, source_left}
 
 -- ---- the machine stands between records once one is over
 
@@ -109,7 +109,7 @@ pub record TakesFirst (config : Config) (s : State) (bytes : List ℕ) (fields :
   pub records : records_after config s (Some bytes) ≡ fields ∷ records_after config after (Some rest)
   pub between : ends_at_end after ≡ false
 
-takes_first : (config : Config) (s : State) (bytes : List ℕ) (fields : List (List ℕ)) (p : Read) → ends_at_end s ≡ false → next_record config s [] [] bytes ≡ Some p → fields ≡ p.0 → TakesFirst config s bytes fields p.1 p.2
+pub takes_first : (config : Config) (s : State) (bytes : List ℕ) (fields : List (List ℕ)) (p : Read) → ends_at_end s ≡ false → next_record config s [] [] bytes ≡ Some p → fields ≡ p.0 → TakesFirst config s bytes fields p.1 p.2
 unfolding records_from
 takes_first config s bytes fields p h e f =
     let next = shorter config s bytes p h e in
@@ -118,7 +118,7 @@ takes_first config s bytes fields p h e f =
       between = next.between;
     }
 
-none_left : (config : Config) (s : State) (bytes : List ℕ) → next_record config s [] [] bytes ≡ None → records_after config s (Some bytes) ≡ []
+pub none_left : (config : Config) (s : State) (bytes : List ℕ) → next_record config s [] [] bytes ≡ None → records_after config s (Some bytes) ≡ []
 unfolding records_from
 none_left config s bytes e = rw (add-one (length bytes), e) refl
 
@@ -129,7 +129,7 @@ known_bytes None h = cc
 known_bytes (Some bytes) h = (bytes, refl)
 
 pub record LeavesRest (old new : Reader (Bor (List ℕ))) (fields : List (List ℕ)) : Type 0 where
-  pub records : records_left old ≡ fields ∷ records_left new
+  pub records : reader_left old ≡ fields ∷ reader_left new
   pub between : ends_at_end new.state ≡ false
   pub known : IsSome (source_left new)
 
@@ -150,7 +150,7 @@ same_records : (config other : Config) (s after : State) (source left : Option (
 same_records config other s after source left bytes rest fields e f g h = rw (e, f, g) h
 
 pub first_taken : (old new : Reader (Bor (List ℕ))) (fields : List (List ℕ)) → ends_at_end old.state ≡ false → IsSome (source_left old) → ReadRecord (λ (s : Bor (List ℕ)). Some s.now) old new true fields → LeavesRest old new fields
-unfolding Reached records_left
+unfolding Reached reader_left
 first_taken old new fields h known r =
     let k = known_bytes (source_left old) known in
     let more = rows-more (λ (s : Bor (List ℕ)). Some s.now) old new fields old.config old.state k.0 k.0 [] refl k.1 (refl, refl) r in
@@ -162,8 +162,8 @@ first_taken old new fields h known r =
       known = rw more.1 refl;
     }
 
-pub none_taken : (old new : Reader (Bor (List ℕ))) (fields : List (List ℕ)) → IsSome (source_left old) → ReadRecord (λ (s : Bor (List ℕ)). Some s.now) old new false fields → records_left old ≡ []
-unfolding records_left
+pub none_taken : (old new : Reader (Bor (List ℕ))) (fields : List (List ℕ)) → IsSome (source_left old) → ReadRecord (λ (s : Bor (List ℕ)). Some s.now) old new false fields → reader_left old ≡ []
+unfolding reader_left
 none_taken old new fields known r =
     let k = known_bytes (source_left old) known in
     rw k.1 (none_left old.config old.state k.0 (rows-end (λ (s : Bor (List ℕ)). Some s.now) old new fields old.config k.0 refl k.1 r))

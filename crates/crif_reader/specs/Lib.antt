@@ -1,5 +1,6 @@
 pub mod Reads
 pub mod Faults
+pub mod Plain
 pub mod Records
 pub mod Columns
 pub mod Fields

@@ -9,6 +9,7 @@ mod fields;
 mod gather;
 mod names;
 mod params;
+mod plain;
 mod read;
 mod records;
 mod row;

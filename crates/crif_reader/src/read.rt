@@ -8,11 +8,11 @@ ghost use Rattle.crif_reader.specs.Grammar.{at_record, crif_of, rows_of};
 use crate::columns::{Columns, columns_of};
 use crate::gather::Gathering;
 use crate::params::Params;
-use crate::records::{next_record, open};
+use crate::records::{Records, next_record, open};
 use crate::row::{Entry, row_of};
 use crate::row_stop::RowStop;
 use crate::{CrifFault, RowFault};
-use csv::{ByteRecord, Reader};
+use csv::ByteRecord;
 use simm_kinds::{Batch, Listed, TradeRows};
 use std::alloc::Global;
 
@@ -50,20 +50,16 @@ fn read_row<'a>(
 }
 
 /// Reads the records behind the header, and gathers their rows by trade.
-fn read_rows(
-    alloc: Global,
-    reader: &mut Reader<&[u8]>,
-    columns: &Columns,
-) -> Result<Gathered, CrifFault>
-    requires { IsReading reader.old }
-    ensures { Gives (λ g. record { trades = g.trades.items; passed_over = g.passed_over }) result (rows_of columns.now (records_left reader.old)) }
+fn read_rows(alloc: Global, records: &mut Records, columns: &Columns) -> Result<Gathered, CrifFault>
+    requires { IsReading records.old }
+    ensures { Gives (λ g. record { trades = g.trades.items; passed_over = g.passed_over }) result (rows_of columns.now (records_left records.old)) }
 {
     let mut gathering = Gathering::new(alloc);
     let mut params = Params::new(alloc);
     let mut fields = ByteRecord::new(alloc);
     let mut number = 2u32;
     let mut passed_over = 0u32;
-    while next_record(reader, &mut fields)? {
+    while next_record(records, &mut fields)? {
         if number == TOO_MANY {
             return Err(CrifFault::TooManyRows);
         }
@@ -104,13 +100,13 @@ fn read_rows(
 pub fn read_batch(alloc: Global, bytes: &[u8]) -> Result<ReadBatch, CrifFault>
     ensures { Gives (λ r. record { trades = r.batch; passed_over = r.passed_over }) result (crif_of bytes.now) }
 {
-    let mut reader = open(alloc, bytes);
+    let mut records = open(alloc, bytes)?;
     let mut header = ByteRecord::new(alloc);
-    if !next_record(&mut reader, &mut header)? {
+    if !next_record(&mut records, &mut header)? {
         return Err(CrifFault::NoHeader);
     }
     let columns = columns_of(&header)?;
-    let gathered = read_rows(alloc, &mut reader, &columns)?;
+    let gathered = read_rows(alloc, &mut records, &columns)?;
     let batch = Batch::from_trades(Listed::from_vec(gathered.trades));
     Ok(ReadBatch {
         batch,

@@ -1,6 +1,6 @@
 use crif_reader::{Column, CrifFault, RowFault, read_batch};
 use mh_units::{Cents, NumeralFault};
-use simm_kinds::CrifRow;
+use simm_kinds::{CrifRow, TradeRows};
 use std::alloc::Global;
 
 /// Tab-separated, with a byte order mark, columns in another order and case, a column that isn't read, quotes, records that are
@@ -39,6 +39,41 @@ fn trades_stand_by_their_first_rows(rt: HostRuntime) {
         let rows = trade.rows.as_slice();
         assert!(rt; rows.first().and_then(|row| amount_of(row)) == Some(Cents(first)));
         assert!(rt; rows.last().and_then(|row| amount_of(row)) == Some(Cents(last)));
+    }
+}
+
+/// The same two rows without quotes, behind a byte order mark and with blank lines; with the last line at the end of the text; and
+/// with a field in quotes.
+const SPELLINGS: [&[u8]; 3] = [
+    b"\xEF\xBB\xBFTradeID,ProductClass,RiskType,Qualifier,Bucket,Label1,Label2,Amount,AmountCurrency,AmountUSD\r\n\r\n\
+\n\r\nA,FX,Risk_FX,EUR,,,,,,1\r\n\r\nB,FX,Risk_FX,JPY,,,,-2.5,USD\r\n",
+    b"TradeID\tProductClass\tRiskType\tQualifier\tBucket\tLabel1\tLabel2\tAmount\tAmountCurrency\tAmountUSD\r\
+A\tFX\tRisk_FX\tEUR\t\t\t\t\t\t1\r\
+B\tFX\tRisk_FX\tJPY\t\t\t\t-2.5\tUSD",
+    b"TradeID,ProductClass,RiskType,Qualifier,Bucket,Label1,Label2,Amount,AmountCurrency,AmountUSD\n\
+A,FX,\"Risk_FX\",EUR,,,,,,1\n\
+B,FX,Risk_FX,JPY,,,,-2.5,USD,\n",
+];
+
+/// The place of each trade of these, and the amount of its only row.
+const AMOUNTS: [(usize, i128); 2] = [(0, 100), (1, -250)];
+
+fn only_amount_of(trade: &TradeRows) -> Option<Cents> {
+    match trade.rows.as_slice() {
+        [row] => amount_of(row),
+        _ => None,
+    }
+}
+
+#[test]
+fn a_text_reads_the_same_with_and_without_quotes(rt: HostRuntime) {
+    for text in SPELLINGS {
+        let read = read_batch(rt.alloc(), text).ok().expect(&rt, "a batch");
+        assert!(rt; read.batch.trades().len() == AMOUNTS.len());
+        for (place, amount) in AMOUNTS {
+            let trade = read.batch.trades().get(place).expect(&rt, "a trade");
+            assert!(rt; only_amount_of(trade) == Some(Cents(amount)));
+        }
     }
 }
 

@@ -11,14 +11,14 @@ pub returns-then-not-branch : goal.returns-then-not-branch
 unfolding crif_of
 returns-then-not-branch c =
     let gone : c.in_ok-next_record.field-0 ≡ false = c.if-not-branch.true in
-    let all : records_of c.args.bytes.now ≡ [] = sym c.open-reader.ensures.records ∙ rw gone at c.in_ok-next_record.ensures.record in
+    let all : records_of c.args.bytes.now ≡ [] = sym c.in_ok-records.ensures.records ∙ rw gone at c.in_ok-next_record.ensures.record in
     ap crif_of_records all
 
 pub returns-in_err-columns : goal.returns-in_err-columns
 unfolding crif_of
 returns-in_err-columns c =
     let found : c.in_ok-next_record.field-0 ≡ true = c.if-not-branch.false in
-    let all : records_of c.args.bytes.now ≡ fields_of c.next_record.new.taken ∷ records_left c.next_record.new.reader = sym c.open-reader.ensures.records ∙ rw found at c.in_ok-next_record.ensures.record in
+    let all : records_of c.args.bytes.now ≡ fields_of c.next_record.new.taken ∷ records_left c.next_record.new.records = sym c.in_ok-records.ensures.records ∙ rw found at c.in_ok-next_record.ensures.record in
     let p = err_from_is_err_and c.from_residual-in_err-columns.result c.from_residual-in_err-columns.ensures.1 in
     rw (p.1, p.2, all, sym c.in_err-columns.ensures) (fails_same _ _)
 
@@ -26,7 +26,7 @@ pub returns-in_err-gathered : goal.returns-in_err-gathered
 unfolding crif_of
 returns-in_err-gathered c =
     let found : c.in_ok-next_record.field-0 ≡ true = c.if-not-branch.false in
-    let all : records_of c.args.bytes.now ≡ fields_of c.next_record.new.taken ∷ records_left c.next_record.new.reader = sym c.open-reader.ensures.records ∙ rw found at c.in_ok-next_record.ensures.record in
+    let all : records_of c.args.bytes.now ≡ fields_of c.next_record.new.taken ∷ records_left c.next_record.new.records = sym c.in_ok-records.ensures.records ∙ rw found at c.in_ok-next_record.ensures.record in
     let p = err_from_is_err_and c.from_residual-in_err-gathered.result c.from_residual-in_err-gathered.ensures.1 in
     rw (p.1, p.2, all, sym c.in_ok-columns.ensures) c.in_err-gathered.ensures
 
@@ -37,5 +37,5 @@ pub returns : goal.returns
 unfolding crif_of
 returns c =
     let found : c.in_ok-next_record.field-0 ≡ true = c.if-not-branch.false in
-    let all : records_of c.args.bytes.now ≡ fields_of c.next_record.new.taken ∷ records_left c.next_record.new.reader = sym c.open-reader.ensures.records ∙ rw found at c.in_ok-next_record.ensures.record in
+    let all : records_of c.args.bytes.now ≡ fields_of c.next_record.new.taken ∷ records_left c.next_record.new.records = sym c.in_ok-records.ensures.records ∙ rw found at c.in_ok-next_record.ensures.record in
     rw (all, sym c.in_ok-columns.ensures, c.from_trades-batch.ensures, c.from_vec.ensures) c.in_ok-gathered.ensures

@@ -16,18 +16,18 @@ loop-fields-init c =
     record {
       reading = c.requires;
       index = c.new-gathering.ensures.index;
-      way = rw c.new-gathering.ensures.trades (way_starts c.args.columns.now (records_left c.args.reader.now) c.new-params.result c.new-params.ensures);
+      way = rw c.new-gathering.ensures.trades (way_starts c.args.columns.now (records_left c.args.records.now) c.new-params.result c.new-params.ensures);
       few = omega arith;
     }
 
 pub returns-then-number-eq-TOO_MANY : goal.returns-then-number-eq-TOO_MANY
 returns-then-number-eq-TOO_MANY c =
-    let left : records_left c.loop-fields.reader ≡ fields_of c.next_record.new.taken ∷ records_left c.next_record.new.reader = rw c.if-branch.true at c.in_ok-next_record.ensures.record in
+    let left : records_left c.loop-fields.records ≡ fields_of c.next_record.new.taken ∷ records_left c.next_record.new.records = rw c.if-branch.true at c.in_ok-next_record.ensures.record in
     way_too_long _ _ c.loop-fields.number c.loop-fields.passed_over c.loop-fields.params (grown c.loop-fields.gathering) _ _ (omega arith) (rw left at c.loop-fields.invariant.way)
 
 pub returns-in-Err : goal.returns-in-Err
 returns-in-Err c =
-    let left : records_left c.loop-fields.reader ≡ fields_of c.next_record.new.taken ∷ records_left c.next_record.new.reader = rw c.if-branch.true at c.in_ok-next_record.ensures.record in
+    let left : records_left c.loop-fields.records ≡ fields_of c.next_record.new.taken ∷ records_left c.next_record.new.records = rw c.if-branch.true at c.in_ok-next_record.ensures.record in
     let few : c.loop-fields.number ≢ 100002 = omega arith in
     way_fails _ _ c.loop-fields.number c.loop-fields.passed_over c.loop-fields.params (grown c.loop-fields.gathering) _ _ c.in-Err.fault few c.in-Err.ensures (rw left at c.loop-fields.invariant.way)
 
@@ -39,7 +39,7 @@ add-requires-clause-name c =
 
 pub loop-fields-preserved : goal.loop-fields-preserved
 loop-fields-preserved c =
-    let left : records_left c.loop-fields.reader ≡ fields_of c.next_record.new.taken ∷ records_left c.next_record.new.reader = rw c.if-branch.true at c.in_ok-next_record.ensures.record in
+    let left : records_left c.loop-fields.records ≡ fields_of c.next_record.new.taken ∷ records_left c.next_record.new.records = rw c.if-branch.true at c.in_ok-next_record.ensures.record in
     let way = rw left at c.loop-fields.invariant.way in
     let few : c.loop-fields.number ≢ 100002 = omega arith in
     let reading = c.in_ok-next_record.ensures.reading c.if-branch.true in
@@ -68,7 +68,7 @@ loop-fields-preserved c =
 
 pub returns-then-not-branch : goal.returns-then-not-branch
 returns-then-not-branch c =
-    let left : records_left c.loop-fields.reader ≡ fields_of c.next_record.new.taken ∷ records_left c.next_record.new.reader = rw c.if-branch.true at c.in_ok-next_record.ensures.record in
+    let left : records_left c.loop-fields.records ≡ fields_of c.next_record.new.taken ∷ records_left c.next_record.new.records = rw c.if-branch.true at c.in_ok-next_record.ensures.record in
     let few : c.loop-fields.number ≢ 100002 = omega arith in
     way_repeats _ _ c.loop-fields.number c.loop-fields.passed_over c.loop-fields.params (grown c.loop-fields.gathering) _ _ (record { trade = c.in-Some.entry.trade.now; row = c.in-Some.entry.row }) few
     (rw c.in-Some.is at c.in-Ok.ensures)
@@ -77,14 +77,14 @@ returns-then-not-branch c =
 
 pub returns-then-is_empty : goal.returns-then-is_empty
 returns-then-is_empty c =
-    let left : records_left c.loop-fields.reader ≡ [] = rw c.if-branch.false at c.in_ok-next_record.ensures.record in
+    let left : records_left c.loop-fields.records ≡ [] = rw c.if-branch.false at c.in_ok-next_record.ensures.record in
     let empty : vec_len c.in_ok-trades.trades ≡ 0 = eqb-true (vec_len c.in_ok-trades.trades) 0 (sym c.if-is_empty.ensures) in
     let none : length c.in_ok-trades.trades.items ≡ 0 = omega (arith, c.in_ok-trades.trades.ok.0) in
     way_ends_empty _ _ c.loop-fields.number c.loop-fields.passed_over c.loop-fields.params (grown c.loop-fields.gathering) (ap length (sym c.in_ok-trades.ensures) ∙ none) (rw left at c.loop-fields.invariant.way)
 
 pub returns : goal.returns
 returns c =
-    let left : records_left c.loop-fields.reader ≡ [] = rw c.if-branch.false at c.in_ok-next_record.ensures.record in
+    let left : records_left c.loop-fields.records ≡ [] = rw c.if-branch.false at c.in_ok-next_record.ensures.record in
     let there : vec_len c.in_ok-trades.trades ≢ 0 = eqb-false (vec_len c.in_ok-trades.trades) 0 (sym c.if-is_empty.ensures) in
     let some : length c.in_ok-trades.trades.items ≢ 0 = omega (arith, c.in_ok-trades.trades.ok.0) in
     rw c.in_ok-trades.ensures (way_ends _ _ c.loop-fields.number c.loop-fields.passed_over c.loop-fields.params (grown c.loop-fields.gathering) (λ none. some (ap length c.in_ok-trades.ensures ∙ none)) (rw left at c.loop-fields.invariant.way))

@@ -6,11 +6,11 @@ use Rattle.crif_reader.proofs.read.read_rows.Given as goal
 
 abbrev pub invariant-loop-fields : goal.invariant-loop-fields
 invariant-loop-fields l = record {
-  reading : IsReading l.reader;
+  reading : IsReading l.records;
   index : IsIndex l.gathering;
-  way : IsUnderWay l.columns (records_left l.fn.reader) l.number l.passed_over l.params (grown l.gathering) (records_left l.reader);
+  way : IsUnderWay l.columns (records_left l.fn.records) l.number l.passed_over l.params (grown l.gathering) (records_left l.records);
   few : l.number ≤ 100002;
 }
 
 abbrev pub decreases-loop-fields : goal.decreases-loop-fields
-decreases-loop-fields l = length (records_left l.reader)
+decreases-loop-fields l = length (records_left l.records)

@@ -2,7 +2,7 @@ use Rattle.std.proofs.Common.{inl, inr, ◌∙◌}
 use Rattle.std.proofs.lemmas.Bool.{cases_Bool}
 use Rattle.csv.specs.Records.{fields_of}
 use Rattle.crif_reader.proofs.RecordsLeft.{first_taken, none_taken}
-use Rattle.crif_reader.proofs.records.next_record.Goals as goal
+use Rattle.crif_reader.proofs.records.read_quoted.Goals as goal
 
 pub returns-in-Ok-clause-record : goal.returns-in-Ok-clause-record
 returns-in-Ok-clause-record c =

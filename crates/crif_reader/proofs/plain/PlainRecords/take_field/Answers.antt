@@ -1,0 +1,22 @@
+use Rattle.std.proofs.Common.{◌∙◌, ◌≡◌, ◌≤◌, ◌++◌, ◌∷◌, [], arith, length, drop, take, sym, ap, refl, get_or}
+use Rattle.std.proofs.lemmas.List.Sums.{prefix_len-le-length}
+use Rattle.std.specs.Prelude.{not}
+use Rattle.csv.specs.Records.{fields_of}
+use Rattle.csv.specs.declared.parser.State.TheVariants as st
+use Rattle.crif_reader.specs.Plain.{ends_field}
+use Rattle.crif_reader.proofs.PlainReads.{last_field, field_before, first_and_rest}
+use Rattle.crif_reader.proofs.plain.PlainRecords.take_field.Goals as goal
+
+pub split_at-requires : goal.split_at-requires
+split_at-requires c = rw c.field_len.ensures (prefix_len-le-length (λ b. not (ends_field c.args.self.now.delimiter b)) c.args.self.now.rest.now)
+
+pub returns-in_default-clause-field : goal.returns-in_default-clause-field
+returns-in_default-clause-field c =
+    let last = last_field c.args.self.now.delimiter (fields_of c.args.taken.now) c.args.self.now.rest.now c.split_at.result.0.now c.split_at.result.1.now c.field_len.result
+    c.requires.quoteless c.field_len.ensures c.split_at.ensures.front c.split_at.ensures.back c.in_default.len_below in
+    (st.StartRecord, rw (c.in_ok-push_field.ensures.fields, c.requires.partial) last)
+
+pub returns-clause-field : goal.returns-clause-field
+returns-clause-field c =
+    field_before c.args.self.now _ (fields_of c.args.taken.now) (fields_of c.push_field.new.self) c.split_at.result.0.now (get_or c.split_at.result.1.now 0 0) c.field_len.result
+    c.requires.quoteless c.field_len.ensures c.split_at.ensures.front (first_and_rest c.split_at.result.1.now c.in-len1-up.len_at_least ∙ c.split_at.ensures.back) (rw (c.in_ok-push_field.ensures.fields, c.requires.partial) refl) refl
