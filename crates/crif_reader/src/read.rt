@@ -19,6 +19,11 @@ use std::alloc::Global;
 /// The number of the first record that is one too many: the header is the first, and 100,000 may follow it.
 const TOO_MANY: u32 = 100_002;
 
+/// The room that a record's bytes and fields are given at first: a header and rows mostly fit into it.
+const RECORD_BYTES: usize = 256;
+
+const RECORD_FIELDS: usize = 16;
+
 /// What a CRIF file has: its rows, and how many records were passed over, being present values or of the schedule.
 #[derive(Debug, Drop)]
 pub struct ReadBatch {
@@ -49,21 +54,25 @@ fn read_row<'a>(
     }
 }
 
-/// Reads the records behind the header, and gathers their rows by trade.
-fn read_rows(alloc: Global, records: &mut Records, columns: &Columns) -> Result<Gathered, CrifFault>
+/// Reads the records behind the header, each into `fields`, and gathers their rows by trade.
+fn read_rows(
+    alloc: Global,
+    records: &mut Records,
+    columns: &Columns,
+    fields: &mut ByteRecord,
+) -> Result<Gathered, CrifFault>
     requires { IsReading records.old }
     ensures { Gives (λ g. record { trades = g.trades.items; passed_over = g.passed_over }) result (rows_of columns.now (records_left records.old)) }
 {
     let mut gathering = Gathering::new(alloc);
     let mut params = Params::new(alloc);
-    let mut fields = ByteRecord::new(alloc);
     let mut number = 2u32;
     let mut passed_over = 0u32;
-    while next_record(records, &mut fields)? {
+    while next_record(records, fields)? {
         if number == TOO_MANY {
             return Err(CrifFault::TooManyRows);
         }
-        let taken = match read_row(alloc, number, columns, &fields) {
+        let taken = match read_row(alloc, number, columns, fields) {
             Ok(taken) => taken,
             Err(fault) => return Err(fault),
         };
@@ -101,12 +110,12 @@ pub fn read_batch(alloc: Global, bytes: &[u8]) -> Result<ReadBatch, CrifFault>
     ensures { Gives (λ r. record { trades = r.batch; passed_over = r.passed_over }) result (crif_of bytes.now) }
 {
     let mut records = open(alloc, bytes)?;
-    let mut header = ByteRecord::new(alloc);
-    if !next_record(&mut records, &mut header)? {
+    let mut fields = ByteRecord::with_capacity(alloc, RECORD_BYTES, RECORD_FIELDS)?;
+    if !next_record(&mut records, &mut fields)? {
         return Err(CrifFault::NoHeader);
     }
-    let columns = columns_of(&header)?;
-    let gathered = read_rows(alloc, &mut records, &columns)?;
+    let columns = columns_of(&fields)?;
+    let gathered = read_rows(alloc, &mut records, &columns, &mut fields)?;
     let batch = Batch::from_trades(Listed::from_vec(gathered.trades));
     Ok(ReadBatch {
         batch,

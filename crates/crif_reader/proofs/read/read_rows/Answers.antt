@@ -11,8 +11,8 @@ use Rattle.crif_reader.proofs.Runs.{way_starts, way_passes, way_takes, way_fails
 use Rattle.crif_reader.proofs.read.read_rows.Goals as goal
 use Rattle.crif_reader.proofs.read.read_rows.Goals.{in-Some+in_ok-note-in-Some+else-not-branch+in_ok-add-in-Some, in-None}
 
-pub loop-fields-init : goal.loop-fields-init
-loop-fields-init c =
+pub loop-params-init : goal.loop-params-init
+loop-params-init c =
     record {
       reading = c.requires;
       index = c.new-gathering.ensures.index;
@@ -22,26 +22,26 @@ loop-fields-init c =
 
 pub returns-then-number-eq-TOO_MANY : goal.returns-then-number-eq-TOO_MANY
 returns-then-number-eq-TOO_MANY c =
-    let left : records_left c.loop-fields.records ≡ fields_of c.next_record.new.taken ∷ records_left c.next_record.new.records = rw c.if-branch.true at c.in_ok-next_record.ensures.record in
-    way_too_long _ _ c.loop-fields.number c.loop-fields.passed_over c.loop-fields.params (grown c.loop-fields.gathering) _ _ (omega arith) (rw left at c.loop-fields.invariant.way)
+    let left : records_left c.loop-params.records ≡ fields_of c.next_record.new.taken ∷ records_left c.next_record.new.records = rw c.if-branch.true at c.in_ok-next_record.ensures.record in
+    way_too_long _ _ c.loop-params.number c.loop-params.passed_over c.loop-params.params (grown c.loop-params.gathering) _ _ (omega arith) (rw left at c.loop-params.invariant.way)
 
 pub returns-in-Err : goal.returns-in-Err
 returns-in-Err c =
-    let left : records_left c.loop-fields.records ≡ fields_of c.next_record.new.taken ∷ records_left c.next_record.new.records = rw c.if-branch.true at c.in_ok-next_record.ensures.record in
-    let few : c.loop-fields.number ≢ 100002 = omega arith in
-    way_fails _ _ c.loop-fields.number c.loop-fields.passed_over c.loop-fields.params (grown c.loop-fields.gathering) _ _ c.in-Err.fault few c.in-Err.ensures (rw left at c.loop-fields.invariant.way)
+    let left : records_left c.loop-params.records ≡ fields_of c.next_record.new.taken ∷ records_left c.next_record.new.records = rw c.if-branch.true at c.in_ok-next_record.ensures.record in
+    let few : c.loop-params.number ≢ 100002 = omega arith in
+    way_fails _ _ c.loop-params.number c.loop-params.passed_over c.loop-params.params (grown c.loop-params.gathering) _ _ c.in-Err.fault few c.in-Err.ensures (rw left at c.loop-params.invariant.way)
 
 pub add-requires-clause-name : goal.add-requires-clause-name
 add-requires-clause-name c =
     let fields = fields_of c.next_record.new.taken in
-    let read = mapped_ok (λ d. Row c.loop-fields.number d) (row_of c.args.columns.now fields) _ (rw c.in-Some.is at c.in-Ok.ensures) in
+    let read = mapped_ok (λ d. Row c.loop-params.number d) (row_of c.args.columns.now fields) _ (rw c.in-Some.is at c.in-Ok.ensures) in
     (good_row c.args.columns.now fields (record { trade = c.in-Some.entry.trade.now; row = c.in-Some.entry.row }) read).name
 
-pub loop-fields-preserved : goal.loop-fields-preserved
-loop-fields-preserved c =
-    let left : records_left c.loop-fields.records ≡ fields_of c.next_record.new.taken ∷ records_left c.next_record.new.records = rw c.if-branch.true at c.in_ok-next_record.ensures.record in
-    let way = rw left at c.loop-fields.invariant.way in
-    let few : c.loop-fields.number ≢ 100002 = omega arith in
+pub loop-params-preserved : goal.loop-params-preserved
+loop-params-preserved c =
+    let left : records_left c.loop-params.records ≡ fields_of c.next_record.new.taken ∷ records_left c.next_record.new.records = rw c.if-branch.true at c.in_ok-next_record.ensures.record in
+    let way = rw left at c.loop-params.invariant.way in
+    let few : c.loop-params.number ≢ 100002 = omega arith in
     let reading = c.in_ok-next_record.ensures.reading c.if-branch.true in
     elim c.match-taken.branch [
       | in-Some+in_ok-note-in-Some+else-not-branch+in_ok-add-in-Some w ↦
@@ -50,7 +50,7 @@ loop-fields-preserved c =
             reading = reading;
             index = rw w.gathering-is w.in_ok-add-in-Some.ensures.index;
             way = rw (w.gathering-is, w.passed_over-is, w.params-is, w.in_ok-add-in-Some.ensures.trades) (
-                way_takes _ _ c.loop-fields.number c.loop-fields.passed_over c.loop-fields.params w.note.new.self (grown c.loop-fields.gathering) _ _ (record { trade = w.in-Some.entry.trade.now; row = w.in-Some.entry.row }) few
+                way_takes _ _ c.loop-params.number c.loop-params.passed_over c.loop-params.params w.note.new.self (grown c.loop-params.gathering) _ _ (record { trade = w.in-Some.entry.trade.now; row = w.in-Some.entry.row }) few
                 (rw w.in-Some.is at c.in-Ok.ensures)
                 (λ before noted. not-true _ (sym (w.in_ok-note-in-Some.ensures.once before noted) ∙ once))
                 (λ before noted. w.in_ok-note-in-Some.ensures.noted before noted once)
@@ -60,31 +60,31 @@ loop-fields-preserved c =
           }
       | in-None w ↦ record {
         reading = reading;
-        index = rw w.gathering-is c.loop-fields.invariant.index;
-        way = rw (w.gathering-is, w.passed_over-is, w.params-is) (way_passes _ _ c.loop-fields.number c.loop-fields.passed_over c.loop-fields.params (grown c.loop-fields.gathering) _ _ few (rw w.in-None.is at c.in-Ok.ensures) way);
+        index = rw w.gathering-is c.loop-params.invariant.index;
+        way = rw (w.gathering-is, w.passed_over-is, w.params-is) (way_passes _ _ c.loop-params.number c.loop-params.passed_over c.loop-params.params (grown c.loop-params.gathering) _ _ few (rw w.in-None.is at c.in-Ok.ensures) way);
         few = omega arith;
       }
     ]
 
 pub returns-then-not-branch : goal.returns-then-not-branch
 returns-then-not-branch c =
-    let left : records_left c.loop-fields.records ≡ fields_of c.next_record.new.taken ∷ records_left c.next_record.new.records = rw c.if-branch.true at c.in_ok-next_record.ensures.record in
-    let few : c.loop-fields.number ≢ 100002 = omega arith in
-    way_repeats _ _ c.loop-fields.number c.loop-fields.passed_over c.loop-fields.params (grown c.loop-fields.gathering) _ _ (record { trade = c.in-Some.entry.trade.now; row = c.in-Some.entry.row }) few
+    let left : records_left c.loop-params.records ≡ fields_of c.next_record.new.taken ∷ records_left c.next_record.new.records = rw c.if-branch.true at c.in_ok-next_record.ensures.record in
+    let few : c.loop-params.number ≢ 100002 = omega arith in
+    way_repeats _ _ c.loop-params.number c.loop-params.passed_over c.loop-params.params (grown c.loop-params.gathering) _ _ (record { trade = c.in-Some.entry.trade.now; row = c.in-Some.entry.row }) few
     (rw c.in-Some.is at c.in-Ok.ensures)
     (λ before noted. not-false _ (sym (c.in_ok-note-in-Some.ensures.once before noted) ∙ c.if-not-branch.true))
-    (rw left at c.loop-fields.invariant.way)
+    (rw left at c.loop-params.invariant.way)
 
 pub returns-then-is_empty : goal.returns-then-is_empty
 returns-then-is_empty c =
-    let left : records_left c.loop-fields.records ≡ [] = rw c.if-branch.false at c.in_ok-next_record.ensures.record in
+    let left : records_left c.loop-params.records ≡ [] = rw c.if-branch.false at c.in_ok-next_record.ensures.record in
     let empty : vec_len c.in_ok-trades.trades ≡ 0 = eqb-true (vec_len c.in_ok-trades.trades) 0 (sym c.if-is_empty.ensures) in
     let none : length c.in_ok-trades.trades.items ≡ 0 = omega (arith, c.in_ok-trades.trades.ok.0) in
-    way_ends_empty _ _ c.loop-fields.number c.loop-fields.passed_over c.loop-fields.params (grown c.loop-fields.gathering) (ap length (sym c.in_ok-trades.ensures) ∙ none) (rw left at c.loop-fields.invariant.way)
+    way_ends_empty _ _ c.loop-params.number c.loop-params.passed_over c.loop-params.params (grown c.loop-params.gathering) (ap length (sym c.in_ok-trades.ensures) ∙ none) (rw left at c.loop-params.invariant.way)
 
 pub returns : goal.returns
 returns c =
-    let left : records_left c.loop-fields.records ≡ [] = rw c.if-branch.false at c.in_ok-next_record.ensures.record in
+    let left : records_left c.loop-params.records ≡ [] = rw c.if-branch.false at c.in_ok-next_record.ensures.record in
     let there : vec_len c.in_ok-trades.trades ≢ 0 = eqb-false (vec_len c.in_ok-trades.trades) 0 (sym c.if-is_empty.ensures) in
     let some : length c.in_ok-trades.trades.items ≢ 0 = omega (arith, c.in_ok-trades.trades.ok.0) in
-    rw c.in_ok-trades.ensures (way_ends _ _ c.loop-fields.number c.loop-fields.passed_over c.loop-fields.params (grown c.loop-fields.gathering) (λ none. some (ap length c.in_ok-trades.ensures ∙ none)) (rw left at c.loop-fields.invariant.way))
+    rw c.in_ok-trades.ensures (way_ends _ _ c.loop-params.number c.loop-params.passed_over c.loop-params.params (grown c.loop-params.gathering) (λ none. some (ap length c.in_ok-trades.ensures ∙ none)) (rw left at c.loop-params.invariant.way))
