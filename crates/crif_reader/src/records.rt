@@ -59,6 +59,15 @@ fn open_reader(alloc: Global, bytes: &[u8]) -> Reader<&[u8]>
         .from_reader(alloc, bytes)
 }
 
+/// The records that csv reads. It stands apart, so that the reader's size is paid for only where it is needed.
+#[inline(never)]
+fn open_quoted(alloc: Global, bytes: &[u8]) -> Result<Records<'_>, AllocError>
+    ensures reading { IfOk result (λ records. IsReading records) }
+    ensures records { IfOk result (λ records. records_left records ≡ records_of bytes.now) }
+{
+    Ok(Records::Quoted(Box::new(alloc, open_reader(alloc, bytes))?))
+}
+
 /// The records of a file, from its first. The only error is want of memory.
 #[tactic(auto, unfolding(crate::specs::Records::records_of))]
 pub fn open(alloc: Global, bytes: &[u8]) -> Result<Records<'_>, AllocError>
@@ -66,7 +75,7 @@ pub fn open(alloc: Global, bytes: &[u8]) -> Result<Records<'_>, AllocError>
     ensures records { IfOk result (λ records. records_left records ≡ records_of bytes.now) }
 {
     if has_quote(bytes) {
-        return Ok(Records::Quoted(Box::new(alloc, open_reader(alloc, bytes))?));
+        return open_quoted(alloc, bytes);
     }
     Ok(Records::Plain(PlainRecords {
         rest: strip_bom(bytes),
