@@ -1,10 +1,10 @@
 -- A byte order mark at the start is left off.
-use Rattle.std.proofs.Common.{◌≡◌, ◌==◌, ◌&&◌, ◌||◌, ◌+◌, ◌∷◌, [], ℕ, Bool, true, false, List, length, take, drop, Option, Some, None, refl, sym, ◌∙◌, inl, inr}
+use Rattle.std.proofs.Common.{◌≡◌, ◌==◌, ◌&&◌, ◌+◌, ◌∷◌, [], ℕ, Bool, true, false, List, length, take, drop, Option, Some, None, refl, sym, ◌∙◌, inl, inr}
 use Rattle.std.specs.Borrow.{Bor}
 use Rattle.std.specs.Cmp.Lexicographic.{pointwise}
 use Rattle.std.specs.Prelude.{MatchOption, unwrap_or}
 use Rattle.std.proofs.lemmas.Bool.{cases_Bool}
-use Rattle.csv.specs.Reading.{is_bom, strip_bom}
+use Rattle.csv.specs.Reading.{strip_bom}
 use Rattle.crif_reader.specs.Plain.{has_quote}
 use Rattle.crif_reader.proofs.PlainReads.{quoteless_drop}
 

@@ -1,14 +1,14 @@
 -- Bytes without quotes that are cut in place give the records that csv reads.
-use Rattle.std.proofs.Common.{◌≡◌, ◌==◌, ◌||◌, ◌∷◌, ◌++◌, [], ℕ, suc, zero, ◌+◌, Bool, true, false, cond, List, length, take, drop, get_or, ◌-◌, ◌≤◌, ◌<◌, arith, subst, Option, Some, None, refl, sym, ap, ◌∙◌, append_assoc, inl, inr}
+use Rattle.std.proofs.Common.{◌≡◌, ◌==◌, ◌||◌, ◌∷◌, ◌++◌, [], ℕ, suc, zero, ◌+◌, Bool, true, false, cond, List, length, take, drop, get_or, ◌-◌, ◌≤◌, ◌<◌, arith, subst, Option, Some, refl, sym, ap, ◌∙◌, append_assoc, inl, inr}
 use Rattle.std.proofs.lemmas.List.{append-nil, take_all}
 use Rattle.std.proofs.lemmas.Bool.{cases_Bool, eqb-true}
 use Rattle.std.specs.List.{position_or_len}
-use Rattle.csv.specs.Machine.{Read, after_end, carriage_return, ends_at_end, line_feed, next_record}
+use Rattle.csv.specs.Machine.{Read, after_end, ends_at_end, line_feed, next_record}
 use Rattle.csv.specs.Reading.{records, records_from, records_next}
 use Rattle.csv.specs.declared.parser.State.{State}
 use Rattle.csv.specs.declared.parser.State.TheVariants as st
 use Rattle.csv.specs.declared.parser.Terminator.TheVariants as term
-use Rattle.crif_reader.specs.Plain.{csv_by, ends_field, from_record, has_quote, is_line_end, TakesField}
+use Rattle.crif_reader.specs.Plain.{csv_by, ends_field, without_leading_line_ends, has_quote, is_line_end, TakesField}
 use Rattle.crif_reader.specs.declared.plain.PlainRecords.{PlainRecords}
 use Rattle.crif_reader.proofs.RecordsLeft.{takes_first, none_left}
 
@@ -27,7 +27,7 @@ quoteless_drop zero bytes e = e
 quoteless_drop (suc n) [] e = e
 quoteless_drop (suc n) (b ∷ bs) e = quoteless_drop n bs (or-right (b == 34) _ e)
 
-pub quoteless_record : (bytes : List ℕ) → has_quote bytes ≡ false → has_quote (from_record bytes) ≡ false
+pub quoteless_record : (bytes : List ℕ) → has_quote bytes ≡ false → has_quote (without_leading_line_ends bytes) ≡ false
 quoteless_record [] e = e
 quoteless_record (b ∷ bs) e = elim (cases_Bool (is_line_end b)) [
   | inl ends ↦ rw ends (quoteless_record bs (or-right (b == 34) _ e))
@@ -108,12 +108,12 @@ field_before old new before after field b n e place front back all same =
 
 -- ---- a record begins
 
-record_here : (b : ℕ) (bs : List ℕ) → is_line_end b ≡ false → from_record (b ∷ bs) ≡ b ∷ bs
+record_here : (b : ℕ) (bs : List ℕ) → is_line_end b ≡ false → without_leading_line_ends (b ∷ bs) ≡ b ∷ bs
 record_here b bs inside = rw inside refl
 
 -- line ends before a record are passed over
 ends_skipped : (delimiter : ℕ) (bytes : List ℕ)
-    → next_record (csv_by delimiter) st.StartRecord [] [] bytes ≡ next_record (csv_by delimiter) st.StartRecord [] [] (from_record bytes)
+    → next_record (csv_by delimiter) st.StartRecord [] [] bytes ≡ next_record (csv_by delimiter) st.StartRecord [] [] (without_leading_line_ends bytes)
 unfolding next_record
 ends_skipped delimiter [] = refl
 ends_skipped delimiter (b ∷ bs) = elim (cases_Bool (is_line_end b)) [
@@ -128,18 +128,18 @@ unfolding next_record
 begins_same delimiter b bs inside e = rw (inside, or-left (b == 34) _ e) refl
 
 -- where there is a record at all, csv reads it from its first field on
-pub record_begins : (delimiter : ℕ) (bytes : List ℕ) → has_quote bytes ≡ false → (length (from_record bytes) == 0) ≡ false
-    → next_record (csv_by delimiter) st.StartRecord [] [] bytes ≡ next_record (csv_by delimiter) st.InField [] [] (from_record bytes)
+pub record_begins : (delimiter : ℕ) (bytes : List ℕ) → has_quote bytes ≡ false → (length (without_leading_line_ends bytes) == 0) ≡ false
+    → next_record (csv_by delimiter) st.StartRecord [] [] bytes ≡ next_record (csv_by delimiter) st.InField [] [] (without_leading_line_ends bytes)
 record_begins delimiter [] e some = absurd (cc some)
 record_begins delimiter (b ∷ bs) e some = elim (cases_Bool (is_line_end b)) [
   | inl ends ↦ ends_skipped delimiter (b ∷ bs) ∙ rw ends (sym (ends_skipped delimiter bs) ∙ record_begins delimiter bs (or-right (b == 34) _ e) (rw ends at some))
   | inr inside ↦ begins_same delimiter b bs inside e ∙ ap (next_record (csv_by delimiter) st.InField [] []) (sym (record_here b bs inside))
 ]
 
-pub no_record : (delimiter : ℕ) (bytes : List ℕ) → (length (from_record bytes) == 0) ≡ true → records (csv_by delimiter) bytes ≡ []
+pub no_record : (delimiter : ℕ) (bytes : List ℕ) → (length (without_leading_line_ends bytes) == 0) ≡ true → records (csv_by delimiter) bytes ≡ []
 unfolding next_record
 no_record delimiter bytes none =
-    none_left (csv_by delimiter) st.StartRecord bytes (ends_skipped delimiter bytes ∙ ap (next_record (csv_by delimiter) st.StartRecord [] []) (nothing (from_record bytes) none))
+    none_left (csv_by delimiter) st.StartRecord bytes (ends_skipped delimiter bytes ∙ ap (next_record (csv_by delimiter) st.StartRecord [] []) (nothing (without_leading_line_ends bytes) none))
   where
     nothing : (bs : List ℕ) → (length bs == 0) ≡ true → bs ≡ []
     nothing [] e = refl

@@ -1,5 +1,5 @@
 -- Bytes without quotes, which are cut into records in place.
-use Rattle.std.specs.Prelude.{◌≡◌, ℕ, List, [], ◌∷◌, ◌==◌, ◌||◌, Bool, false, true, length, Option, Some, if◌then◌else◌}
+use Rattle.std.specs.Prelude.{◌≡◌, ℕ, List, [], ◌∷◌, ◌==◌, ◌||◌, Bool, false, true, Option, Some, if◌then◌else◌}
 use Rattle.std.specs.List.{list_any}
 use Rattle.csv.specs.Machine.{Read, ends_with, next_record}
 use Rattle.csv.specs.Reading.{default_config, records}
@@ -24,19 +24,19 @@ abbrev pub ends_field : ℕ → ℕ → Bool
 ends_field delimiter b = b == delimiter || is_line_end b
 
 -- the bytes from the first on that ends no line
-abbrev pub from_record : List ℕ → List ℕ
-from_record [] = []
-from_record (b ∷ bs) = if is_line_end b then from_record bs else b ∷ bs
+abbrev pub without_leading_line_ends : List ℕ → List ℕ
+without_leading_line_ends [] = []
+without_leading_line_ends (b ∷ bs) = if is_line_end b then without_leading_line_ends bs else b ∷ bs
 
 -- the records that csv reads in what is left
 abbrev pub plain_left : PlainRecords → List (List (List ℕ))
 plain_left plain = records (csv_by plain.delimiter) plain.rest.now
 
--- what csv reads of a record further, behind its fields so far, in a field of which nothing is read yet
+-- what csv reads of a record further: behind its fields so far, in a field of which nothing is read yet
 abbrev pub read_further : PlainRecords → List (List ℕ) → Option Read
 read_further plain fields = next_record (csv_by plain.delimiter) st.InField fields [] plain.rest.now
 
--- behind one more field csv reads the record as before, or the record is over
+-- a field was taken: csv reads the record further behind it as before it, or the record is over with it
 abbrev pub TakesField : Bool → PlainRecords → List (List ℕ) → PlainRecords → List (List ℕ) → Type 0
 TakesField true old before new fields = read_further old before ≡ read_further new fields
 TakesField false old before new fields = (s : State) × (read_further old before ≡ Some (fields, s, new.rest.now))

@@ -1,8 +1,8 @@
 //! The records of bytes without quotes, cut in place.
-ghost use Rattle.std.specs.Prelude.{◌≡◌, ◌∷◌, ◌<◌, [], false, true, length, if◌then◌else◌, IfOk, IsTrue};
+ghost use Rattle.std.specs.Prelude.{◌≡◌, ◌∷◌, ◌<◌, [], false, length, if◌then◌else◌, IfOk, OnOk, IsTrue};
 ghost use Rattle.std.specs.List.{position_or_len};
 ghost use Rattle.csv.specs.Records.{fields_of, partial_of};
-ghost use Rattle.crif_reader.specs.Plain.{has_quote, is_line_end, ends_field, from_record, plain_left, TakesField, read_further};
+ghost use Rattle.crif_reader.specs.Plain.{has_quote, is_line_end, ends_field, without_leading_line_ends, plain_left, TakesField};
 
 use csv::ByteRecord;
 use std::alloc::AllocError;
@@ -40,8 +40,8 @@ fn field_len(bytes: &[u8], delimiter: u8) -> usize
 }
 
 /// Leaves the line ends at the start off.
-fn from_record(bytes: &[u8]) -> &[u8]
-    ensures { result.now ≡ from_record bytes.now }
+fn without_leading_line_ends(bytes: &[u8]) -> &[u8]
+    ensures { result.now ≡ without_leading_line_ends bytes.now }
 {
     let mut rest = bytes;
     while let [b'\r' | b'\n', inner @ ..] = rest {
@@ -56,9 +56,9 @@ impl PlainRecords<'_> {
         requires quoteless { has_quote self.old.rest.now ≡ false }
         requires partial { partial_of taken.old ≡ [] }
         ensures field { IfOk result (λ more. TakesField more self.old (fields_of taken.old) self.new (fields_of taken.new)) }
-        ensures quoteless { IfOk result (λ _. has_quote self.new.rest.now ≡ false) }
-        ensures delimiter { IfOk result (λ _. self.new.delimiter ≡ self.old.delimiter) }
-        ensures partial { IfOk result (λ _. partial_of taken.new ≡ []) }
+        ensures quoteless { OnOk result (has_quote self.new.rest.now ≡ false) }
+        ensures delimiter { OnOk result (self.new.delimiter ≡ self.old.delimiter) }
+        ensures partial { OnOk result (partial_of taken.new ≡ []) }
         ensures shorter { IfOk result (λ more. IsTrue more → length self.new.rest.now < length self.old.rest.now) }
     {
         let (field, after) = self.rest.split_at(field_len(self.rest, self.delimiter));
@@ -75,10 +75,10 @@ impl PlainRecords<'_> {
     pub fn next_record(&mut self, taken: &mut ByteRecord) -> Result<bool, AllocError>
         requires { has_quote self.old.rest.now ≡ false }
         ensures record { IfOk result (λ found. plain_left self.old ≡ (if found then fields_of taken.new ∷ plain_left self.new else [])) }
-        ensures quoteless { IfOk result (λ _. has_quote self.new.rest.now ≡ false) }
+        ensures quoteless { OnOk result (has_quote self.new.rest.now ≡ false) }
     {
         taken.clear();
-        self.rest = from_record(self.rest);
+        self.rest = without_leading_line_ends(self.rest);
         if self.rest.is_empty() {
             return Ok(false);
         }

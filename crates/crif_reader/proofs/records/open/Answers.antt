@@ -1,4 +1,4 @@
-use Rattle.std.proofs.Common.{◌∙◌, sym}
+use Rattle.std.proofs.Common.{sym}
 use Rattle.crif_reader.proofs.Marks.{quoteless_stripped}
 use Rattle.crif_reader.proofs.records.open.Goals as goal
 

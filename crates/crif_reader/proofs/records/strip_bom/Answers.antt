@@ -1,5 +1,3 @@
-use Rattle.std.proofs.Common.{ap, ◌∙◌}
-use Rattle.std.specs.Borrow.{Bor}
 use Rattle.crif_reader.proofs.Marks.{stripped}
 use Rattle.crif_reader.proofs.records.strip_bom.Goals as goal
 

@@ -1,4 +1,4 @@
-use Rattle.std.proofs.Common.{◌∙◌, ◌≡◌, ◌≤◌, ◌++◌, ◌∷◌, [], arith, length, drop, take, sym, ap, refl, get_or}
+use Rattle.std.proofs.Common.{◌∙◌, refl, get_or}
 use Rattle.std.proofs.lemmas.List.Sums.{prefix_len-le-length}
 use Rattle.std.specs.Prelude.{not}
 use Rattle.csv.specs.Records.{fields_of}
