@@ -2,6 +2,7 @@
 use Rattle.std.proofs.Common.{◌≡◌, ℕ, ◌+◌, ◌*◌, ◌^◌, ◌≤◌, ℤ, pos, negsuc, ◌+ℤ◌, ◌*ℤ◌, ◌≤ℤ◌, unsigned_abs, FitsSigned, to_z, of_z, ap, ◌∙◌, subst, sym, refl, arith}
 use Rattle.std.specs.Int.{w128}
 use Rattle.std.proofs.lemmas.Int.{ints, fits_signed_from_abs}
+use Rattle.std.proofs.Math.IntN.{zero-*ℤ, *ℤ_comm}
 use Rattle.mh_units.specs.Rounding.{up, root}
 use Rattle.mh_units.proofs.Roundings.{up_is, root_is, IsRoot_unique}
 use Rattle.mh_units.proofs.Integers.{same128, product_size, unsigned_abs-add}
@@ -46,7 +47,14 @@ pair_of c a b h ma mb =
 pub same_product : (c d a b x y : ℤ) → c ≡ d → a ≡ b → x ≡ y → c *ℤ a *ℤ x ≡ d *ℤ b *ℤ y
 same_product c d a b x y e f g = ap (λ z. z *ℤ a *ℤ x) e ∙ ap (λ z. d *ℤ z *ℤ x) f ∙ ap (λ z. d *ℤ b *ℤ z) g
 
+-- a product with a margin of 0
+pub without_margin : (c a b : ℤ) → a ≡ pos 0 → c *ℤ a *ℤ b ≡ pos 0
+without_margin c a b none = ap (λ z. c *ℤ z *ℤ b) none ∙ ap (λ z. z *ℤ b) (*ℤ_comm c (pos 0) ∙ zero-*ℤ c) ∙ zero-*ℤ b
+
 -- ---- sums of six
+
+pub six_nothings : (a b c d e f : ℤ) → a ≡ pos 0 → b ≡ pos 0 → c ≡ pos 0 → d ≡ pos 0 → e ≡ pos 0 → f ≡ pos 0 → pos 0 ≡ a +ℤ (b +ℤ (c +ℤ (d +ℤ (e +ℤ (f +ℤ pos 0)))))
+six_nothings a b c d e f p q r s t u = omega (arith, ints)
 
 abbrev pub plus : ℤ → ℤ → ℤ
 plus a b = passed a +ℤ passed b

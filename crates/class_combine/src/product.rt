@@ -39,8 +39,21 @@ fn pairs(params: &Params, classes: &ClassMargins) -> i128
         + pairs_with(params, classes, RiskClass::FX)
 }
 
-// A class and each class, in cents squared times 10^4.
+// A class and each class, in cents squared times 10^4. A class without margin adds nothing.
 fn pairs_with(params: &Params, classes: &ClassMargins, class: RiskClass) -> i128
+    requires { AreClassMargins classes.now }
+    ensures value { result ≡ total_by (class_pair params.now classes.now class) each_class }
+    ensures size { unsigned_abs result ≤ 6 * (10000 * (2 * 10 ^ 16 * (2 * 10 ^ 16))) }
+{
+    if margin_of(classes, class).0 == 0 {
+        0
+    } else {
+        each_pair_with(params, classes, class)
+    }
+}
+
+// The same, class by class.
+fn each_pair_with(params: &Params, classes: &ClassMargins, class: RiskClass) -> i128
     requires { AreClassMargins classes.now }
     ensures value { result ≡ total_by (class_pair params.now classes.now class) each_class }
     ensures size { unsigned_abs result ≤ 6 * (10000 * (2 * 10 ^ 16 * (2 * 10 ^ 16))) }

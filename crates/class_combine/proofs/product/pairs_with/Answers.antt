@@ -1,26 +1,17 @@
-use Rattle.std.proofs.Common.{◌∙◌, ◌*◌, ◌^◌, lit≤}
-use Rattle.class_combine.proofs.Products.{six_of, same_six}
+use Rattle.std.proofs.Common.{◌≡◌, ◌∙◌, pos, FitsSigned, to_z, ap, sym, rules}
+use Rattle.std.specs.Int.{w128}
+use Rattle.mh_units.proofs.Integers.{same128}
+use Rattle.mh_units.specs.declared.quantities.Cents.{Cents}
+use Rattle.simm_kinds.specs.declared.kinds.RiskClass.{RiskClass}
+use Rattle.simm_kinds.specs.declared.kinds.RiskClass.TheVariants as classes
+use Rattle.class_combine.specs.Classes.{class_in, class_pair}
+use Rattle.class_combine.proofs.Products.{six_nothings, without_margin}
 use Rattle.class_combine.proofs.product.pairs_with.Goals as goal
 
-pub overflow_add-result : goal.overflow_add-result
-overflow_add-result c = (six_of (10000 * (2 * 10 ^ 16 * (2 * 10 ^ 16))) c.pair.result c.pair-2.result c.pair.result c.pair.result c.pair.result c.pair.result (lit≤ tt) c.pair.ensures.size c.pair-2.ensures.size c.pair.ensures.size c.pair.ensures.size c.pair.ensures.size c.pair.ensures.size).first
-
-pub overflow_add-result-2 : goal.overflow_add-result-2
-overflow_add-result-2 c = (six_of (10000 * (2 * 10 ^ 16 * (2 * 10 ^ 16))) c.pair.result c.pair-2.result c.pair-3.result c.pair.result c.pair.result c.pair.result (lit≤ tt) c.pair.ensures.size c.pair-2.ensures.size c.pair-3.ensures.size c.pair.ensures.size c.pair.ensures.size c.pair.ensures.size).second
-
-pub overflow_add-result-3 : goal.overflow_add-result-3
-overflow_add-result-3 c = (six_of (10000 * (2 * 10 ^ 16 * (2 * 10 ^ 16))) c.pair.result c.pair-2.result c.pair-3.result c.pair-4.result c.pair.result c.pair.result (lit≤ tt) c.pair.ensures.size c.pair-2.ensures.size c.pair-3.ensures.size c.pair-4.ensures.size c.pair.ensures.size c.pair.ensures.size).third
-
-pub overflow_add-result-4 : goal.overflow_add-result-4
-overflow_add-result-4 c = (six_of (10000 * (2 * 10 ^ 16 * (2 * 10 ^ 16))) c.pair.result c.pair-2.result c.pair-3.result c.pair-4.result c.pair-5.result c.pair.result (lit≤ tt) c.pair.ensures.size c.pair-2.ensures.size c.pair-3.ensures.size c.pair-4.ensures.size c.pair-5.ensures.size c.pair.ensures.size).fourth
-
-pub overflow_add-result-5 : goal.overflow_add-result-5
-overflow_add-result-5 c = (six_of (10000 * (2 * 10 ^ 16 * (2 * 10 ^ 16))) c.pair.result c.pair-2.result c.pair-3.result c.pair-4.result c.pair-5.result c.pair-6.result (lit≤ tt) c.pair.ensures.size c.pair-2.ensures.size c.pair-3.ensures.size c.pair-4.ensures.size c.pair-5.ensures.size c.pair-6.ensures.size).fifth
-
-pub returns-clause-value : goal.returns-clause-value
-returns-clause-value c =
-    (six_of (10000 * (2 * 10 ^ 16 * (2 * 10 ^ 16))) c.pair.result c.pair-2.result c.pair-3.result c.pair-4.result c.pair-5.result c.pair-6.result (lit≤ tt) c.pair.ensures.size c.pair-2.ensures.size c.pair-3.ensures.size c.pair-4.ensures.size c.pair-5.ensures.size c.pair-6.ensures.size).value
-    ∙ same_six _ _ _ _ _ _ _ _ _ _ _ _ c.pair.ensures.value c.pair-2.ensures.value c.pair-3.ensures.value c.pair-4.ensures.value c.pair-5.ensures.value c.pair-6.ensures.value
-
-pub returns-clause-size : goal.returns-clause-size
-returns-clause-size c = (six_of (10000 * (2 * 10 ^ 16 * (2 * 10 ^ 16))) c.pair.result c.pair-2.result c.pair-3.result c.pair-4.result c.pair-5.result c.pair-6.result (lit≤ tt) c.pair.ensures.size c.pair-2.ensures.size c.pair-3.ensures.size c.pair-4.ensures.size c.pair-5.ensures.size c.pair-6.ensures.size).size
+pub returns-then-margin_of-eq0-clause-value : goal.returns-then-margin_of-eq0-clause-value
+returns-then-margin_of-eq0-clause-value c =
+    let fits : FitsSigned w128 c.margin_of.result.0 = search rules in
+    let none : (class_in c.args.classes.now c.args.class).0 ≡ pos 0 =
+        ap (λ (m : Cents). m.0) (sym c.margin_of.ensures) ∙ sym (same128 c.margin_of.result.0 fits) ∙ ap (to_z w128) c.if-margin_of-eq0.true in
+    let nothing : (other : RiskClass) → class_pair c.args.params.now c.args.classes.now c.args.class other ≡ pos 0 = λ other. without_margin _ _ _ none in
+    six_nothings _ _ _ _ _ _ (nothing classes.IR) (nothing classes.CreditQ) (nothing classes.CreditNonQ) (nothing classes.Equity) (nothing classes.Commodity) (nothing classes.FX)
