@@ -8,7 +8,8 @@ use Rattle.csv.specs.Reading.{records, records_from, records_next}
 use Rattle.csv.specs.declared.parser.State.{State}
 use Rattle.csv.specs.declared.parser.State.TheVariants as st
 use Rattle.csv.specs.declared.parser.Terminator.TheVariants as term
-use Rattle.crif_reader.specs.Plain.{csv_by, ends_field, without_leading_line_ends, has_quote, is_line_end, TakesField}
+use Rattle.crif_reader.specs.Plain.{ends_field, without_leading_line_ends, has_quote, is_line_end, TakesField}
+use Rattle.crif_reader.specs.Records.{csv_by}
 use Rattle.crif_reader.specs.declared.plain.PlainRecords.{PlainRecords}
 use Rattle.crif_reader.proofs.RecordsLeft.{takes_first, none_left}
 

@@ -1,7 +1,8 @@
 pub mod Reads
 pub mod Faults
-pub mod Plain
 pub mod Records
+pub mod Plain
+pub mod Reading
 pub mod Columns
 pub mod Fields
 pub mod Factor

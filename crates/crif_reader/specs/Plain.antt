@@ -2,16 +2,12 @@
 use Rattle.std.specs.Prelude.{◌≡◌, ℕ, List, [], ◌∷◌, ◌==◌, ◌||◌, Bool, false, true, Option, Some, if◌then◌else◌}
 use Rattle.std.specs.List.{list_any}
 use Rattle.csv.specs.Machine.{Read, ends_with, next_record}
-use Rattle.csv.specs.Reading.{default_config, records}
-use Rattle.csv.specs.declared.parser.Config.{Config}
+use Rattle.csv.specs.Reading.{records}
 use Rattle.csv.specs.declared.parser.State.{State}
 use Rattle.csv.specs.declared.parser.State.TheVariants as st
 use Rattle.csv.specs.declared.parser.Terminator.TheVariants as term
 use Rattle.crif_reader.specs.declared.plain.PlainRecords.{PlainRecords}
-
--- csv's quotes, double quotes and line ends, with this byte between fields
-abbrev pub csv_by : ℕ → Config
-csv_by delimiter = record default_config { delimiter = delimiter }
+use Rattle.crif_reader.specs.Records.{csv_by}
 
 -- a quote stands in the bytes
 abbrev pub has_quote : List ℕ → Bool

@@ -1,15 +1,12 @@
--- The records of a file, as csv reads them, and those that a reader has left.
+-- The records of a file, as csv reads them, and those that csv's reader has left.
 use Rattle.std.specs.Prelude.{◌≡◌, ℕ, ◌+◌, List, [], ◌∷◌, ◌==◌, ◌||◌, Bool, false, true, length, Option, Some, None, IsSome, if◌then◌else◌}
 use Rattle.std.specs.Borrow.{Bor}
 use Rattle.csv.specs.Machine.{ends_at_end}
-use Rattle.csv.specs.Reading.{is_flexible, reader_config, reader_state, reader_trim, records, records_from, source_of, strip_bom, Ready}
+use Rattle.csv.specs.Reading.{default_config, is_flexible, reader_config, reader_state, reader_trim, records, records_from, source_of, strip_bom, Ready}
 use Rattle.csv.specs.declared.parser.Config.{Config}
 use Rattle.csv.specs.declared.parser.State.{State}
 use Rattle.csv.specs.declared.reader.Reader.{Reader}
 use Rattle.csv.specs.declared.reader.Trim.TheVariants as trim
-use Rattle.crif_reader.specs.declared.records.Records.{Records}
-use Rattle.crif_reader.specs.declared.records.Records.TheVariants.{Quoted, Plain}
-use Rattle.crif_reader.specs.Plain.{csv_by, has_quote, plain_left}
 
 -- a tab stands before the first LF
 abbrev pub has_tab : List ℕ → Bool
@@ -19,6 +16,10 @@ has_tab (b ∷ bs) = if b == 10 then false else (b == 9 || has_tab bs)
 -- a tab where the first line has one, else a comma
 abbrev pub delimiter_of : List ℕ → ℕ
 delimiter_of bytes = if has_tab bytes then 9 else 44
+
+-- csv's quotes, double quotes and line ends, with this byte between fields
+abbrev pub csv_by : ℕ → Config
+csv_by delimiter = record default_config { delimiter = delimiter }
 
 -- all records, each a list of fields; a byte order mark at the start is left off
 unfoldable pub records_of : List ℕ → List (List (List ℕ))
@@ -44,13 +45,3 @@ pub record IsBetweenRecords (reader : Reader (Bor (List ℕ))) : Type 0 where
   pub flexible : is_flexible reader ≡ true
   pub between : ends_at_end (reader_state reader) ≡ false
   pub known : IsSome (source_left reader)
-
--- ---- either kind of records
-
-abbrev pub records_left : Records → List (List (List ℕ))
-records_left (Quoted reader) = reader_left reader.value
-records_left (Plain plain) = plain_left plain
-
-abbrev pub IsReading : Records → Type 0
-IsReading (Quoted reader) = IsBetweenRecords reader.value
-IsReading (Plain plain) = has_quote plain.rest.now ≡ false

@@ -1,7 +1,7 @@
 ghost use Rattle.std.specs.Prelude.{◌≡◌, option_map};
 ghost use Rattle.csv.specs.Records.{fields_of};
 ghost use Rattle.crif_reader.specs.Reads.{Gives};
-ghost use Rattle.crif_reader.specs.Records.{records_left, IsReading};
+ghost use Rattle.crif_reader.specs.Reading.{records_left, IsReading};
 ghost use Rattle.crif_reader.specs.Row.{row_of};
 ghost use Rattle.crif_reader.specs.Grammar.{at_record, crif_of, rows_of};
 

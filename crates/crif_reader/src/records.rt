@@ -2,7 +2,8 @@
 ghost use Rattle.std.specs.Prelude.{◌≡◌, ◌∷◌, [], true, if◌then◌else◌, IfOk, IsTrue};
 ghost use Rattle.csv.specs.Reading.{error_kind, stops_reader, strip_bom};
 ghost use Rattle.csv.specs.Records.{fields_of};
-ghost use Rattle.crif_reader.specs.Records.{has_tab, delimiter_of, records_of, reader_left, records_left, IsBetweenRecords, IsReading};
+ghost use Rattle.crif_reader.specs.Records.{has_tab, delimiter_of, records_of, reader_left, IsBetweenRecords};
+ghost use Rattle.crif_reader.specs.Reading.{records_left, IsReading};
 
 use crate::plain::{PlainRecords, has_quote};
 use csv::{ByteRecord, Error, Reader, ReaderBuilder};

@@ -3,7 +3,7 @@ use Rattle.std.proofs.lemmas.Bool.{eqb-false, eqb-true, not-true, not-false}
 use Rattle.csv.specs.Records.{fields_of}
 use Rattle.crif_reader.specs.declared.fault.CrifFault.TheVariants.{Row}
 use Rattle.crif_reader.specs.Growth.{grown}
-use Rattle.crif_reader.specs.Records.{records_left}
+use Rattle.crif_reader.specs.Reading.{records_left}
 use Rattle.crif_reader.specs.Row.{row_of}
 use Rattle.crif_reader.proofs.Binds.{mapped_ok}
 use Rattle.crif_reader.proofs.GoodRows.{good_row}

@@ -2,7 +2,8 @@ use Rattle.std.proofs.Common.{◌≡◌, [], false, length}
 use Rattle.csv.specs.Machine.{next_record}
 use Rattle.csv.specs.Records.{fields_of, partial_of}
 use Rattle.csv.specs.declared.parser.State.TheVariants as st
-use Rattle.crif_reader.specs.Plain.{csv_by, has_quote, read_further}
+use Rattle.crif_reader.specs.Plain.{has_quote, read_further}
+use Rattle.crif_reader.specs.Records.{csv_by}
 use Rattle.crif_reader.proofs.plain.PlainRecords.next_record.Given as goal
 
 abbrev pub invariant-loop : goal.invariant-loop
