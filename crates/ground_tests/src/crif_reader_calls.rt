@@ -42,8 +42,8 @@ fn trades_stand_by_their_first_rows(rt: HostRuntime) {
     }
 }
 
-/// The same two rows without quotes, behind a byte order mark and with blank lines; with the last line at the end of the text; and
-/// with a field in quotes.
+/// The same two rows, by commas behind a byte order mark and with blank lines, by tabs with no line end behind the last, and with
+/// a field in quotes.
 const SPELLINGS: [&[u8]; 3] = [
     b"\xEF\xBB\xBFTradeID,ProductClass,RiskType,Qualifier,Bucket,Label1,Label2,Amount,AmountCurrency,AmountUSD\r\n\r\n\
 \n\r\nA,FX,Risk_FX,EUR,,,,,,1\r\n\r\nB,FX,Risk_FX,JPY,,,,-2.5,USD\r\n",
