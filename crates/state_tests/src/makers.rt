@@ -100,14 +100,19 @@ pub fn name(rt: &(impl Abort + AllocGlobal), text: &str) -> Name {
         .expect(rt, "a name")
 }
 
+// Of a text that a proof doesn't know, it has little to say.
+fn read(rt: &(impl Abort + AllocGlobal), file: &str) -> Batch {
+    read_batch(rt.alloc(), file.as_bytes())
+        .ok()
+        .expect(rt, "a batch")
+        .batch
+}
+
 /// The batch of these rows, each a line of its trade, product class, risk type, qualifier, bucket, labels and amounts.
 pub fn rows(rt: &(impl Abort + AllocGlobal), lines: &str) -> Batch {
     let text = format!(in rt.alloc(); "{HEADER}\n{lines}");
     let text = text.ok().expect(rt, "memory");
-    read_batch(rt.alloc(), text.as_str().as_bytes())
-        .ok()
-        .expect(rt, "a batch")
-        .batch
+    read(rt, text.as_str())
 }
 
 /// The batch of one trade with one row, of a currency and an amount in dollars.
