@@ -1,9 +1,10 @@
-//! Live margins, and the totals of their margins. The steps of each question are counted in a ledger of their own.
+//! Live margins, batches that they take in, and the totals of their margins. The steps of each question are counted in a ledger of their own.
 ghost use Rattle.std.specs.Prelude.{◌≡◌, ◌<◌};
 
 use crate::makers::params;
 use bucket_cache::LiveMargin;
 use pair_sum::Steps;
+use simm_kinds::Batch;
 use std::alloc::Global;
 use std::marker::Brand;
 use std::process::Abort;
@@ -14,6 +15,11 @@ pub fn live(rt: &(impl Abort + AllocGlobal)) -> LiveMargin {
     LiveMargin::new(rt.alloc(), params(rt))
         .ok()
         .expect(rt, "memory")
+}
+
+/// Takes a batch in. It is to be accepted.
+pub fn submit(rt: &(impl Abort + AllocGlobal), live: &mut LiveMargin, batch: &Batch) {
+    assert!(rt; live.submit(rt.alloc(), batch.trades()).is_ok());
 }
 
 fn asked<L: Ledger>(alloc: Global, live: &mut LiveMargin, blank: Blank) -> Option<i128>

@@ -1,6 +1,7 @@
 use crate::makers::{name, set_terms};
 use collateral_ledger::{Ledger, LedgerFault};
 use csa_terms::{Flow, LotCurrency};
+use simm_kinds::Name;
 use std::process::Abort;
 
 /// What is done to a ledger.
@@ -79,13 +80,18 @@ fn empty(rt: &(impl Abort + AllocGlobal)) -> Ledger {
     Ledger::new(rt.alloc(), set_terms(rt, 0))
 }
 
+fn booked(ledger: &Ledger) -> i128 {
+    ledger.booked()
+}
+
 #[test]
 fn each_step_is_booked_or_refused(rt: HostRuntime) {
     let mut ledger = empty(&rt);
-    for (step, fault, booked) in STEPS {
-        assert!(rt; refusal(&rt, &mut ledger, step) == fault, "{booked}");
-        assert!(rt; ledger.booked() == booked);
+    for (step, fault, amount) in &STEPS {
+        assert!(rt; refusal(&rt, &mut ledger, *step) == *fault, "{amount}");
+        assert_eq!(rt; booked(&ledger), *amount);
     }
+    drop(ledger);
 }
 
 /// A ledger with an outstanding delivery of 240,000 cents, call 1, and a return of 10,000, call 2.
@@ -106,27 +112,34 @@ fn with_calls(rt: &(impl Abort + AllocGlobal)) -> Ledger {
 #[test]
 fn outstanding_calls_are_booked_until_they_are_closed(rt: HostRuntime) {
     let mut ledger = with_calls(&rt);
-    assert!(rt; ledger.booked() == 230_000);
-    assert!(rt; ledger.close_call(1).is_ok() && ledger.booked() == -10_000);
-    assert!(rt; ledger.close_call(1).err() == Some(LedgerFault::CallUnknown));
+    assert_eq!(rt; booked(&ledger), 230_000);
+    assert!(rt; refusal(&rt, &mut ledger, Step::Close(1)).is_none());
+    assert_eq!(rt; booked(&ledger), -10_000);
+    let again = refusal(&rt, &mut ledger, Step::Close(1));
+    assert!(rt; again == Some(LedgerFault::CallUnknown));
+    drop(ledger);
+}
+
+/// The name of the lot of a number.
+fn lot_name(rt: &(impl Abort + AllocGlobal), number: u32) -> Name {
+    let text = format!(in rt.alloc(); "L{number}");
+    let text = text.ok().expect(rt, "memory");
+    name(rt, text.as_str())
+}
+
+/// Puts a lot of cash of the greatest value, and tells whether it was taken.
+fn puts_most(rt: &(impl Abort + AllocGlobal), ledger: &mut Ledger, lot: &Name) -> bool {
+    let class = name(rt, "CASH");
+    let value = 1_000_000_000_000_000;
+    ledger
+        .put_lot(rt.alloc(), lot, &class, value, LotCurrency::Same)
+        .is_ok()
 }
 
 /// Puts this many lots of the greatest value.
 fn fill(rt: &(impl Abort + AllocGlobal), ledger: &mut Ledger, count: u32) {
-    let class = name(rt, "CASH");
     for number in 0..count {
-        let text = format!(in rt.alloc(); "L{number}")
-            .ok()
-            .expect(rt, "memory");
-        let lot = name(rt, text.as_str());
-        let put = ledger.put_lot(
-            rt.alloc(),
-            &lot,
-            &class,
-            1_000_000_000_000_000,
-            LotCurrency::Same,
-        );
-        assert!(rt; put.is_ok());
+        assert!(rt; puts_most(rt, ledger, &lot_name(rt, number)));
     }
 }
 
@@ -134,13 +147,14 @@ fn fill(rt: &(impl Abort + AllocGlobal), ledger: &mut Ledger, count: u32) {
 fn there_are_4096_lots_at_most(rt: HostRuntime) {
     let mut ledger = empty(&rt);
     fill(&rt, &mut ledger, 4096);
-    assert!(rt; ledger.booked() == 4_096_000_000_000_000_000);
+    assert_eq!(rt; booked(&ledger), 4_096_000_000_000_000_000);
     let more = refusal(
         &rt,
         &mut ledger,
         Step::Put("M", "CASH", 1, LotCurrency::Same),
     );
     assert!(rt; more == Some(LedgerFault::LotsFull(4096)));
+    drop(ledger);
 }
 
 const NUMBERS: [(LedgerFault, Option<u8>); 7] = [

@@ -18,7 +18,9 @@ fn calls_are_rounded_and_their_minimum_is_tested_before(rt: HostRuntime) {
     for (place, margin, booked, _, call) in CALLS {
         assert!(rt; margin >= 0 && margin <= 500_000_000_000_000_000);
         assert!(rt; booked >= 0 && booked <= 500_000_000_000_000_000);
-        assert_eq!(rt; call_amount(margin, booked, &set_terms(&rt, place)), call);
+        let set = set_terms(&rt, place);
+        assert_eq!(rt; call_amount(margin, booked, &set), call);
+        drop(set);
     }
 }
 
@@ -27,6 +29,8 @@ fn the_excess_is_above_the_threshold_and_what_is_booked(rt: HostRuntime) {
     for (place, margin, booked, above, _) in CALLS {
         assert!(rt; margin >= 0 && margin <= 1_000_000_000_000_000_000_000);
         assert!(rt; booked >= 0 && booked <= 100_000_000_000_000_000_000_000);
-        assert_eq!(rt; excess(margin, booked, &set_terms(&rt, place)), above);
+        let set = set_terms(&rt, place);
+        assert_eq!(rt; excess(margin, booked, &set), above);
+        drop(set);
     }
 }

@@ -18,6 +18,7 @@ fn a_set_has_its_values(rt: HostRuntime) {
     let set = set_terms(&rt, 0);
     set.facts();
     assert!(rt; has_values(&set));
+    drop(set);
 }
 
 /// Classes and their haircuts, in ten-thousandths.
@@ -36,6 +37,7 @@ fn haircuts_are_found_by_class(rt: HostRuntime) {
             "{class}"
         );
     }
+    drop(set);
 }
 
 #[test]
@@ -44,6 +46,7 @@ fn holidays_are_found_by_day(rt: HostRuntime) {
     for (day, is_holiday) in [(19_785, false), (19_786, true), (19_787, false)] {
         assert!(rt; set.is_holiday(day) == is_holiday, "{day}");
     }
+    drop(set);
 }
 
 /// A set's place, a day and a minute, and the due day: 19,783 is Friday, 2024-03-01. ALPHA has the notification 13:00,
@@ -65,7 +68,9 @@ const DUE: [(usize, i32, u16, Result<i32, i32>); 10] = [
 fn a_late_demand_and_a_holiday_are_waited_for(rt: HostRuntime) {
     for (place, day, minute, due) in DUE {
         let moment = Moment::new(day, minute).expect(&rt, "a minute of the day");
-        let told = due_day(moment, &set_terms(&rt, place));
+        let set = set_terms(&rt, place);
+        let told = due_day(moment, &set);
+        drop(set);
         let wanted = due.map_err(|day| DayRange { day });
         assert!(rt; told == wanted, "{day} {minute}");
     }

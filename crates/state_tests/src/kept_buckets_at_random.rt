@@ -2,7 +2,7 @@
 //! same trades at once; what it keeps of its buckets is by the rule of what the rows of an event touch.
 ghost use Rattle.std.specs.Prelude.{◌<◌, IfSome, vec_len};
 
-use crate::asking::{live, total};
+use crate::asking::{live, submit, total};
 use crate::makers::{name, rows};
 use bucket_cache::LiveMargin;
 use simm_kinds::{Batch, BucketId, BucketNumber, Currency, Measure, Name, ProductClass, RiskClass};
@@ -286,6 +286,23 @@ impl Book {
         self.trades.iter().any(|trade| touches(&trade.rows, mark))
     }
 
+    fn put_all(&mut self, rt: &impl Abort, trades: &[Trade]) {
+        for trade in trades {
+            self.put(rt, *trade);
+        }
+    }
+
+    fn take_all(&mut self, names: &[&'static str]) {
+        for name in names {
+            self.take(name);
+        }
+    }
+
+    /// Whether each of these names is of a trade.
+    fn has_all(&self, names: &[&'static str]) -> bool {
+        names.iter().all(|name| self.index_of(name).is_some())
+    }
+
     /// How many values of buckets that have a row are not kept.
     fn dirty_count(&self) -> usize {
         let dirty = self
@@ -330,37 +347,30 @@ fn batch(rt: &(impl Abort + AllocGlobal), trades: &[Trade]) -> Batch {
     rows(rt, lines.as_str())
 }
 
-fn submit(
-    rt: &(impl Abort + AllocGlobal),
-    live: &mut LiveMargin,
-    book: &mut Book,
-    trades: &[Trade],
-) {
-    let batch = batch(rt, trades);
-    assert!(rt; live.submit(rt.alloc(), batch.trades()).is_ok());
-    for trade in trades {
-        book.put(rt, *trade);
+fn names_of(rt: &(impl Abort + AllocGlobal), texts: &[&'static str]) -> Vec<Name> {
+    let mut names = Vec::new(rt.alloc());
+    for text in texts {
+        names.push(name(rt, text)).ok().expect(rt, "memory");
     }
+    names
 }
 
-/// It is refused where a name is not current.
+/// Whether trades are withdrawn. It is refused where a name is not current.
+fn is_withdrawn(rt: &(impl Abort + AllocGlobal), live: &mut LiveMargin, names: &[Name]) -> bool {
+    live.withdraw(rt.alloc(), names).is_ok()
+}
+
 fn withdraw(
     rt: &(impl Abort + AllocGlobal),
     live: &mut LiveMargin,
     book: &mut Book,
     texts: &[&'static str],
 ) {
-    let is_known = texts.iter().all(|text| book.index_of(text).is_some());
-    let names = texts.iter().map(|text| name(rt, text)).collect(rt.alloc());
-    let names: Vec<Name> = names.ok().expect(rt, "memory");
-    assert_eq!(rt;
-        live.withdraw(rt.alloc(), names.as_slice()).is_ok(),
-        is_known
-    );
+    let is_known = book.has_all(texts);
+    let names = names_of(rt, texts);
+    assert_eq!(rt; is_withdrawn(rt, live, names.as_slice()), is_known);
     if is_known {
-        for text in texts {
-            book.take(text);
-        }
+        book.take_all(texts);
     }
 }
 
@@ -370,17 +380,31 @@ fn kept(rt: &impl Abort, live: &LiveMargin, mark: &Mark) -> Option<BucketMargin>
     live.cached(place.product, place.class, mark.measure, bucket)
 }
 
+/// A new live margin with these trades.
+fn live_of(rt: &(impl Abort + AllocGlobal), trades: &[Trade]) -> LiveMargin {
+    let mut live = live(rt);
+    if !trades.is_empty() {
+        submit(rt, &mut live, &batch(rt, trades));
+    }
+    live
+}
+
+/// Whether two live margins keep the same of each value.
+fn keep_the_same(rt: &impl Abort, first: &LiveMargin, second: &LiveMargin, marks: &[Mark]) -> bool {
+    for mark in marks {
+        if kept(rt, first, mark) != kept(rt, second, mark) {
+            return false;
+        }
+    }
+    true
+}
+
 /// The margin is that of a new live margin with the same trades, and so is each value that is kept then.
 fn ask(rt: &(impl Abort + AllocGlobal), asked: &mut LiveMargin, book: &mut Book) {
-    let mut new = live(rt);
-    if !book.trades.is_empty() {
-        let batch = batch(rt, book.trades.as_slice());
-        assert!(rt; new.submit(rt.alloc(), batch.trades()).is_ok());
-    }
+    let mut new = live_of(rt, book.trades.as_slice());
     assert_eq!(rt; total(rt, asked), total(rt, &mut new));
-    for mark in book.marks.as_slice() {
-        assert!(rt; kept(rt, asked, mark) == kept(rt, &new, mark));
-    }
+    assert!(rt; keep_the_same(rt, asked, &new, book.marks.as_slice()));
+    drop(new);
     book.renew();
 }
 
@@ -389,6 +413,20 @@ fn has_kept(rt: &impl Abort, live: &LiveMargin, book: &Book) {
         assert_eq!(rt; kept(rt, live, mark).is_some(), mark.is_kept);
     }
     assert_eq!(rt; live.dirty_count() as usize, book.dirty_count());
+}
+
+/// A trade for each name.
+fn random_trades(
+    rt: &(impl Abort + AllocGlobal),
+    random: &mut Random,
+    names: &[&'static str],
+) -> Vec<Trade> {
+    let mut trades = Vec::new(rt.alloc());
+    for name in names {
+        let trade = random_trade(rt, random, name);
+        trades.push(trade).ok().expect(rt, "memory");
+    }
+    trades
 }
 
 /// A question where no trade is chosen; else a withdrawal, or twice as often a batch.
@@ -404,9 +442,9 @@ fn step(
     } else if random.below(3) == 0 {
         withdraw(rt, live, book, names.as_slice());
     } else {
-        let trades = names.iter().map(|name| random_trade(rt, random, name));
-        let trades: Vec<Trade> = trades.collect(rt.alloc()).ok().expect(rt, "memory");
-        submit(rt, live, book, trades.as_slice());
+        let trades = random_trades(rt, random, names.as_slice());
+        submit(rt, live, &batch(rt, trades.as_slice()));
+        book.put_all(rt, trades.as_slice());
     }
 }
 
@@ -419,4 +457,6 @@ fn what_is_kept_at_random_is_what_no_row_touched(rt: HostRuntime) {
         step(&rt, &mut random, &mut live, &mut book);
         has_kept(&rt, &live, &book);
     }
+    drop(live);
+    drop(book);
 }

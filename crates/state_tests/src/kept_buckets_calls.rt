@@ -1,5 +1,5 @@
 //! What a live margin keeps of its buckets as trades come and go.
-use crate::asking::{live, total};
+use crate::asking::{live, submit, total};
 use crate::makers::{currency, rows};
 use bucket_cache::LiveMargin;
 use simm_kinds::{BucketId, Measure, ProductClass, RiskClass};
@@ -36,15 +36,25 @@ fn is_kept(rt: &(impl Abort + AllocGlobal), live: &LiveMargin, code: &str) -> bo
         .is_some()
 }
 
+/// Whether so many values are not kept, that of the euro is kept or not, and that of the pound is not.
+fn keeps(
+    rt: &(impl Abort + AllocGlobal),
+    live: &LiveMargin,
+    dirty: u32,
+    is_euro_kept: bool,
+) -> bool {
+    live.dirty_count() == dirty
+        && is_kept(rt, live, "EUR") == is_euro_kept
+        && !is_kept(rt, live, "GBP")
+}
+
 #[test]
 fn a_batch_forgets_its_own_buckets_alone(rt: HostRuntime) {
     let mut live = live(&rt);
-    for (lines, dirty, is_euro_kept, cents) in BATCHES {
-        let batch = rows(&rt, lines);
-        assert!(rt; live.submit(rt.alloc(), batch.trades()).is_ok());
-        assert_eq!(rt; live.dirty_count(), dirty);
-        assert_eq!(rt; is_kept(&rt, &live, "EUR"), is_euro_kept);
-        assert!(rt; !is_kept(&rt, &live, "GBP"));
-        assert_eq!(rt; total(&rt, &mut live), cents);
+    for (lines, dirty, is_euro_kept, cents) in &BATCHES {
+        submit(&rt, &mut live, &rows(&rt, lines));
+        assert!(rt; keeps(&rt, &live, *dirty, *is_euro_kept), "{lines}");
+        assert_eq!(rt; total(&rt, &mut live), *cents);
     }
+    drop(live);
 }

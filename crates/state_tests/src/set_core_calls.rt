@@ -64,22 +64,36 @@ const STEPS: [(Step, &str); 5] = [
 /// A set to which the steps were done.
 fn stepped(rt: &(impl Abort + AllocGlobal)) -> SetState {
     let mut set = set(rt);
-    for (step, text) in STEPS {
-        let reply = apply(rt, &mut set, step);
+    for (step, text) in &STEPS {
+        let reply = apply(rt, &mut set, *step);
         assert!(rt; is_text(rt, &reply, text), "{text}");
     }
     set
+}
+
+fn has_counts(set: &SetState, entries: u32, rows: u32, trades: u32) -> bool {
+    set.entries() == entries && set.rows() == rows && set.live().trade_count() == trades
+}
+
+fn has_name(set: &SetState, name: &str) -> bool {
+    set.terms().name().bytes() == name.as_bytes()
+}
+
+/// Who called for the entry at a place.
+fn caller_at(set: &SetState, place: u32) -> Option<u32> {
+    set.entry(place).map(|entry| entry.caller)
 }
 
 // Refused submits count among the rows.
 #[test]
 fn a_set_has_its_journal(rt: HostRuntime) {
     let set = stepped(&rt);
-    assert!(rt; set.entries() == 5 && set.rows() == 2 && set.live().trade_count() == 0);
-    assert!(rt; set.terms().name().bytes() == b"ALPHA".as_slice());
-    let first = set.entry(1).expect(&rt, "an entry");
-    assert!(rt; first.caller == 2);
-    assert!(rt; set.entry(0).is_none() && set.entry(6).is_none());
+    assert!(rt; has_counts(&set, 5, 2, 0));
+    assert!(rt; has_name(&set, "ALPHA"));
+    for (place, caller) in [(0, None), (1, Some(2)), (6, None)] {
+        assert_eq!(rt; caller_at(&set, place), caller);
+    }
+    drop(set);
 }
 
 /// Steps whose replies leave this many values of buckets that are not kept, and whether the margin is known then.
@@ -93,13 +107,41 @@ const KEPT: [(Step, u32, bool); 7] = [
     (Step::Call, 0, true),
 ];
 
+/// Whether so many values of buckets are not kept, and the margin is known or not.
+fn keeps(set: &SetState, dirty: u32, fresh: bool) -> bool {
+    set.live().dirty_count() == dirty && set.live().is_fresh() == fresh
+}
+
 #[test]
 fn a_question_keeps_all_and_a_refusal_leaves_it(rt: HostRuntime) {
     let mut set = set(&rt);
-    for (step, dirty, fresh) in KEPT {
-        let _reply = apply(&rt, &mut set, step);
-        assert_eq!(rt; set.live().dirty_count(), dirty);
-        assert_eq!(rt; set.live().is_fresh(), fresh);
+    for (step, dirty, fresh) in &KEPT {
+        drop(apply(&rt, &mut set, *step));
+        assert!(rt; keeps(&set, *dirty, *fresh));
+    }
+    drop(set);
+}
+
+/// What comes of a question.
+#[derive(Clone, Copy, Debug, PartialEq, Eq)]
+enum Answer {
+    Answered,
+    /// The journal is full, with as many entries and rows.
+    Full(u32, u32),
+    WantsMemory,
+}
+
+fn ask(set: &mut SetState) -> Answer {
+    match set.apply(0, Event::AskMargin) {
+        Ok(_) => Answer::Answered,
+        Err(
+            Halt::Full {
+                entries,
+                weight,
+                ..
+            },
+        ) => Answer::Full(entries, weight),
+        Err(Halt::Memory { .. }) => Answer::WantsMemory,
     }
 }
 
@@ -107,18 +149,8 @@ fn a_question_keeps_all_and_a_refusal_leaves_it(rt: HostRuntime) {
 fn a_journal_fills_by_entries(rt: HostRuntime) {
     let mut set = set(&rt);
     for _ in 0..65_535 {
-        assert!(rt; set.apply(0, Event::AskMargin).is_ok());
+        assert_eq!(rt; ask(&mut set), Answer::Answered);
     }
-    match set.apply(0, Event::AskMargin) {
-        Err(
-            Halt::Full {
-                entries,
-                weight,
-                ..
-            },
-        ) => {
-            assert!(rt; (entries, weight) == (65_535, 0));
-        }
-        _ => panic!(rt; "a full journal"),
-    }
+    assert_eq!(rt; ask(&mut set), Answer::Full(65_535, 0));
+    drop(set);
 }

@@ -1,6 +1,7 @@
 use crate::makers::{currency, params};
 use mh_units::Rate4;
-use simm_params::{ConcentrationCategory, VolatilityCategory};
+use simm_kinds::Currency;
+use simm_params::{ConcentrationCategory, Params, VolatilityCategory};
 
 /// A currency, its two categories, its weight in ten-thousandths and its threshold in cents.
 const CURRENCIES: [(&str, VolatilityCategory, ConcentrationCategory, i64, i64); 5] = [
@@ -41,28 +42,37 @@ const CURRENCIES: [(&str, VolatilityCategory, ConcentrationCategory, i64, i64); 
     ),
 ];
 
+fn has_categories(
+    params: &Params,
+    currency: &Currency,
+    volatility: VolatilityCategory,
+    concentration: ConcentrationCategory,
+) -> bool {
+    params.volatility_category(currency) == volatility
+        && params.concentration_category(currency) == concentration
+}
+
 #[test]
 fn a_currency_has_the_weight_and_threshold_of_its_categories(rt: HostRuntime) {
     let params = params(&rt);
     params.facts();
-    for (text, volatility, concentration, weight, threshold) in CURRENCIES {
+    for (text, volatility, concentration, weight, threshold) in &CURRENCIES {
         let currency = currency(&rt, text);
         assert!(rt;
-            params.volatility_category(&currency) == volatility,
+            has_categories(&params, &currency, *volatility, *concentration),
             "{text}"
         );
-        assert!(rt;
-            params.concentration_category(&currency) == concentration,
-            "{text}"
-        );
-        assert!(rt; params.fx_weight(volatility) == Rate4(weight), "{text}");
-        assert!(rt; params.fx_threshold(concentration) == threshold, "{text}");
+        assert!(rt; params.fx_weight(*volatility) == Rate4(*weight), "{text}");
+        assert!(rt; params.fx_threshold(*concentration) == *threshold, "{text}");
     }
+    drop(params);
 }
 
 #[test]
 fn the_calculation_currency_is_known(rt: HostRuntime) {
-    let params = params(&rt).copy(rt.alloc()).ok().expect(&rt, "memory");
+    let first = params(&rt);
+    let params = first.copy(rt.alloc()).ok().expect(&rt, "memory");
+    drop(first);
     for (text, is_own) in [("USD", true), ("EUR", false)] {
         let currency = currency(&rt, text);
         assert!(rt;
@@ -70,6 +80,7 @@ fn the_calculation_currency_is_known(rt: HostRuntime) {
             "{text}"
         );
     }
+    drop(params);
 }
 
 /// The correlation of two volatility categories, in ten-thousandths.
@@ -90,4 +101,5 @@ fn volatility_categories_correlate(rt: HostRuntime) {
         assert!(rt; params.fx_rho(a, b) == Rate4(rho));
         assert!(rt; params.fx_rho(b, a) == Rate4(rho));
     }
+    drop(params);
 }
