@@ -1,3 +1,4 @@
+use crate::makers::read;
 use crif_reader::{Column, CrifFault, RowFault, read_batch};
 use mh_units::{Cents, NumeralFault};
 use simm_kinds::{CrifRow, TradeRows};
@@ -29,17 +30,23 @@ fn amount_of(row: &CrifRow) -> Option<Cents> {
     }
 }
 
+/// Whether a trade has this name, and its first and its last row these amounts.
+fn is_trade(trade: &TradeRows, name: &str, first: i128, last: i128) -> bool {
+    let rows = trade.rows.as_slice();
+    trade.trade.bytes() == name.as_bytes()
+        && rows.first().and_then(|row| amount_of(row)) == Some(Cents(first))
+        && rows.last().and_then(|row| amount_of(row)) == Some(Cents(last))
+}
+
 #[test]
 fn trades_stand_by_their_first_rows(rt: HostRuntime) {
-    let read = read_batch(rt.alloc(), LINES).ok().expect(&rt, "a batch");
+    let read = read(&rt, LINES);
     assert!(rt; read.passed_over == 2);
-    for (place, name, first, last) in TRADES {
-        let trade = read.batch.trades().get(place).expect(&rt, "a trade");
-        assert!(rt; trade.trade.bytes() == name.as_bytes());
-        let rows = trade.rows.as_slice();
-        assert!(rt; rows.first().and_then(|row| amount_of(row)) == Some(Cents(first)));
-        assert!(rt; rows.last().and_then(|row| amount_of(row)) == Some(Cents(last)));
+    for (place, name, first, last) in &TRADES {
+        let trade = read.batch.trades().get(*place).expect(&rt, "a trade");
+        assert!(rt; is_trade(trade, name, *first, *last), "{place}");
     }
+    drop(read);
 }
 
 /// The same two rows, by commas behind a byte order mark and with blank lines, by tabs with no line end behind the last, and with
@@ -138,24 +145,30 @@ const FAULTS: [(&str, RowFault); 23] = [
     ),
 ];
 
+fn fault_of(alloc: Global, file: &str) -> Option<CrifFault> {
+    read_batch(alloc, file.as_bytes()).err()
+}
+
 /// The fault of a file with these lines behind the header.
-fn fault_of(alloc: Global, rows: &str) -> Option<CrifFault> {
+fn fault_behind_header(alloc: Global, rows: &str) -> Option<CrifFault> {
     let mut text = String::from_str(alloc, HEADER).ok()?;
     text.push_str(rows).ok()?;
-    read_batch(alloc, text.as_bytes()).err()
+    fault_of(alloc, text.as_str())
 }
 
 #[test]
 fn a_row_is_needed(rt: HostRuntime) {
     for rows in EMPTY {
-        assert!(rt; fault_of(rt.alloc(), rows) == Some(CrifFault::EmptyBatch));
+        assert!(rt; fault_behind_header(rt.alloc(), rows) == Some(CrifFault::EmptyBatch));
     }
 }
 
 #[test]
 fn the_first_fault_is_told(rt: HostRuntime) {
-    for (rows, fault) in FAULTS {
-        assert!(rt; fault_of(rt.alloc(), rows) == Some(CrifFault::Row { number: 2, fault }));
+    for (rows, fault) in &FAULTS {
+        let told = fault_behind_header(rt.alloc(), rows);
+        let fault = *fault;
+        assert!(rt; told == Some(CrifFault::Row { number: 2, fault }));
     }
 }
 
@@ -183,14 +196,23 @@ const PARAMETER_PAIRS: [(&str, bool); 4] = [
 fn a_parameter_stands_once(rt: HostRuntime) {
     let fault = RowFault::DuplicateParam;
     for (rows, is_repeated) in PARAMETER_PAIRS {
-        let told = fault_of(rt.alloc(), rows);
+        let told = fault_behind_header(rt.alloc(), rows);
         assert!(rt; told == is_repeated.then_some(CrifFault::Row { number: 3, fault }));
     }
 }
 
+/// Files without a whole header, and their faults.
+const HEADLESS: [(&str, CrifFault); 2] = [
+    ("", CrifFault::NoHeader),
+    (
+        "TradeID,Product Class,risk_type,Amount\n",
+        CrifFault::MissingColumn(Column::Qualifier),
+    ),
+];
+
 #[test]
 fn a_header_is_needed(rt: HostRuntime) {
-    assert!(rt; read_batch(rt.alloc(), b"").err() == Some(CrifFault::NoHeader));
-    let lacks = read_batch(rt.alloc(), b"TradeID,Product Class,risk_type,Amount\n").err();
-    assert!(rt; lacks == Some(CrifFault::MissingColumn(Column::Qualifier)));
+    for (file, fault) in &HEADLESS {
+        assert!(rt; fault_of(rt.alloc(), file) == Some(*fault));
+    }
 }

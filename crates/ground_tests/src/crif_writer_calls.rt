@@ -1,7 +1,6 @@
-use crate::makers::trade;
-use crif_reader::read_batch;
-use crif_writer::write_batch;
+use crate::makers::{read, trade, written};
 use simm_kinds::{Batch, Listed};
+use std::process::Abort;
 
 /// A batch as it is written: the name of one of its two trades has a quote, which csv doubles between quotes.
 const TEXT: &[u8] =
@@ -10,24 +9,40 @@ const TEXT: &[u8] =
 \"the \"\"first\"\"\"\tRatesFX\tRisk_FX\tEUR\t\t\t\t1000.00\tUSD\t1000.00\n\
 a, b\tRatesFX\tRisk_FX\tJPY\t\t\t\t-0.05\tUSD\t-0.05\n";
 
+/// The trades of the text: the name, the currency, the cents of each row, and how many rows there are.
+const TRADES: [(&str, &str, i64, usize); 2] = [
+    ("the \"first\"", "EUR", 100_000, 2),
+    ("a, b", "JPY", -5, 1),
+];
+
+fn batch(rt: &(impl Abort + AllocGlobal)) -> Batch {
+    let mut trades = Listed::new(rt.alloc());
+    for (name, currency, cents, count) in &TRADES {
+        let trade = trade(rt, name, currency, *cents, *count);
+        trades.push(trade).ok().expect(rt, "memory");
+    }
+    Batch::make(rt.alloc(), trades).ok().expect(rt, "a batch")
+}
+
+#[test]
+fn a_batch_is_written(rt: HostRuntime) {
+    let batch = batch(&rt);
+    assert!(rt; written(&rt, &batch).as_slice() == TEXT);
+    drop(batch);
+}
+
+/// Whether a text is written as it is read, and nothing of it is passed over.
+fn is_rewritten(rt: &(impl Abort + AllocGlobal), text: &[u8]) -> bool {
+    let read = read(rt, text);
+    let is_same = written(rt, &read.batch).as_slice() == text;
+    let passed_over = read.passed_over;
+    drop(read);
+    is_same && passed_over == 0
+}
+
 #[test]
 fn a_written_batch_reads_back(rt: HostRuntime) {
-    let mut trades = Listed::new(rt.alloc());
-    let first = trade(&rt, "the \"first\"", "EUR", 100_000, 2);
-    trades.push(first).ok().expect(&rt, "memory");
-    let second = trade(&rt, "a, b", "JPY", -5, 1);
-    trades.push(second).ok().expect(&rt, "memory");
-    let batch = Batch::make(rt.alloc(), trades).ok().expect(&rt, "a batch");
-    let text = write_batch(rt.alloc(), &batch).ok().expect(&rt, "memory");
-    assert!(rt; text.as_slice() == TEXT);
-    let read = read_batch(rt.alloc(), text.as_slice())
-        .ok()
-        .expect(&rt, "a batch");
-    assert!(rt; read.passed_over == 0);
-    let again = write_batch(rt.alloc(), &read.batch)
-        .ok()
-        .expect(&rt, "memory");
-    assert!(rt; again.as_slice() == TEXT);
+    assert!(rt; is_rewritten(&rt, TEXT));
 }
 
 /// A row of each risk type, as it is written.
@@ -58,11 +73,5 @@ T2\t\tNotional\t\t\t\t\t9.30\tUSD\t9.30\n";
 
 #[test]
 fn a_batch_of_every_type_is_written_as_it_is_read(rt: HostRuntime) {
-    let read = read_batch(rt.alloc(), EVERY_TYPE)
-        .ok()
-        .expect(&rt, "a batch");
-    let text = write_batch(rt.alloc(), &read.batch)
-        .ok()
-        .expect(&rt, "memory");
-    assert!(rt; text.as_slice() == EVERY_TYPE);
+    assert!(rt; is_rewritten(&rt, EVERY_TYPE));
 }

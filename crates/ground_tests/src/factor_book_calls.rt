@@ -148,17 +148,16 @@ fn row(
             amount,
         };
     }
-    let factor = factor(rt, text);
     CrifRow::Sensitivity {
-        key: FactorKey { product, factor },
+        key: key(rt, product, text),
         amount,
     }
 }
 
 fn rows(rt: &(impl Abort + AllocGlobal)) -> Vec<CrifRow> {
     let mut rows = Vec::new(rt.alloc());
-    for (product, text, amount) in ROWS {
-        let row = row(rt, product, text, Cents(i128::from(amount)));
+    for (product, text, amount) in &ROWS {
+        let row = row(rt, *product, text, Cents(i128::from(*amount)));
         rows.push(row).ok().expect(rt, "memory");
     }
     rows
@@ -211,15 +210,29 @@ fn first_of(rt: &(impl Abort + AllocGlobal), rows: &[CrifRow], stay: usize) -> F
 
 /// The book of the first rows of the table.
 fn first_rows(rt: &(impl Abort + AllocGlobal), stay: usize) -> Factors {
-    first_of(rt, rows(rt).as_slice(), stay)
+    let rows = rows(rt);
+    let factors = first_of(rt, rows.as_slice(), stay);
+    drop(rows);
+    factors
+}
+
+fn key(rt: &(impl Abort + AllocGlobal), product: ProductClass, text: &str) -> FactorKey {
+    let factor = factor(rt, text);
+    FactorKey { product, factor }
+}
+
+fn has_net(factors: &Factors, key: &FactorKey, net: i128) -> bool {
+    factors.net(key) == net
 }
 
 #[test]
 fn rows_net(rt: HostRuntime) {
-    for (stay, product, text, net) in NETS {
-        let factors = first_rows(&rt, stay);
-        let factor = factor(&rt, text);
-        assert!(rt; factors.net(&FactorKey { product, factor }) == net);
+    for (stay, product, text, net) in &NETS {
+        let factors = first_rows(&rt, *stay);
+        let key = key(&rt, *product, text);
+        assert!(rt; has_net(&factors, &key, *net), "{text}");
+        drop(key);
+        drop(factors);
     }
 }
 
@@ -247,6 +260,7 @@ fn places_lend_their_factors(rt: HostRuntime) {
             bucket,
         };
         assert!(rt; has_factors(&factors, &place, wanted));
+        drop(factors);
     }
 }
 

@@ -61,16 +61,26 @@ fn push_sign(rt: &impl Abort, text: &mut Bytes, line: u32, letter: u8) -> bool {
     letter.is_ascii_lowercase()
 }
 
+/// The sign of the next answer.
+fn told<S: Source>(rt: &impl AllocGlobal, lines: &mut Lines<S>) -> (u32, u8) {
+    sign(&next_message(rt.alloc(), lines))
+}
+
 /// All that a feed tells up to its end.
 fn all_told<S: Source>(rt: &(impl Abort + AllocGlobal), lines: &mut Lines<S>) -> Bytes {
     let mut text = Bytes::new(rt.alloc());
     for _ in 0..1_000 {
-        let (line, letter) = sign(&next_message(rt.alloc(), lines));
+        let (line, letter) = told(rt, lines);
         if !push_sign(rt, &mut text, line, letter) {
             break;
         }
     }
     text
+}
+
+/// Whether this is all that a feed tells up to its end.
+fn tells<S: Source>(rt: &(impl Abort + AllocGlobal), lines: &mut Lines<S>, wanted: &str) -> bool {
+    all_told(rt, lines).as_slice() == wanted.as_bytes()
 }
 
 fn lines_over<S: Source>(rt: &(impl Abort + AllocGlobal), source: S) -> Lines<S> {
@@ -80,10 +90,10 @@ fn lines_over<S: Source>(rt: &(impl Abort + AllocGlobal), source: S) -> Lines<S>
 #[test]
 fn messages_are_read_whatever_the_pieces(rt: HostRuntime) {
     for most in PIECES {
-        for (input, wanted) in FEEDS {
+        for (input, wanted) in &FEEDS {
             let mut lines = lines_over(&rt, source(&rt, input.as_bytes(), most, 0));
-            let text = all_told(&rt, &mut lines);
-            assert!(rt; text.as_slice() == wanted.as_bytes(), "{input:?} at {most}");
+            assert!(rt; tells(&rt, &mut lines, wanted), "{input:?} at {most}");
+            drop(lines);
         }
     }
 }
@@ -100,12 +110,11 @@ const FAILING: [(u64, &str, &str); 6] = [
 
 #[test]
 fn messages_are_read_before_a_failure(rt: HostRuntime) {
-    for (call, wanted, again) in FAILING {
-        let mut lines = lines_over(&rt, source(&rt, b"ASK\tA\nCRIF\tB\nx\nEND\n", 8, call));
-        let text = all_told(&rt, &mut lines);
-        assert!(rt; text.as_slice() == wanted.as_bytes(), "{call}");
-        let text = all_told(&rt, &mut lines);
-        assert!(rt; text.as_slice() == again.as_bytes(), "{call}");
+    for (call, wanted, again) in &FAILING {
+        let mut lines = lines_over(&rt, source(&rt, b"ASK\tA\nCRIF\tB\nx\nEND\n", 8, *call));
+        assert!(rt; tells(&rt, &mut lines, wanted), "{call}");
+        assert!(rt; tells(&rt, &mut lines, again), "{call}");
+        drop(lines);
     }
 }
 
@@ -114,9 +123,10 @@ fn messages_are_read_before_a_failure(rt: HostRuntime) {
 fn nothing_is_left_behind_a_cut(rt: HostRuntime) {
     let mut lines = lines_over(&rt, source(&rt, b"CRIF\tA\n", 7, 0));
     for letter in [b'C', b'E'] {
-        let (_, told) = sign(&next_message(rt.alloc(), &mut lines));
+        let (_, told) = told(&rt, &mut lines);
         assert!(rt; told == letter);
     }
+    drop(lines);
 }
 
 // One front, then `x` without end.
@@ -156,8 +166,7 @@ const ENDLESS: [(usize, &str); 4] = [
 fn a_feed_stops_at_a_long_line(rt: HostRuntime) {
     for (left, wanted) in ENDLESS {
         let mut lines = lines_over(&rt, Endless { at: 0, left });
-        let text = all_told(&rt, &mut lines);
-        assert!(rt; text.as_slice() == wanted.as_bytes(), "{left}");
+        assert!(rt; tells(&rt, &mut lines, wanted), "{left}");
     }
 }
 

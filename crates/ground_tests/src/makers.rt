@@ -1,8 +1,10 @@
 //! What the tests are made of: names, keys, trades, sources.
+use crif_reader::{ReadBatch, read_batch};
+use crif_writer::write_batch;
 use mh_io::MemSource;
-use mh_units::{Bytes, Cents};
+use mh_units::{Bytes, Cents, Text};
 use simm_kinds::{
-    CrifRow, Currency, Factor, FactorKey, FullName, Listed, Name, ProductClass, TradeRows,
+    Batch, CrifRow, Currency, Factor, FactorKey, FullName, Listed, Name, ProductClass, TradeRows,
 };
 use std::process::Abort;
 
@@ -63,4 +65,14 @@ pub fn source(
         .ok()
         .expect(rt, "memory");
     MemSource::new(rt.alloc(), bytes, most.max(1), failing)
+}
+
+/// What is read of a file.
+pub fn read(rt: &(impl Abort + AllocGlobal), file: &[u8]) -> ReadBatch {
+    read_batch(rt.alloc(), file).ok().expect(rt, "a batch")
+}
+
+/// A batch as it is written.
+pub fn written(rt: &(impl Abort + AllocGlobal), batch: &Batch) -> Text {
+    write_batch(rt.alloc(), batch).ok().expect(rt, "memory")
 }

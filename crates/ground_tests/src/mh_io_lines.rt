@@ -77,9 +77,10 @@ fn all_told<S: Source>(rt: &(impl Abort + AllocGlobal), source: S) -> Bytes {
 #[test]
 fn lines_are_given_whatever_the_pieces(rt: HostRuntime) {
     for most in PIECES {
-        for (input, wanted) in WHOLE {
+        for (input, wanted) in &WHOLE {
             let all = all_told(&rt, source(&rt, input.as_bytes(), most, 0));
             assert!(rt; all.as_slice() == wanted.as_bytes(), "{input:?} at {most}");
+            drop(all);
         }
     }
 }
@@ -193,4 +194,5 @@ fn a_line_is_appended(rt: HostRuntime) {
         assert!(rt; lines.append_line(&mut bytes) == Ok(answer));
         assert!(rt; bytes.as_slice() == b"abcd".as_slice());
     }
+    drop(lines);
 }

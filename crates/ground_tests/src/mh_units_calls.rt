@@ -39,7 +39,7 @@ const AMOUNTS_READ: [(&str, Result<i128, NumeralFault>); 23] = [
 
 #[test]
 fn cents_are_read(rt: HostRuntime) {
-    for (text, want) in AMOUNTS_READ {
+    for (text, want) in &AMOUNTS_READ {
         assert_eq!(rt; read_cents(text.as_bytes()), want.map(Cents), "{text}");
     }
 }

@@ -140,22 +140,36 @@ fn words_are_read(rt: HostRuntime) {
     }
 }
 
+const RISK_TYPE_TEXTS: [(&str, Option<RiskType>); 2] = [
+    ("risk_xccybasis", Some(RiskType::XccyBasis)),
+    ("FX", None),
+];
+
+const PRODUCT_TEXTS: [(&str, Option<ProductClass>); 4] = [
+    ("rates", Some(ProductClass::RatesFX)),
+    ("Fx", Some(ProductClass::RatesFX)),
+    ("COMMODITY", Some(ProductClass::Commodity)),
+    ("Cash", None),
+];
+
+const RISK_CLASS_TEXTS: [(&str, RiskClass); 1] = [("creditnonq", RiskClass::CreditNonQ)];
+
+const SUB_CURVE_TEXTS: [(&str, SubCurve); 1] = [("libor6M", SubCurve::Libor6m)];
+
 #[test]
 fn words_are_read_in_any_case(rt: HostRuntime) {
-    assert_eq!(rt;
-        RiskType::read(b"risk_xccybasis"),
-        Some(RiskType::XccyBasis)
-    );
-    assert_eq!(rt; RiskType::read(b"FX"), None);
-    assert_eq!(rt; ProductClass::read(b"rates"), Some(ProductClass::RatesFX));
-    assert_eq!(rt; ProductClass::read(b"Fx"), Some(ProductClass::RatesFX));
-    assert_eq!(rt;
-        ProductClass::read(b"COMMODITY"),
-        Some(ProductClass::Commodity)
-    );
-    assert_eq!(rt; ProductClass::read(b"Cash"), None);
-    assert_eq!(rt; RiskClass::read(b"creditnonq"), Some(RiskClass::CreditNonQ));
-    assert_eq!(rt; SubCurve::read(b"libor6M"), Some(SubCurve::Libor6m));
+    for (text, kind) in &RISK_TYPE_TEXTS {
+        assert_eq!(rt; RiskType::read(text.as_bytes()), *kind);
+    }
+    for (text, product) in &PRODUCT_TEXTS {
+        assert_eq!(rt; ProductClass::read(text.as_bytes()), *product);
+    }
+    for (text, class) in &RISK_CLASS_TEXTS {
+        assert_eq!(rt; RiskClass::read(text.as_bytes()), Some(*class));
+    }
+    for (text, sub) in &SUB_CURVE_TEXTS {
+        assert_eq!(rt; SubCurve::read(text.as_bytes()), Some(*sub));
+    }
 }
 
 /// A factor of each kind of interest or exchange rates, of the euro.
@@ -244,11 +258,12 @@ fn name_factor(rt: &(impl Abort + AllocGlobal), kind: RiskType) -> Option<Factor
     }
 }
 
-/// The factor of a kind; the kinds of add-ons have none.
-fn factor_of(rt: &(impl Abort + AllocGlobal), kind: RiskType) -> Option<Factor> {
+/// The factor of a kind, which isn't of an add-on.
+fn factor_of(rt: &(impl Abort + AllocGlobal), kind: RiskType) -> Factor {
     rate_factor(rt, kind)
         .or(credit_factor(rt, kind))
         .or(name_factor(rt, kind))
+        .expect(rt, "a factor")
 }
 
 /// The factors of the kinds, in their order: risk type, class, side, and the bucket's number, 0 where it has none.
@@ -288,41 +303,82 @@ fn bucket_number(bucket: BucketId) -> u8 {
     }
 }
 
+fn is_placed(factor: &Factor, class: RiskClass, side: Side, number: u8) -> bool {
+    factor.class() == class && factor.side() == side && bucket_number(factor.bucket()) == number
+}
+
 #[test]
 fn each_factor_has_its_class_side_and_bucket(rt: HostRuntime) {
-    for (kind, class, side, number) in FACTORS {
-        let factor = factor_of(&rt, kind).expect(&rt, "a factor");
-        assert!(rt; factor.kind() == kind && factor.class() == class && factor.side() == side);
-        assert!(rt; bucket_number(factor.bucket()) == number);
+    for (kind, class, side, number) in &FACTORS {
+        let factor = factor_of(&rt, *kind);
+        assert!(rt; factor.kind() == *kind);
+        assert!(rt; is_placed(&factor, *class, *side, *number), "{kind:?}");
+        drop(factor);
     }
+}
+
+/// The key of the factor of a kind.
+fn key_of(rt: &(impl Abort + AllocGlobal), kind: RiskType) -> FactorKey {
+    let product = ProductClass::Credit;
+    let factor = factor_of(rt, kind);
+    FactorKey { product, factor }
+}
+
+fn copy_of(rt: &(impl Abort + AllocGlobal), key: &FactorKey) -> FactorKey {
+    key.copy(rt.alloc()).ok().expect(rt, "memory")
+}
+
+fn are_equal(key: &FactorKey, copy: &FactorKey) -> bool {
+    copy == key
 }
 
 #[test]
 fn a_copy_of_a_key_is_equal(rt: HostRuntime) {
-    for (kind, _, _, _) in FACTORS {
-        let factor = factor_of(&rt, kind).expect(&rt, "a factor");
-        let product = ProductClass::Credit;
-        let key = FactorKey { product, factor };
-        let copy = key.copy(rt.alloc()).ok().expect(&rt, "memory");
-        assert!(rt; copy == key && copy.kind() == kind);
+    for (kind, _, _, _) in &FACTORS {
+        let key = key_of(&rt, *kind);
+        let copy = copy_of(&rt, &key);
+        assert!(rt; are_equal(&key, &copy));
+        assert!(rt; copy.kind() == *kind);
+        drop(copy);
+        drop(key);
     }
+}
+
+/// Whether the factor of one kind comes before that of another.
+fn are_ordered(rt: &(impl Abort + AllocGlobal), low: RiskType, high: RiskType) -> bool {
+    let low = factor_of(rt, low);
+    let high = factor_of(rt, high);
+    let ordered = low < high;
+    drop(low);
+    drop(high);
+    ordered
 }
 
 #[test]
 fn factors_are_ordered_by_their_kinds(rt: HostRuntime) {
-    let mut last = factor_of(&rt, RiskType::IrCurve).expect(&rt, "a factor");
-    for (kind, _, _, _) in FACTORS {
-        let factor = factor_of(&rt, kind).expect(&rt, "a factor");
-        assert!(rt; last < factor || kind == RiskType::IrCurve);
-        last = factor;
+    let mut last = RiskType::IrCurve;
+    for (kind, _, _, _) in &FACTORS {
+        assert!(rt; are_ordered(&rt, last, *kind) || *kind == RiskType::IrCurve);
+        last = *kind;
     }
+}
+
+fn is_below(low: &FactorKey, high: &FactorKey) -> bool {
+    low < high
 }
 
 #[test]
 fn keys_are_ordered_by_product_class_and_currency(rt: HostRuntime) {
     let euro = fx_key(&rt, ProductClass::RatesFX, "EUR");
-    assert!(rt; euro < fx_key(&rt, ProductClass::RatesFX, "USD"));
-    assert!(rt; euro < fx_key(&rt, ProductClass::Credit, "AUD"));
+    for (product, currency) in [
+        (ProductClass::RatesFX, "USD"),
+        (ProductClass::Credit, "AUD"),
+    ] {
+        let other = fx_key(&rt, product, currency);
+        assert!(rt; is_below(&euro, &other));
+        drop(other);
+    }
+    drop(euro);
 }
 
 #[test]
@@ -491,28 +547,34 @@ const ADD_ONS: [(&str, [AddOn; 2], Option<MakeFault>); 14] = [
     ),
 ];
 
+fn push_row(rt: &impl Abort, trade: &mut TradeRows, row: CrifRow) {
+    trade.rows.push(row).ok().expect(rt, "memory");
+}
+
+/// A trade of two rows.
+fn trade_of(rt: &(impl Abort + AllocGlobal), text: &str, add_ons: &[AddOn; 2]) -> TradeRows {
+    let mut trade = trade(rt, text, "EUR", 1, 0);
+    for add_on in add_ons {
+        push_row(rt, &mut trade, add_on_row(rt, *add_on));
+    }
+    trade
+}
+
 #[test]
 fn add_ons_are_taken_into_a_batch(rt: HostRuntime) {
-    for (text, add_ons, fault) in ADD_ONS {
-        let mut other = trade(&rt, text, "EUR", 1, 0);
-        for add_on in add_ons {
-            let row = add_on_row(&rt, add_on);
-            other.rows.push(row).ok().expect(&rt, "memory");
-        }
-        assert_eq!(rt; batch_with(&rt, other).err(), fault);
+    for (text, add_ons, fault) in &ADD_ONS {
+        let other = trade_of(&rt, text, add_ons);
+        assert_eq!(rt; batch_with(&rt, other).err(), *fault);
     }
 }
 
 #[test]
 fn each_factor_is_taken_into_a_batch(rt: HostRuntime) {
-    for (kind, _, _, _) in FACTORS {
-        let factor = factor_of(&rt, kind).expect(&rt, "a factor");
-        let product = ProductClass::Credit;
-        let key = FactorKey { product, factor };
+    for (kind, _, _, _) in &FACTORS {
+        let key = key_of(&rt, *kind);
         let amount = Cents(1);
         let mut other = trade(&rt, "T2", "EUR", 1, 0);
-        let row = CrifRow::Sensitivity { key, amount };
-        other.rows.push(row).ok().expect(&rt, "memory");
+        push_row(&rt, &mut other, CrifRow::Sensitivity { key, amount });
         assert_eq!(rt; batch_with(&rt, other).err(), None);
     }
 }
