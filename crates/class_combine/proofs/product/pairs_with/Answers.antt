@@ -12,6 +12,6 @@ pub returns-then-margin_of-eq0-clause-value : goal.returns-then-margin_of-eq0-cl
 returns-then-margin_of-eq0-clause-value c =
     let fits : FitsSigned w128 c.margin_of.result.0 = search rules in
     let none : (class_in c.args.classes.now c.args.class).0 ≡ pos 0 =
-        ap (λ (m : Cents). m.0) (sym c.margin_of.ensures) ∙ sym (same128 c.margin_of.result.0 fits) ∙ ap (to_z w128) c.if-margin_of-eq0.true in
+    ap (λ (m : Cents). m.0) (sym c.margin_of.ensures) ∙ sym (same128 c.margin_of.result.0 fits) ∙ ap (to_z w128) c.if-margin_of-eq0.true in
     let nothing : (other : RiskClass) → class_pair c.args.params.now c.args.classes.now c.args.class other ≡ pos 0 = λ other. without_margin _ _ _ none in
     six_nothings _ _ _ _ _ _ (nothing classes.IR) (nothing classes.CreditQ) (nothing classes.CreditNonQ) (nothing classes.Equity) (nothing classes.Commodity) (nothing classes.FX)
