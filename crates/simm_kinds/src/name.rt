@@ -10,6 +10,7 @@ ghost use Rattle.std.specs.Str.{is_utf8};
 ghost use Rattle.simm_kinds.specs.NameText.{IsName, ReadsName, name_fault, is_full_name, is_printable, is_trimmed};
 
 use crate::NameFault;
+use smallvec::SmallVec;
 use std::alloc::{AllocError, Global};
 use std::cmp::Ordering;
 use std::hash::{Hash, Hasher};
@@ -19,7 +20,7 @@ use std::marker::Model;
 /// rule says otherwise. Names are equal, ordered and hashed by their bytes; contracts see just these.
 #[derive(Debug, Drop)]
 pub struct Name {
-    bytes: Vec<u8>,
+    bytes: SmallVec<u8, INLINE>,
 }
 
 impl Model for Name {
@@ -32,6 +33,9 @@ impl Model for Name {
 
     ghost invariant = { λ n. IsName n.bytes.items };
 }
+
+/// A name of at most so many bytes takes no memory beside itself. Most are as short.
+const INLINE: usize = 16;
 
 /// How many bytes a name has at most.
 const LONGEST: usize = 64;
@@ -111,7 +115,7 @@ impl Name {
         requires { IsName bytes.now }
         ensures { IfOk result (λ name. name ≡ bytes.now) }
     {
-        let bytes = Vec::from_slice(alloc, bytes)?;
+        let bytes = SmallVec::from_slice(alloc, bytes)?;
         Ok(Name { bytes })
     }
 
@@ -120,7 +124,7 @@ impl Name {
         ensures { result ≡ [] }
     {
         Name {
-            bytes: Vec::new(alloc),
+            bytes: SmallVec::new(alloc),
         }
     }
 
