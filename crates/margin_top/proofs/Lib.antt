@@ -1,13 +1,1 @@
-pub mod FileLemmas
-pub mod PrintLemmas
-pub mod CalcLemmas
-pub mod CompleteLemmas
-pub mod RunLemmas
-pub mod FeedLemmas
-pub mod KnownFiles
-pub mod LongLines
-pub mod FeedStops
-pub mod DeskLemmas
-pub mod NoticeLemmas
-pub mod RunEndLemmas
-pub mod RunComplete
+pub mod WordLemmas

@@ -2,14 +2,14 @@
 use Rattle.std.specs.Prelude.{ℕ, ◌≡◌, List, Option, Some, None}
 use Rattle.mh_io.specs.Sink.{SinkSeen}
 use Rattle.mh_io.specs.Folder.{FolderSeen}
-use Rattle.margin_top.specs.declared.status.Status.{Status}
-use Rattle.margin_top.specs.declared.status.Status.TheVariants as status
+use Rattle.command_files.specs.declared.status.Status.{Status}
+use Rattle.command_files.specs.declared.status.Status.TheVariants as status
 use Rattle.margin_top.specs.Words.{Form, Calc, Run, form_of}
-use Rattle.margin_top.specs.Lines.{words_fault}
-use Rattle.margin_top.specs.Printed.{GotLine}
-use Rattle.margin_top.specs.Calc.{CalcEnds}
-use Rattle.margin_top.specs.Desks.{Desks, AreUntold}
-use Rattle.margin_top.specs.Run.{RunEnds}
+use Rattle.command_files.specs.Lines.{words_fault}
+use Rattle.command_files.specs.Printed.{GotLine}
+use Rattle.margin_calc.specs.Calc.{CalcEnds}
+use Rattle.margin_run.specs.Desks.{Desks, AreUntold}
+use Rattle.margin_run.specs.Run.{RunEnds}
 
 -- the words are no form of a command: the folder and the desks stand, and one line is printed
 pub record EndsAtWords {B : Type 0} (old new : FolderSeen) (out_old out_new : SinkSeen) (d : Desks B) (s : Status) : Type 0 where

@@ -1,19 +1,18 @@
 ghost use Rattle.std.specs.Prelude.{◌<◌, ◌≤◌, ◌^◌, map};
 ghost use Rattle.std.specs.String.{string_bytes};
 ghost use Rattle.std.specs.Vec.{vec_len};
-ghost use Rattle.margin_top.specs.Files.{KeepsCounts};
-ghost use Rattle.margin_top.specs.Complete.{IsWellHouse, EndsWell};
-ghost use Rattle.margin_top.specs.Desks.{desks_of};
+ghost use Rattle.command_files.specs.Files.{KeepsCounts};
+ghost use Rattle.command_files.specs.Complete.{EndsWell};
+ghost use Rattle.margin_top.specs.Complete.{IsWellHouse};
+ghost use Rattle.margin_run.specs.Desks.{desks_of};
 ghost use Rattle.margin_top.specs.House.{HouseEnds};
 
-use crate::calculation::calc;
-use crate::fault_line::FaultLine;
-use crate::printing::print_line;
-use crate::running::run;
-use crate::status::Status;
 use crate::words::{Command, command_of};
 use call_desk::Desk;
+use command_files::{FaultLine, Status, print_line};
 use feed_gate::Gate;
+use margin_calc::calc;
+use margin_run::run;
 use mh_io::{Folder, Sink};
 use std::alloc::Global;
 use std::sync::Wait;

@@ -4,6 +4,8 @@ ghost use Rattle.std.specs.String.{string_bytes};
 ghost use Rattle.margin_top.specs.Words.{is_name_word, are_feed_words, form_of};
 ghost use Rattle.margin_top.specs.WordsRead.{IsForm};
 
+use margin_run::RunFiles;
+
 /// The files of a margin calculation.
 #[derive(Clone, Copy, Debug)]
 pub(crate) struct CalcFiles<'a> {
@@ -18,17 +20,6 @@ fn is_name(word: &str) -> bool
     ensures { result ≡ is_name_word word.now }
 {
     !matches!(word.as_bytes(), [] | [b'-', ..])
-}
-
-/// The files of a run.
-#[derive(Clone, Copy, Debug)]
-pub(crate) struct RunFiles<'a> {
-    /// The name of the parameter file.
-    pub params: &'a str,
-    /// The name of the terms file.
-    pub terms: &'a str,
-    /// The names of the feeds, of which there are 1 to 32.
-    pub feeds: &'a [String],
 }
 
 /// How many feeds a run has at most.

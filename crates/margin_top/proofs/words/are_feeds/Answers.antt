@@ -1,7 +1,7 @@
 use Rattle.std.proofs.Common.{◌≡◌, ◌≤◌, true, nat_le, length, arith, sym, ◌∙◌}
 use Rattle.std.specs.String.{string_bytes}
 use Rattle.std.proofs.lemmas.Bool.Decides.{nat_tests}
-use Rattle.margin_top.proofs.FeedLemmas.{feed_words}
+use Rattle.margin_top.proofs.WordLemmas.{feed_words}
 use Rattle.margin_top.proofs.words.are_feeds.Goals as goal
 
 pub returns-then-words-le-MOST_FEEDS : goal.returns-then-words-le-MOST_FEEDS

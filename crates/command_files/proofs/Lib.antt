@@ -1,0 +1,4 @@
+pub mod FileLemmas
+pub mod AfterParamsLemmas
+pub mod KnownFiles
+pub mod PrintLemmas

@@ -1,0 +1,10 @@
+pub mod Lines
+pub mod Faults
+pub mod Files
+pub mod Grammars
+pub mod FaultLine
+pub mod Printed
+pub mod Ending
+pub mod AfterParams
+pub mod Complete
+pub mod StatusCode

@@ -1,0 +1,49 @@
+-- The files of a calculation, one after the other.
+use Rattle.std.proofs.Common.{◌≡◌, ℕ, List, Option, Some, None, ap, ◌∙◌}
+use Rattle.mh_io.specs.Folder.{FolderSeen}
+use Rattle.simm_kinds.specs.declared.row.TradeRows.{TradeRows}
+use Rattle.simm_kinds.specs.Batch.{rows_of}
+use Rattle.simm_rules.specs.Params.{Params}
+use Rattle.simm_rules.specs.declared.values.RangeFault.{RangeFault}
+use Rattle.simm_rules.specs.Range.{range}
+use Rattle.simm_params.specs.Grammar.{params_of}
+use Rattle.bucket_cache.specs.declared.place.RowPlace.{RowPlace}
+use Rattle.bucket_cache.specs.Live.{first_unadmitted}
+use Rattle.set_core.specs.declared.refusal.Refusal.{Refusal}
+use Rattle.set_core.specs.declared.refusal.Refusal.TheVariants as refusal
+use Rattle.set_core.specs.declared.reply.Reply.TheVariants as reply
+use Rattle.set_core.specs.Answer.{if_in_range, if_admitted}
+use Rattle.command_files.specs.declared.fault.Fault.{Fault}
+use Rattle.command_files.specs.declared.fault.Fault.TheVariants as fault
+use Rattle.command_files.specs.Files.{no_deeds, with_reading, IsRead}
+use Rattle.command_files.specs.Grammars.{GivesTrades}
+use Rattle.command_files.proofs.FileLemmas.{did_more}
+use Rattle.command_files.proofs.AfterParamsLemmas.{whole_before}
+use Rattle.margin_calc.specs.Calc.{HasBoth, TellsRefusal, CalcCause}
+
+-- both files were read
+pub both_read : (old mid new : FolderSeen) (params_name crif_name : List ℕ) (p : Params) (trades : List TradeRows) → IsRead old mid no_deeds params_name (λ bytes. params_of bytes ≡ Some p) → IsRead mid new no_deeds crif_name (λ bytes. GivesTrades bytes trades) → HasBoth params_name crif_name old new p trades
+both_read old mid new params_name crif_name p trades first second = record {
+  param_bytes = first.bytes;
+  param_faults = first.faults;
+  crif_bytes = second.bytes;
+  crif_faults = second.faults;
+  did = did_more old mid new params_name first.bytes first.faults (with_reading no_deeds crif_name second.bytes second.faults) first.did second.did;
+  params = record { whole = first.whole; values = first.so };
+  whole = whole_before old mid (with_reading no_deeds params_name first.bytes first.faults) crif_name second.bytes first.did second.whole;
+  values = second.so;
+}
+
+-- ---- the refusal of a batch
+
+pub unknown_refused : (at : Option RowPlace) (found : Option RangeFault) (trade row : ℕ) → at ≡ Some (record { trade = trade; row = row }) → if_admitted at found ≡ reply.Refused (refusal.BucketUnknown trade row)
+unknown_refused at found trade row is = ap (λ o. if_admitted o found) is
+
+pub range_refused : (at : Option RowPlace) (found : Option RangeFault) (f : RangeFault) → at ≡ None → found ≡ Some f → if_admitted at found ≡ reply.Refused (refusal.Range f)
+range_refused at found f admitted is = ap (λ o. if_admitted o found) admitted ∙ ap if_in_range is
+
+pub refused_cause : (old new : FolderSeen) (params_name crif_name : List ℕ) (p : Params) (trades : List TradeRows) (why : Refusal) (f : Fault) → HasBoth params_name crif_name old new p trades → if_admitted (first_unadmitted p trades) (range p (rows_of trades)) ≡ reply.Refused why → TellsRefusal why f → CalcCause params_name crif_name old new f
+refused_cause old new params_name crif_name p trades why (fault.OfFile file name f) both refused tells = absurd tells
+refused_cause old new params_name crif_name p trades why (fault.OfBatch line) both refused tells =
+    record { p = p; trades = trades; why = why; both = both; refused = refused; tells = tells }
+refused_cause old new params_name crif_name p trades why fault.Memory both refused tells = record { p = p; trades = trades; both = both }

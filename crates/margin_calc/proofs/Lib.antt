@@ -1,0 +1,2 @@
+pub mod CalcLemmas
+pub mod CompleteLemmas

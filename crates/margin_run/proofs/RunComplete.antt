@@ -1,0 +1,158 @@
+-- A run for which all is well succeeds, or finds no memory.
+use Rattle.std.proofs.Common.{◌≡◌, ℕ, ◌+◌, ◌≤◌, Bool, true, List, [], ◌∷◌, ◌++◌, length, map, Some, option_map, ap, sym, refl, subst, inl, inr, ◌∙◌, length-append, arith}
+use Rattle.std.specs.List.{AllByRecursion}
+use Rattle.mh_io.specs.Faults.{Rises}
+use Rattle.mh_io.specs.Sink.{SinkSeen}
+use Rattle.mh_io.specs.Folder.{Telling, Reading, FolderSeen}
+use Rattle.mh_io.specs.Limits.{most_bytes}
+use Rattle.feed_reader.specs.Feed as message
+use Rattle.feed_reader.specs.Feed.{Item, FeedRun, feed}
+use Rattle.set_core.specs.Set.{Set}
+use Rattle.feed_gate.specs.declared.report.FeedEnd.{FeedEnd}
+use Rattle.feed_gate.specs.declared.report.FeedEnd.TheVariants as end_at
+use Rattle.feed_gate.specs.declared.report.FeedReport.{FeedReport}
+use Rattle.feed_gate.specs.Run.{IsEnd}
+use Rattle.command_files.specs.declared.status.Status.{Status}
+use Rattle.command_files.specs.declared.status.Status.TheVariants as status
+use Rattle.command_files.specs.declared.fault.InputFile.TheVariants as input
+use Rattle.command_files.specs.declared.fault.FileFault.TheVariants as why
+use Rattle.command_files.specs.declared.fault.Fault.{Fault}
+use Rattle.command_files.specs.declared.fault.Fault.TheVariants as fault
+use Rattle.command_files.specs.Files.{Deeds, no_deeds, with_reading, told_after}
+use Rattle.margin_run.specs.FeedFiles.{IsFed, AllFed}
+use Rattle.command_files.specs.Grammars.{RefusesParams, RefusesTerms}
+use Rattle.command_files.specs.Ending.{status_of}
+use Rattle.margin_run.specs.Notices.{notices}
+use Rattle.margin_run.specs.Desks.{Desks}
+use Rattle.margin_run.specs.Run.{HasRun, RunCause, RunLeaves, RunEnds, status_of_end, first_end, end_of}
+use Rattle.command_files.specs.Complete.{EndsWell}
+use Rattle.margin_run.specs.Complete.{IsWellFeed, IsWellRun}
+use Rattle.command_files.proofs.FileLemmas.{rises_earlier}
+use Rattle.command_files.proofs.KnownFiles.{same_bytes, front_bytes, only_memory_for, params_taken, terms_taken}
+use Rattle.margin_run.proofs.FeedStops.{not_cut, not_long, not_over}
+use Rattle.margin_run.proofs.DeskLemmas.{none_failed}
+
+-- the end of a feed that is whole and fits, of which a front was taken
+whole_end : (end : FeedEnd) (items : List Item) (taken rest bytes : List ℕ) (ended : Bool)
+    → IsEnd end items taken ended → taken ++ rest ≡ bytes → (ended ≡ true → taken ≡ bytes)
+    → length bytes ≤ most_bytes → (feed bytes true).stop ≡ message.Whole → status_of_end end ≡ status.Feed → ⊥
+whole_end end_at.End items taken rest bytes ended is front all few whole e = cc e
+whole_end (end_at.Cut line) items taken rest bytes ended is front all few whole e =
+    not_cut taken bytes ended line all whole (ap (λ (r : FeedRun). r.stop) is)
+whole_end (end_at.LineLong line) items taken rest bytes ended is front all few whole e =
+    let joined : (feed (taken ++ rest) true).stop ≡ message.Whole = ap (λ xs. (feed xs true).stop) front ∙ whole in
+    not_long taken rest ended line (omega (arith, ap length front)) joined (ap (λ (r : FeedRun). r.stop) is)
+whole_end (end_at.TooLong n) items taken rest bytes ended is front all few whole e =
+    let fits : length taken ≤ most_bytes = omega (arith, ap length front, length-append taken rest) in
+    not_over taken ended fits (ap (λ (r : FeedRun). r.stop) is.0)
+whole_end end_at.ReadFault items taken rest bytes ended is front all few whole e = cc e
+whole_end (end_at.Memory line) items taken rest bytes ended is front all few whole e = cc e
+
+-- a feed that stops whole isn't left before its end
+fed_whole : (old new : FolderSeen) (sets : List Set) (feed : ℕ) (name : List ℕ) (r : FeedReport) (reading : Reading) (t : Telling) → old.told ≡ Some t → IsWellFeed t name → IsFed old new sets feed name r reading → status_of_end r.end ≡ status.Feed → ⊥
+fed_whole old new sets feed name r reading t told well fed e =
+    let front = front_bytes old.told t name reading.taken well.bytes told fed.front well.there in
+    let all = λ (over : fed.ended ≡ true). same_bytes old.told t name reading.taken well.bytes told (fed.all over) well.there in
+    let ran = fed.ran in
+    whole_end r.end (map (λ m. m.item) ran.mets) reading.taken front.0 well.bytes fed.ended ran.stop front.1 all well.fits well.whole e
+
+-- how feeds end that all stop whole
+ends_whole : (old new : FolderSeen) (sets : List Set) (from : ℕ) (names : List (List ℕ)) (reports : List FeedReport) (readings : List Reading) (t : Telling) → old.told ≡ Some t → AllByRecursion (IsWellFeed t) names → AllFed old new sets from names reports readings → status_of_end (end_of reports) ≡ status.Feed → ⊥
+ends_whole old new sets from [] [] [] t told well fed e = cc e
+ends_whole old new sets from (n ∷ names) (r ∷ reports) (reading ∷ readings) t told well fed e = at (ends_whole old new sets (from + 1) names reports readings t told well.1 fed.1) r.end refl e
+  where
+    at : (status_of_end (end_of reports) ≡ status.Feed → ⊥) → (end : FeedEnd) → r.end ≡ end → status_of_end (first_end (end ∷ map (λ x. x.end) reports)) ≡ status.Feed → ⊥
+    at rest end_at.End is h = rest h
+    at rest (end_at.Cut line) is h = fed_whole old new sets from n r reading t told well.0 fed.0 (ap status_of_end is ∙ h)
+    at rest (end_at.LineLong line) is h = fed_whole old new sets from n r reading t told well.0 fed.0 (ap status_of_end is ∙ h)
+    at rest (end_at.TooLong taken) is h = fed_whole old new sets from n r reading t told well.0 fed.0 (ap status_of_end is ∙ h)
+    at rest end_at.ReadFault is h = cc h
+    at rest (end_at.Memory line) is h = cc h
+ends_whole old new sets from [] (r ∷ reports) readings t told well fed e = absurd fed
+ends_whole old new sets from [] [] (reading ∷ readings) t told well fed e = absurd fed
+ends_whole old new sets from (n ∷ names) [] readings t told well fed e = absurd fed
+ends_whole old new sets from (n ∷ names) (r ∷ reports) [] t told well fed e = absurd fed
+
+-- the files stand whatever was done
+well_after : (deeds : Deeds) (t : Telling) (names : List (List ℕ)) → AllByRecursion (IsWellFeed t) names → AllByRecursion (IsWellFeed (told_after deeds t)) names
+well_after deeds t [] well = tt
+well_after deeds t (n ∷ names) well = (record { bytes = (well.0).bytes; there = (well.0).there; fits = (well.0).fits; whole = (well.0).whole }, well_after deeds t names well.1)
+
+-- where the first feed that didn't end whole couldn't be read, its source failed
+read_failed : (old new : FolderSeen) (sets : List Set) (from : ℕ) (names : List (List ℕ)) (reports : List FeedReport) (readings : List Reading) → AllFed old new sets from names reports readings → end_of reports ≡ end_at.ReadFault → Rises old.read_faults new.read_faults
+read_failed old new sets from [] [] [] fed e = absurd (cc e)
+read_failed old new sets from (n ∷ names) (r ∷ reports) (reading ∷ readings) fed e = at (read_failed old new sets (from + 1) names reports readings fed.1) r.end refl e
+  where
+    at : (end_of reports ≡ end_at.ReadFault → Rises old.read_faults new.read_faults) → (end : FeedEnd) → r.end ≡ end → first_end (end ∷ map (λ x. x.end) reports) ≡ end_at.ReadFault → Rises old.read_faults new.read_faults
+    at rest end_at.End is h = rest h
+    at rest (end_at.Cut line) is h = absurd (cc h)
+    at rest (end_at.LineLong line) is h = absurd (cc h)
+    at rest (end_at.TooLong taken) is h = absurd (cc h)
+    at rest end_at.ReadFault is h = (fed.0.failed is).1
+    at rest (end_at.Memory line) is h = absurd (cc h)
+read_failed old new sets from [] (r ∷ reports) readings fed e = absurd fed
+read_failed old new sets from [] [] (reading ∷ readings) fed e = absurd fed
+read_failed old new sets from (n ∷ names) [] readings fed e = absurd fed
+read_failed old new sets from (n ∷ names) (r ∷ reports) [] fed e = absurd fed
+
+module _ {B : Type 0} {pn tn : List ℕ} {fns : List (List ℕ)} {old new : FolderSeen} {out_old out_new : SinkSeen} {d : Desks B}
+    (w : IsWellRun pn tn fns old new out_old out_new d) where
+  -- no fault comes but want of memory
+  only_memory : (f : Fault) → RunCause pn tn fns old new f → status_of f ≡ status.Memory
+  only_memory (fault.OfFile input.Params name f) h =
+      ap (λ e. status_of (fault.OfFile input.Params name e))
+      (only_memory_for old new no_deeds pn w.param_bytes RefusesParams w.t f w.told w.has_params w.params_fit
+      (params_taken w.param_bytes w.p w.params_read) w.finds_stood w.reads_stood h.1)
+  only_memory (fault.OfFile input.Terms name f) h =
+      let fails = h.1 in
+      let before = with_reading no_deeds pn fails.param_bytes fails.param_faults in
+      ap (λ e. status_of (fault.OfFile input.Terms name e))
+      (only_memory_for old new before tn w.terms_bytes RefusesTerms w.t f w.told w.has_terms w.terms_fit
+      (terms_taken w.terms_bytes w.agreements w.terms_read) w.finds_stood w.reads_stood fails.failed)
+  only_memory (fault.OfFile input.Feed name why.Missing) h =
+      let mid = h.mid in
+      absurd (w.finds_stood (rises_earlier old.find_faults mid.find_faults new.find_faults (h.inputs).finds ((h.fails).missing).rose))
+  only_memory (fault.OfFile input.Feed name why.Unread) h = absurd (h.fails).missing
+  only_memory (fault.OfFile input.Feed name why.Long) h = absurd (h.fails).missing
+  only_memory (fault.OfFile input.Feed name (why.Refused line)) h = absurd (h.fails).missing
+  only_memory (fault.OfFile input.Feed name why.Memory) h = refl
+  only_memory (fault.OfFile input.Crif name f) h = absurd h
+  only_memory (fault.OfBatch line) h = absurd h
+  only_memory fault.Memory h = refl
+
+  -- no feed is left before its end
+  to_the_end : (sets : List Set) (reports : List FeedReport) → HasRun pn tn fns old new sets reports
+      → status_of_end (end_of reports) ≡ status.Feed → ⊥
+  to_the_end sets reports h e =
+      let read = h.inputs in
+      let deeds = with_reading (with_reading no_deeds pn read.param_bytes read.param_faults) tn read.terms_bytes read.terms_faults in
+      let told : (h.mid).told ≡ Some (told_after deeds w.t) = read.did ∙ ap (option_map (told_after deeds)) w.told in
+      let fed = h.fed in
+      ends_whole h.mid new sets 0 fns reports fed.readings (told_after deeds w.t) told (well_after deeds w.t fns w.feeds) fed.feeds e
+
+  -- what a run that reached its feeds leaves
+  leaves_well : (sets : List Set) (reports : List FeedReport) (s : Status) → HasRun pn tn fns old new sets reports
+      → RunLeaves sets reports out_old out_new d s → EndsWell s
+  leaves_well sets reports status.Done run h = tt
+  leaves_well sets reports status.Memory run h = tt
+  leaves_well sets reports status.Write run h = absurd (w.puts_stood (h.1).rose)
+  leaves_well sets reports status.Feed run h = absurd (to_the_end sets reports run h.0)
+  leaves_well sets reports status.Read run h =
+      let fed = run.fed in
+      let failed = read_failed run.mid new sets 0 fns reports fed.readings fed.feeds h.0 in
+      absurd (w.reads_stood (rises_earlier old.read_faults (run.mid).read_faults new.read_faults (run.inputs).reads failed))
+  leaves_well sets reports status.Desk run h =
+      let one = h.2 in
+      let told = one.told in
+      absurd (none_failed (notices sets) d told.published told.outcomes told.publishes w.desks_stay one.o one.there one.failed)
+  leaves_well sets reports status.Words run h = absurd h
+  leaves_well sets reports status.Params run h = absurd h
+  leaves_well sets reports status.Terms run h = absurd h
+  leaves_well sets reports status.Find run h = absurd h
+
+  -- no other status than Done and Memory comes
+  pub run_ends_well : (s : Status) → RunEnds pn tn fns old new out_old out_new d s → EndsWell s
+  run_ends_well s (inl h) = leaves_well h.sets h.reports s h.run h.leaves
+  run_ends_well s (inr h) =
+      let fails = h.0 in
+      subst EndsWell (sym (only_memory fails.f fails.cause) ∙ fails.status) tt

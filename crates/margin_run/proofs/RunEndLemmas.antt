@@ -1,0 +1,70 @@
+-- What a run leaves that was printed and whose desks were told.
+use Rattle.std.proofs.Common.{◌≡◌, ℕ, Bool, true, false, cond, List, length, nat_lt, refl, sym, ap, subst, ◌∙◌, inl, inr, arith}
+use Rattle.std.specs.Io.KnownBytes.{append_known}
+use Rattle.std.proofs.lemmas.List.{take_all}
+use Rattle.std.proofs.lemmas.Bool.Decides.{nat_tests}
+use Rattle.mh_io.specs.Sink.{SinkSeen}
+use Rattle.set_core.specs.Set.{Set}
+use Rattle.feed_gate.specs.declared.report.FeedEnd.{FeedEnd}
+use Rattle.feed_gate.specs.declared.report.FeedEnd.TheVariants as end_at
+use Rattle.feed_gate.specs.declared.report.FeedReport.{FeedReport}
+use Rattle.call_desk.specs.declared.publishing.Published.{Published}
+use Rattle.call_desk.specs.Publish.{Outcome, Publishes}
+use Rattle.command_files.specs.declared.status.Status.{Status}
+use Rattle.command_files.specs.declared.status.Status.TheVariants as status
+use Rattle.margin_run.specs.declared.run_printing.Printed.{Printed}
+use Rattle.margin_run.specs.declared.run_printing.Printed.TheVariants as printed
+use Rattle.command_files.specs.Printed.{Got, GotLine}
+use Rattle.margin_run.specs.Notices.{notices}
+use Rattle.margin_run.specs.Desks.{Desks}
+use Rattle.margin_run.specs.Run.{run_text, status_of_end, end_of, RunLeaves}
+use Rattle.margin_run.specs.RunStages.{TextGoes, status_at_end}
+use Rattle.margin_run.proofs.DeskLemmas.{told, one_failed, one_wanted, all_stay}
+
+-- all of the text went out, or a front of it where the sink failed
+pub line_of : (text : List ℕ) (old new : SinkSeen) (p : Printed) → TextGoes text old new p → GotLine old new text
+line_of text old new printed.Whole got = record {
+  put = length text;
+  front = got ∙ ap (append_known old.holds) (sym (take_all (length text) text (omega arith)));
+  within = omega arith;
+  cut = λ short. absurd (omega (arith, short));
+}
+line_of text old new printed.Cut front = record {
+  put = front.put;
+  front = (front.breaks).front;
+  within = let short = (front.breaks).short in omega arith;
+  cut = λ _. front.rose;
+}
+
+module _ {B : Type 0} (sets : List Set) (reports : List FeedReport) (old new : SinkSeen) (d : Desks B) (published : Published) (outcomes : List (Outcome B))
+    (h : Publishes d.seen (notices sets) d.before d.after d.retired_before d.retired published outcomes) where
+  -- the feed ended whole, and all of the text is out
+  all_out : end_of reports ≡ end_at.End → Got old new (run_text sets reports) → (failed memory : Bool)
+      → nat_lt 0 published.failed ≡ failed → nat_lt 0 published.memory ≡ memory
+      → RunLeaves sets reports old new d (cond failed status.Desk (cond memory status.Memory status.Done))
+  all_out whole got true memory some also = (whole, got, one_failed (notices sets) d published outcomes h (grind (arith, nat_tests)))
+  all_out whole got false true none some =
+      inr (inr (record { whole = whole; printed = got; told = one_wanted (notices sets) d published outcomes h (grind (arith, nat_tests)) (grind (arith, nat_tests)) }))
+  all_out whole got false false none also =
+      (whole, got, record { told = told (notices sets) d published outcomes h; stay = all_stay (notices sets) d published outcomes h (grind (arith, nat_tests)) (grind (arith, nat_tests)) })
+
+  pub leaves_at : (end : FeedEnd) (p : Printed) → end_of reports ≡ end → TextGoes (run_text sets reports) old new p
+      → RunLeaves sets reports old new d (status_at_end end p published)
+  leaves_at end_at.End printed.Whole e text = all_out e text (nat_lt 0 published.failed) (nat_lt 0 published.memory) refl refl
+  leaves_at end_at.End printed.Cut e text = (e, text, told (notices sets) d published outcomes h)
+  leaves_at (end_at.Cut line) p e text = (ap status_of_end e, line_of (run_text sets reports) old new p text, told (notices sets) d published outcomes h)
+  leaves_at (end_at.LineLong line) p e text = (ap status_of_end e, line_of (run_text sets reports) old new p text, told (notices sets) d published outcomes h)
+  leaves_at (end_at.TooLong taken) p e text = (ap status_of_end e, line_of (run_text sets reports) old new p text, told (notices sets) d published outcomes h)
+  leaves_at end_at.ReadFault p e text = (e, line_of (run_text sets reports) old new p text, told (notices sets) d published outcomes h)
+  leaves_at (end_at.Memory line) p e text =
+      inr (inl (record { short = ap status_of_end e; printed = line_of (run_text sets reports) old new p text; told = told (notices sets) d published outcomes h }))
+
+-- the sets lent to the telling are those of the run
+pub end_leaves : {B : Type 0} (sets lent : List Set) (reports : List FeedReport) (old new : SinkSeen) (d : Desks B) (published : Published) (p : Printed) (s : Status)
+    → lent ≡ sets
+    → (outcomes : List (Outcome B)) × Publishes d.seen (notices lent) d.before d.after d.retired_before d.retired published outcomes
+    → TextGoes (run_text sets reports) old new p → s ≡ status_at_end (end_of reports) p published → RunLeaves sets reports old new d s
+end_leaves sets lent reports old new d published p s same told text is =
+    subst (RunLeaves sets reports old new d) (sym is)
+    (leaves_at sets reports old new d published told.0
+    (subst (λ xs. Publishes d.seen (notices xs) d.before d.after d.retired_before d.retired published told.0) same told.1) (end_of reports) p refl text)

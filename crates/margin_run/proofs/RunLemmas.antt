@@ -1,0 +1,116 @@
+-- The stages of a run, one after the other.
+use Rattle.std.proofs.Common.{◌≡◌, ℕ, ◌≤◌, arith, All, List, [], ◌∷◌, map, length, take, zero, suc, false, Result, Ok, Err, IsErrAnd, Some, refl, sym, ap, ◌∙◌, subst, ⊎_elim}
+use Rattle.std.specs.List.{AllByRecursion, AllZip, IsDistinct}
+use Rattle.std.proofs.lemmas.Bool.{cases_lt}
+use Rattle.std.proofs.lemmas.List.{length-map, length-take-le, take_all}
+use Rattle.std.proofs.lemmas.List.Elements.{All-nil, All-cons}
+use Rattle.mh_io.specs.Folder.{FolderSeen}
+use Rattle.simm_kinds.specs.Order.{same_name}
+use Rattle.simm_rules.specs.Params.{Params}
+use Rattle.simm_params.specs.Grammar.{params_of}
+use Rattle.csa_terms.specs.Grammar.{terms_of}
+use Rattle.csa_terms.specs.Terms.{Agreement, AreTerms}
+use Rattle.set_core.specs.Set.{Set}
+use Rattle.feed_gate.specs.declared.report.FeedReport.{FeedReport}
+use Rattle.feed_gate.specs.Sets.{AreApart}
+use Rattle.feed_gate.specs.SetsRun.{IsRun}
+use Rattle.margin_run.specs.declared.run_files.Outcome.{Outcome}
+use Rattle.command_files.specs.declared.fault.InputFile.TheVariants as input
+use Rattle.command_files.specs.declared.fault.Fault.{Fault}
+use Rattle.command_files.specs.declared.fault.Fault.TheVariants as fault
+use Rattle.command_files.specs.Files.{no_deeds, with_reading, IsRead}
+use Rattle.margin_run.specs.FeedFiles.{FeedsFail, AreFed}
+use Rattle.margin_run.specs.Run.{start, HasInputs, HasRun, RunCause}
+use Rattle.margin_run.specs.RunStages.{RunFilesEnd}
+use Rattle.command_files.proofs.FileLemmas.{did_more}
+use Rattle.command_files.proofs.AfterParamsLemmas.{whole_before}
+
+-- both files were read
+pub inputs_read : (old mid new : FolderSeen) (pn tn : List ℕ) (p : Params) (agreements : List Agreement) → IsRead old mid no_deeds pn (λ bytes. params_of bytes ≡ Some p) → IsRead mid new no_deeds tn (λ bytes. terms_of bytes ≡ Ok agreements) → old.find_faults ≤ new.find_faults → old.read_faults ≤ new.read_faults → HasInputs pn tn old new p agreements
+inputs_read old mid new pn tn p agreements first second finds reads = record {
+  param_bytes = first.bytes;
+  param_faults = first.faults;
+  terms_bytes = second.bytes;
+  terms_faults = second.faults;
+  did = did_more old mid new pn first.bytes first.faults (with_reading no_deeds tn second.bytes second.faults) first.did second.did;
+  params = record { whole = first.whole; values = first.so };
+  whole = whole_before old mid (with_reading no_deeds pn first.bytes first.faults) tn second.bytes first.did second.whole;
+  terms = second.so;
+  finds = finds;
+  reads = reads;
+}
+
+-- ---- the sets
+
+same_terms : (p : Params) (agreements : List Agreement) → map (λ s. s.terms.name) (map (start p) agreements) ≡ map (λ t. t.name) agreements
+same_terms p [] = refl
+same_terms p (t ∷ ts) = ap (λ ns. t.name ∷ ns) (same_terms p ts)
+
+distinct_front : (i : ℕ) (n : List ℕ) (agreements : List Agreement) → AllByRecursion (λ m. same_name n m ≡ false) (map (λ t. t.name) agreements) → AllByRecursion (λ m. same_name n m ≡ false) (map (λ t. t.name) (take i agreements))
+distinct_front zero n agreements h = tt
+distinct_front (suc i) n [] h = tt
+distinct_front (suc i) n (t ∷ ts) h = (h.0, distinct_front i n ts h.1)
+
+front_distinct : (i : ℕ) (agreements : List Agreement) → IsDistinct same_name (map (λ t. t.name) agreements) → IsDistinct same_name (map (λ t. t.name) (take i agreements))
+unfolding IsDistinct
+front_distinct zero agreements h = tt
+front_distinct (suc i) [] h = tt
+front_distinct (suc i) (t ∷ ts) h = (distinct_front i t.name ts h.0, front_distinct i ts h.1)
+
+pub apart_start : (p : Params) (agreements : List Agreement) → AreTerms agreements → AreApart (map (start p) agreements)
+apart_start p agreements h = record {
+  few = omega (arith, h.few, length-map agreements (start p));
+  different = subst (IsDistinct same_name) (sym (same_terms p agreements)) h.different;
+}
+
+shorter : (i : ℕ) (agreements : List Agreement) → length (take i agreements) ≤ length agreements
+shorter i agreements = ⊎_elim
+    (λ lt. omega (arith, lt, length-take-le i agreements (omega (arith, lt))))
+    (λ ge. omega (arith, ap length (take_all i agreements (omega (arith, ge)))))
+    (cases_lt i (length agreements))
+
+-- the sets of a front of the terms
+pub apart_part : (p : Params) (i : ℕ) (agreements : List Agreement) (sets : List Set) → AreTerms agreements → sets ≡ map (start p) (take i agreements) → AreApart sets
+apart_part p i agreements sets h e = subst AreApart (sym e) (record {
+  few = omega (arith, h.few, length-map (take i agreements) (start p), shorter i agreements);
+  different = subst (IsDistinct same_name) (sym (same_terms p (take i agreements))) (front_distinct i agreements h.different);
+})
+
+-- the sets of the terms have these terms
+start_terms : (p : Params) (agreements : List Agreement) → map (λ s. s.terms) (map (start p) agreements) ≡ agreements
+start_terms p [] = refl
+start_terms p (t ∷ ts) = ap (λ us. t ∷ us) (start_terms p ts)
+
+-- the sets of the terms have no calls yet
+pub none_called : (p : Params) (agreements : List Agreement) → All (λ s. s.journal ≡ []) (map (start p) agreements)
+none_called p [] = All-nil (λ (s : Set). s.journal ≡ [])
+none_called p (t ∷ ts) = All-cons (λ (s : Set). s.journal ≡ []) (start p t) (map (start p) ts) refl (none_called p ts)
+
+-- sets that were run have the terms that they had
+run_terms : (n : ℕ) (old new : List Set) → AllZip (IsRun n) old new → map (λ s. s.terms) new ≡ map (λ s. s.terms) old
+run_terms n [] [] all = refl
+run_terms n [] (t ∷ new) all = absurd all
+run_terms n (s ∷ old) [] all = absurd all
+run_terms n (s ∷ old) (t ∷ new) all = ap (λ u. u ∷ map (λ (x : Set). x.terms) new) all.0.terms ∙ ap (λ us. s.terms ∷ us) (run_terms n old new all.1)
+
+-- the feeds were run on the sets of the terms
+pub has_run : (old mid new : FolderSeen) (pn tn : List ℕ) (fns : List (List ℕ)) (p : Params) (agreements : List Agreement) (started sets : List Set) (reports : List FeedReport) → HasInputs pn tn old mid p agreements → started ≡ map (start p) agreements → AreApart started → AreFed fns mid new started sets reports → HasRun pn tn fns old new sets reports × (agreements ≡ map (λ s. s.terms) sets) × (length sets ≤ 16)
+has_run old mid new pn tn fns p agreements started sets reports inputs begun apart fed =
+    let same = run_terms (length fns) started sets fed.sets in (
+      record { p = p; agreements = agreements; mid = mid; inputs = inputs; fed = subst (λ ss. AreFed fns mid new ss sets reports) begun fed },
+      sym (same ∙ ap (map (λ s. s.terms)) begun ∙ start_terms p agreements),
+      omega (arith, apart.few, ap length same, length-map sets (λ (s : Set). s.terms), length-map started (λ (s : Set). s.terms)),
+    )
+
+-- no feed was run
+pub no_run : (old mid new : FolderSeen) (pn tn : List ℕ) (fns : List (List ℕ)) (p : Params) (agreements : List Agreement) (f : Fault) → HasInputs pn tn old mid p agreements → FeedsFail fns mid new f → RunCause pn tn fns old new f
+no_run old mid new pn tn fns p agreements (fault.OfFile input.Params name f) inputs fails = absurd fails
+no_run old mid new pn tn fns p agreements (fault.OfFile input.Crif name f) inputs fails = absurd fails
+no_run old mid new pn tn fns p agreements (fault.OfFile input.Terms name f) inputs fails = absurd fails
+no_run old mid new pn tn fns p agreements (fault.OfFile input.Feed name f) inputs fails = record { p = p; agreements = agreements; mid = mid; inputs = inputs; fails = fails }
+no_run old mid new pn tn fns p agreements (fault.OfBatch line) inputs fails = absurd fails
+no_run old mid new pn tn fns p agreements fault.Memory inputs fails = record { p = p; agreements = agreements; mid = mid; inputs = inputs; fails = fails }
+
+pub failed_run : (old new : FolderSeen) (pn tn : List ℕ) (fns : List (List ℕ)) (f : Fault) (result : Result Outcome Fault) → IsErrAnd result (λ e. e ≡ f) → RunCause pn tn fns old new f → RunFilesEnd pn tn fns old new result
+failed_run old new pn tn fns f (Ok run) is cause = absurd is
+failed_run old new pn tn fns f (Err e) is cause = subst (RunCause pn tn fns old new) (sym is) cause

@@ -1,0 +1,9 @@
+use Rattle.std.proofs.Common.{◌∙◌, ap, map, take}
+use Rattle.margin_run.specs.Run.{start}
+use Rattle.margin_run.proofs.RunLemmas.{apart_part}
+use Rattle.margin_run.proofs.run_files.make_sets.Goals as goal
+
+pub returns-clause-apart : goal.returns-clause-apart
+returns-clause-apart c =
+    apart_part c.args.params.now c.loop-agreement.agreement-index c.args.terms.now c.loop-agreement.sets.items c.sets-agreement-items.ensures.facts
+    (c.loop-agreement.invariant ∙ ap (λ ts. map (start c.args.params.now) (take c.loop-agreement.agreement-index ts)) c.sets-agreement-items.ensures.value)

@@ -1,0 +1,146 @@
+-- What a run does: for each status what happened, what was printed, and which desks were told.
+use Rattle.std.specs.Prelude.{ℕ, ◌≡◌, ◌+◌, ◌≤◌, List, [], ◌∷◌, ◌++◌, map, Ok, ◌⊎◌}
+use Rattle.std.specs.List.{flat_map}
+use Rattle.mh_io.specs.Sink.{SinkSeen}
+use Rattle.mh_io.specs.Folder.{FolderSeen}
+use Rattle.simm_rules.specs.Params.{Params}
+use Rattle.csa_terms.specs.Grammar.{terms_of}
+use Rattle.csa_terms.specs.Terms.{Agreement}
+use Rattle.set_core.specs.Set.{Set}
+use Rattle.feed_gate.specs.declared.report.FeedEnd.{FeedEnd}
+use Rattle.feed_gate.specs.declared.report.FeedEnd.TheVariants as end_at
+use Rattle.feed_gate.specs.declared.report.FeedReport.{FeedReport}
+use Rattle.margin_text.specs.Journal.{journal_text}
+use Rattle.margin_text.specs.Feeds.{feed_text}
+use Rattle.command_files.specs.declared.status.Status.{Status}
+use Rattle.command_files.specs.declared.status.Status.TheVariants as status
+use Rattle.command_files.specs.declared.fault.InputFile.TheVariants as input
+use Rattle.command_files.specs.declared.fault.Fault.{Fault}
+use Rattle.command_files.specs.declared.fault.Fault.TheVariants as fault
+use Rattle.command_files.specs.Files.{no_deeds, with_reading, Did, IsWhole, NoValue}
+use Rattle.margin_run.specs.FeedFiles.{FeedsFail, AreFed}
+use Rattle.command_files.specs.Grammars.{RefusesParams, RefusesTerms}
+use Rattle.margin_run.specs.Notices.{notices}
+use Rattle.margin_run.specs.Desks.{Desks, AreUntold, AreTold, AllAreTold, OneFailed, OneWanted}
+use Rattle.command_files.specs.Printed.{Got, GotFront, GotLine}
+use Rattle.command_files.specs.Ending.{EndsAtFault}
+use Rattle.command_files.specs.AfterParams.{HasParams, FailsAfterParams}
+
+-- the parameter file and then the terms file were read whole, with these values, and no count of faults fell
+pub record HasInputs (params_name terms_name : List ℕ) (old new : FolderSeen) (p : Params) (agreements : List Agreement) : Type 0 where
+  pub param_bytes : List ℕ
+  pub param_faults : ℕ
+  pub terms_bytes : List ℕ
+  pub terms_faults : ℕ
+  pub did : Did old new (with_reading (with_reading no_deeds params_name param_bytes param_faults) terms_name terms_bytes terms_faults)
+  pub params : HasParams old params_name param_bytes p
+  pub whole : IsWhole old terms_name terms_bytes
+  pub terms : terms_of terms_bytes ≡ Ok agreements
+  pub finds : old.find_faults ≤ new.find_faults
+  pub reads : old.read_faults ≤ new.read_faults
+
+-- a set before its first call
+abbrev pub start : Params → Agreement → Set
+start p agreement = record { params = p; terms = agreement; journal = [] }
+
+-- Both files were read, and the feeds were run on the sets of the terms.
+pub record HasRun (params_name terms_name : List ℕ) (feed_names : List (List ℕ)) (old new : FolderSeen) (sets : List Set) (reports : List FeedReport) : Type 0 where
+  pub p : Params
+  pub agreements : List Agreement
+  pub mid : FolderSeen
+  pub inputs : HasInputs params_name terms_name old mid p agreements
+  pub fed : AreFed feed_names mid new (map (start p) agreements) sets reports
+
+-- what became of the feeds, one after another
+abbrev pub feeds_text : ℕ → List (List ℕ) → List FeedReport → List ℕ
+feeds_text from names [] = []
+feeds_text from names (r ∷ reports) = feed_text from names r.done r.refused r.end ++ feeds_text (from + 1) names reports
+
+-- all that is printed: the sets' journals in the order of the terms, and then what became of the feeds in the order of the words
+abbrev pub run_text : List Set → List FeedReport → List ℕ
+run_text sets reports =
+    flat_map (λ s. journal_text s.terms.name s.journal) sets
+    ++ feeds_text 0 (map (λ s. s.terms.name) sets) reports
+
+-- how the first feed ended that didn't end whole, or that all did
+abbrev pub first_end : List FeedEnd → FeedEnd
+first_end [] = end_at.End
+first_end (end_at.End ∷ ends) = first_end ends
+first_end (end ∷ ends) = end
+
+abbrev pub end_of : List FeedReport → FeedEnd
+end_of reports = first_end (map (λ r. r.end) reports)
+
+-- ---- runs that didn't reach the feeds
+
+-- both files were read, and then no feed was run
+pub record RunFails (params_name terms_name : List ℕ) (feed_names : List (List ℕ)) (old new : FolderSeen) (f : Fault) : Type 0 where
+  pub p : Params
+  pub agreements : List Agreement
+  pub mid : FolderSeen
+  pub inputs : HasInputs params_name terms_name old mid p agreements
+  pub fails : FeedsFail feed_names mid new f
+
+-- what happened at each fault of a run, which has no CRIF file and no batch
+abbrev pub RunCause : List ℕ → List ℕ → List (List ℕ) → FolderSeen → FolderSeen → Fault → Type 0
+RunCause params_name terms_name feed_names old new (fault.OfFile input.Params name f) =
+    (name.now ≡ params_name) × NoValue old new no_deeds params_name RefusesParams f
+RunCause params_name terms_name feed_names old new (fault.OfFile input.Terms name f) =
+    (name.now ≡ terms_name) × FailsAfterParams params_name terms_name RefusesTerms old new f
+RunCause params_name terms_name feed_names old new (fault.OfFile input.Feed name f) = RunFails params_name terms_name feed_names old new (fault.OfFile input.Feed name f)
+RunCause params_name terms_name feed_names old new (fault.OfFile input.Crif name f) = ⊥
+RunCause params_name terms_name feed_names old new (fault.OfBatch line) = ⊥
+RunCause params_name terms_name feed_names old new fault.Memory = RunFails params_name terms_name feed_names old new fault.Memory
+
+-- ---- the ends of a run, by its status
+
+-- the status of a feed's end where all is printed
+abbrev pub status_of_end : FeedEnd → Status
+status_of_end end_at.End = status.Done
+status_of_end (end_at.Cut line) = status.Feed
+status_of_end (end_at.LineLong line) = status.Feed
+status_of_end (end_at.TooLong taken) = status.Feed
+status_of_end end_at.ReadFault = status.Read
+status_of_end (end_at.Memory line) = status.Memory
+
+-- Want of memory at the end: for the text, of which then nothing is printed, or for the notices. No desk was told.
+pub record IsStarvedAtEnd {B : Type 0} (sets : List Set) (reports : List FeedReport) (old new : SinkSeen) (d : Desks B) : Type 0 where
+  pub printed : (new.holds ≡ old.holds) ⊎ GotLine old new (run_text sets reports)
+  pub untold : AreUntold d
+
+-- the first feed that didn't end whole is one for which memory ran out: all is printed that the sink takes, and the desks are told
+pub record IsFedShort {B : Type 0} (sets : List Set) (reports : List FeedReport) (old new : SinkSeen) (d : Desks B) : Type 0 where
+  pub short : status_of_end (end_of reports) ≡ status.Memory
+  pub printed : GotLine old new (run_text sets reports)
+  pub told : AreTold (notices sets) d
+
+-- all is well but for a desk that found no memory
+pub record IsToldShort {B : Type 0} (sets : List Set) (reports : List FeedReport) (old new : SinkSeen) (d : Desks B) : Type 0 where
+  pub whole : end_of reports ≡ end_at.End
+  pub printed : Got old new (run_text sets reports)
+  pub told : OneWanted (notices sets) d
+
+-- What printing a run and telling the desks its calls do, by the run's status. That is want of memory where there was none
+-- for the text or the notices; else that of the first feed that didn't end whole; else Write where the sink failed; else Desk
+-- where a desk failed; else want of memory where a desk found none. But for the first of these each desk was told.
+abbrev pub RunLeaves : {B : Type 0} → List Set → List FeedReport → SinkSeen → SinkSeen → Desks B → Status → Type 0
+RunLeaves sets reports old new d status.Done = (end_of reports ≡ end_at.End) × Got old new (run_text sets reports) × AllAreTold (notices sets) d
+RunLeaves sets reports old new d status.Write = (end_of reports ≡ end_at.End) × GotFront old new (run_text sets reports) × AreTold (notices sets) d
+RunLeaves sets reports old new d status.Feed = (status_of_end (end_of reports) ≡ status.Feed) × GotLine old new (run_text sets reports) × AreTold (notices sets) d
+RunLeaves sets reports old new d status.Read = (end_of reports ≡ end_at.ReadFault) × GotLine old new (run_text sets reports) × AreTold (notices sets) d
+RunLeaves sets reports old new d status.Desk = (end_of reports ≡ end_at.End) × Got old new (run_text sets reports) × OneFailed (notices sets) d
+RunLeaves sets reports old new d status.Memory = IsStarvedAtEnd sets reports old new d ⊎ (IsFedShort sets reports old new d ⊎ IsToldShort sets reports old new d)
+RunLeaves sets reports old new d _ = ⊥
+
+-- the run reached its feeds
+pub record EndsRun {B : Type 0} (params_name terms_name : List ℕ) (feed_names : List (List ℕ)) (old new : FolderSeen) (out_old out_new : SinkSeen) (d : Desks B) (s : Status) : Type 0 where
+  pub sets : List Set
+  pub reports : List FeedReport
+  pub run : HasRun params_name terms_name feed_names old new sets reports
+  pub leaves : RunLeaves sets reports out_old out_new d s
+
+-- what a run with this status did; where it ended before its feeds no desk was told
+abbrev pub RunEnds : {B : Type 0} → List ℕ → List ℕ → List (List ℕ) → FolderSeen → FolderSeen → SinkSeen → SinkSeen → Desks B → Status → Type 0
+RunEnds params_name terms_name feed_names old new out_old out_new d s =
+    EndsRun params_name terms_name feed_names old new out_old out_new d s
+    ⊎ (EndsAtFault (RunCause params_name terms_name feed_names old new) out_old out_new s × AreUntold d)

@@ -1,0 +1,49 @@
+-- The stages of a run, each by itself.
+use Rattle.std.specs.Prelude.{ℕ, ◌≡◌, ◌≤◌, List, length, map, Result, Ok, Err, nat_lt, if◌then◌else◌}
+use Rattle.mh_io.specs.Folder.{FolderSeen}
+use Rattle.mh_io.specs.Sink.{SinkSeen}
+use Rattle.set_core.specs.Set.{Set}
+use Rattle.feed_gate.specs.declared.report.FeedEnd.{FeedEnd}
+use Rattle.call_desk.specs.declared.publishing.Published.{Published}
+use Rattle.command_files.specs.declared.status.Status.{Status}
+use Rattle.command_files.specs.declared.status.Status.TheVariants as status
+use Rattle.margin_run.specs.declared.feed_files.FeedsRun.{FeedsRun}
+use Rattle.margin_run.specs.declared.run_files.Outcome.{Outcome}
+use Rattle.command_files.specs.declared.fault.Fault.{Fault}
+use Rattle.margin_run.specs.declared.run_printing.Printed.{Printed}
+use Rattle.margin_run.specs.declared.run_printing.Printed.TheVariants as printed
+use Rattle.margin_run.specs.FeedFiles.{FeedsFail, AreFed}
+use Rattle.command_files.specs.Printed.{Got, GotFront}
+use Rattle.margin_run.specs.Run.{HasRun, RunCause, status_of_end}
+
+-- what running the feeds does
+abbrev pub FeedsEnd : FolderSeen → FolderSeen → List (List ℕ) → List Set → Result FeedsRun Fault → Type 0
+FeedsEnd old new names sets (Ok run) = AreFed names old new sets run.sets.items run.reports.items
+FeedsEnd old new names sets (Err f) = FeedsFail names old new f
+
+-- what the files of a run do; there are at most sixteen sets, and they keep their terms
+abbrev pub RunFilesEnd : List ℕ → List ℕ → List (List ℕ) → FolderSeen → FolderSeen → Result Outcome Fault → Type 0
+RunFilesEnd params_name terms_name feed_names old new (Ok run) =
+    HasRun params_name terms_name feed_names old new run.sets.items run.reports.items
+    × (run.terms ≡ map (λ s. s.terms) run.sets.items) × (length run.sets.items ≤ 16)
+RunFilesEnd params_name terms_name feed_names old new (Err f) = RunCause params_name terms_name feed_names old new f
+
+-- what putting the text out does
+abbrev pub TextGoes : List ℕ → SinkSeen → SinkSeen → Printed → Type 0
+TextGoes text old new printed.Whole = Got old new text
+TextGoes text old new printed.Cut = GotFront old new text
+
+-- the status of desks that were told
+abbrev pub status_of_desks : Published → Status
+status_of_desks published =
+    if nat_lt 0 published.failed then status.Desk
+    else (if nat_lt 0 published.memory then status.Memory else status.Done)
+
+-- the first that is not Done: of the feeds' ends, of the sink, of the desks
+abbrev pub first_status : Status → Printed → Published → Status
+first_status status.Done printed.Whole published = status_of_desks published
+first_status status.Done printed.Cut published = status.Write
+first_status s p published = s
+
+abbrev pub status_at_end : FeedEnd → Printed → Published → Status
+status_at_end end p published = first_status (status_of_end end) p published

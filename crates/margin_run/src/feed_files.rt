@@ -1,0 +1,101 @@
+//! The feeds of a run as files: found in the order of the words, run, and handed back in that order.
+ghost use Rattle.std.specs.Prelude.{◌≡◌, ◌+◌, ◌≤◌, [], length, map, All, IfOk, IfErr, OnErr};
+ghost use Rattle.std.specs.String.{string_bytes};
+ghost use Rattle.std.specs.Vec.{vec_len};
+ghost use Rattle.feed_gate.specs.Sets.{AreApart};
+ghost use Rattle.command_files.specs.Files.{KeepsCounts};
+ghost use Rattle.margin_run.specs.FeedFiles.{FindsAll, TakesAllBack, FeedsFail};
+ghost use Rattle.margin_run.specs.RunStages.{FeedsEnd};
+
+use command_files::{Fault, FileFault, InputFile};
+use feed_gate::{FeedReport, Gate, SetsRun, run_on_sets};
+use mh_io::Folder;
+use set_core::SetState;
+use std::alloc::Global;
+use std::collections::VecDeque;
+use std::sync::Wait;
+use std::thread::Threads;
+
+/// What running feeds leaves: the sets, and a report of each feed.
+#[derive(Drop)]
+pub(crate) struct FeedsRun {
+    pub sets: Vec<SetState>,
+    pub reports: Vec<FeedReport>,
+}
+
+/// Finds the feeds of these names, runs them at the same time on the sets, and hands them back.
+///
+/// # Errors
+///
+/// A feed isn't there, or memory ran out before the feeds were run. Those that were found are handed back.
+pub(crate) fn run_feed_files<'a, R: Threads + Wait + Sync, F: Folder, G: Gate>(
+    rt: &R,
+    alloc: Global,
+    folder: &mut F,
+    names: &'a [String],
+    sets: Vec<SetState>,
+    gate: &G,
+) -> Result<FeedsRun, Fault<'a>>
+    requires apart { AreApart sets.items }
+    requires empty { All (λ s. s.journal ≡ []) sets.items }
+    requires feeds { (1 ≤ length names.now) × (length names.now ≤ 32) }
+    ensures counts { KeepsCounts (F.seen folder.old) (F.seen folder.new) }
+    ensures ends { FeedsEnd (F.seen folder.old) (F.seen folder.new) (map string_bytes names.now) sets.items result }
+{
+    let sources = find_feeds(alloc, folder, names)?;
+    match run_on_sets(rt, alloc, sets, sources, gate) {
+        Ok(run) => {
+            let SetsRun {
+                sets,
+                sources,
+                reports,
+            } = run;
+            take_all_back(folder, sources);
+            Ok(FeedsRun { sets, reports })
+        }
+        Err(memory) => {
+            take_all_back(folder, memory.back);
+            Err(Fault::Memory)
+        }
+    }
+}
+
+/// Finds the feeds of these names in their order.
+fn find_feeds<'a, F: Folder>(
+    alloc: Global,
+    folder: &mut F,
+    names: &'a [String],
+) -> Result<Vec<F::Src>, Fault<'a>>
+    ensures found { IfOk result (λ sources. FindsAll (F.seen folder.old) (F.seen folder.new) (map string_bytes names.now) (map F.Src.seen sources.items)) }
+    ensures counts { OnErr result (KeepsCounts (F.seen folder.old) (F.seen folder.new)) }
+    ensures fails { IfErr result (FeedsFail (map string_bytes names.now) (F.seen folder.old) (F.seen folder.new)) }
+{
+    let Ok(mut sources) = Vec::with_capacity(alloc, names.len()) else {
+        return Err(Fault::Memory);
+    };
+    for name in names {
+        match folder.find(alloc, name.as_str()) {
+            Ok(source) => sources.push_reserved(source),
+            Err(refused) => {
+                take_all_back(folder, sources);
+                return Err(Fault::OfFile {
+                    file: InputFile::Feed,
+                    name: name.as_str(),
+                    why: FileFault::from(refused),
+                });
+            }
+        }
+    }
+    Ok(sources)
+}
+
+/// Hands sources back in their order.
+fn take_all_back<F: Folder>(folder: &mut F, sources: Vec<F::Src>)
+    requires { vec_len sources ≤ (F.seen folder.old).due }
+    ensures { TakesAllBack (F.seen folder.old) (F.seen folder.new) (map F.Src.seen sources.items) }
+{
+    let mut waiting = VecDeque::from_vec(sources);
+    while let Some(source) = waiting.pop_front() {
+        folder.done(source);
+    }
+}

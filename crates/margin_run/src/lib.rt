@@ -1,0 +1,13 @@
+//! A run of feeds on the netting sets of a terms file: the files are read, the feeds run at the same time, the journals and
+//! what became of the feeds are printed, and desks are told the calls that were made; or one fault line is printed.
+#![tactic(auto)]
+
+mod feed_files;
+mod run_ending;
+mod run_files;
+mod run_printing;
+mod running;
+mod telling;
+
+pub use run_files::RunFiles;
+pub use running::run;

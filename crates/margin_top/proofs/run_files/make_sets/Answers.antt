@@ -1,9 +1,0 @@
-use Rattle.std.proofs.Common.{◌∙◌, ap, map, take}
-use Rattle.margin_top.specs.Run.{start}
-use Rattle.margin_top.proofs.RunLemmas.{apart_part}
-use Rattle.margin_top.proofs.run_files.make_sets.Goals as goal
-
-pub returns-clause-apart : goal.returns-clause-apart
-returns-clause-apart c =
-    apart_part c.args.params.now c.loop-agreement.agreement-index c.args.terms.now c.loop-agreement.sets.items c.sets-agreement-items.ensures.facts
-    (c.loop-agreement.invariant ∙ ap (λ ts. map (start c.args.params.now) (take c.loop-agreement.agreement-index ts)) c.sets-agreement-items.ensures.value)

@@ -1,6 +1,0 @@
-use Rattle.std.proofs.Common.{◌≡◌, map, take}
-use Rattle.margin_top.specs.Run.{start}
-use Rattle.margin_top.proofs.run_files.make_sets.Given as goal
-
-abbrev pub invariant-loop-agreement : goal.invariant-loop-agreement
-invariant-loop-agreement l = l.sets.items ≡ map (start l.params) (take l.agreement-index l.agreement-items)
