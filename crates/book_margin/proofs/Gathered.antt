@@ -6,8 +6,8 @@ use Rattle.factor_book.specs.declared.at.ClassAt.{ClassAt}
 use Rattle.factor_book.specs.declared.holding.Holding.{Holding}
 use Rattle.class_delta.specs.Delta.{AreDeltaParts}
 use Rattle.class_delta.proofs.Valued.{Whole}
-use Rattle.class_vega.specs.Class.{AreVegaParts}
-use Rattle.class_curvature.specs.Class.{AreCurvatureParts}
+use Rattle.class_volatility.specs.Vega.{AreVegaParts}
+use Rattle.class_volatility.specs.Curvature.{AreCurvatureParts}
 use Rattle.book_margin.specs.Classes.{AreClassParts}
 
 pub lent_parts : (p : Params) (at : ClassAt) (fs : List (FactorKey × Holding)) (deltas vegas curvatures ds vs cs : List Whole) → ds ≡ deltas → vs ≡ vegas → cs ≡ curvatures

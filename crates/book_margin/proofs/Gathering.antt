@@ -15,15 +15,13 @@ use Rattle.factor_book.specs.declared.holding.Holding.{Holding}
 use Rattle.factor_book.specs.declared.place.Place.{Place}
 use Rattle.factor_book.specs.Places.{factors_at, place_in, buckets_on}
 use Rattle.factor_book.proofs.Sorting.{each_weaker}
-use Rattle.vega_margin.specs.Combine.{volatility_buckets}
-use Rattle.vega_margin.specs.Vega.{vega_value, IsVegaSized}
-use Rattle.curvature_margin.specs.Curvature.{curvature_value, IsCurvatureSized}
+use Rattle.class_volatility.specs.Vega.{volatility_buckets, vega_value, IsVegaSized, volatility_side, volatility_place}
+use Rattle.class_volatility.specs.Curvature.{curvature_value, IsCurvatureSized}
 use Rattle.class_delta.specs.Buckets.{delta_side, delta_place, delta_buckets, bucket_at}
 use Rattle.class_delta.specs.Delta.{delta_at, IsSizedAt}
 use Rattle.class_delta.specs.Values.{AreValuedBy}
 use Rattle.class_delta.proofs.OnSide.{each_on}
 use Rattle.class_delta.proofs.Valued.{Whole, value_next}
-use Rattle.class_vega.specs.Class.{volatility_side, volatility_place}
 use Rattle.kept_buckets.specs.declared.value.VolatilityMargins.{VolatilityMargins}
 use Rattle.kept_buckets.specs.Dirty.{steps_left}
 use Rattle.kept_buckets.specs.Kept.{Kept, value_at}

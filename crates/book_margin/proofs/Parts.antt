@@ -9,9 +9,9 @@ use Rattle.simm_rules.specs.Net.{Sensitivity}
 use Rattle.simm_rules.specs.Simm.{class_margin_of}
 use Rattle.class_combine.specs.Classes.{IsClassMargin}
 use Rattle.class_combine.proofs.Products.{passed, plus, added}
-use Rattle.class_curvature.specs.Class.{class_curvature_of}
+use Rattle.class_volatility.specs.Curvature.{class_curvature_of}
 use Rattle.class_delta.specs.Class.{class_delta_of}
-use Rattle.class_vega.specs.Class.{class_vega_of}
+use Rattle.class_volatility.specs.Vega.{class_vega_of}
 use Rattle.book_margin.specs.Classes.{base_of}
 
 parts_are : (p : Params) (ss : List Sensitivity) (c : RiskClass) → class_delta_of p ss c +ℤ class_vega_of p ss c +ℤ class_curvature_of p ss c +ℤ base_of p ss c ≡ class_margin_of p ss c

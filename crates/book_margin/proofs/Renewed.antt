@@ -19,11 +19,10 @@ use Rattle.factor_book.specs.declared.place.Place.{Place}
 use Rattle.factor_book.specs.Place.{place_cmp}
 use Rattle.factor_book.specs.Places.{factors_at, by_place}
 use Rattle.factor_book.proofs.Standing.{one_place, own_place}
-use Rattle.vega_margin.specs.Vega.{vega_value, IsVegaSized}
-use Rattle.curvature_margin.specs.Curvature.{curvature_value, IsCurvatureSized}
+use Rattle.class_volatility.specs.Vega.{vega_value, IsVegaSized, volatility_place}
+use Rattle.class_volatility.specs.Curvature.{curvature_value, IsCurvatureSized}
 use Rattle.class_delta.specs.Buckets.{delta_place, bucket_at}
 use Rattle.class_delta.specs.Delta.{delta_at, IsSizedAt}
-use Rattle.class_vega.specs.Class.{volatility_place}
 use Rattle.kept_buckets.specs.declared.value.KeptValue.{KeptValue}
 use Rattle.kept_buckets.specs.declared.value.KeptValue.TheVariants as value
 use Rattle.kept_buckets.specs.declared.value.VolatilityMargins.{VolatilityMargins}

@@ -20,8 +20,8 @@ use Rattle.factor_book.specs.declared.holding.Holding.{Holding}
 use Rattle.book_range.specs.Bounded.{IsMarginable}
 use Rattle.name_delta.specs.Values.{nets_in}
 use Rattle.class_delta.specs.Delta.{AreDeltaParts}
-use Rattle.class_vega.specs.Class.{AreVegaParts}
-use Rattle.class_curvature.specs.Class.{AreCurvatureParts}
+use Rattle.class_volatility.specs.Vega.{AreVegaParts}
+use Rattle.class_volatility.specs.Curvature.{AreCurvatureParts}
 use Rattle.class_combine.specs.declared.whole.ProductClasses.{ProductClasses}
 use Rattle.kept_buckets.specs.Touched.{is_of_class}
 

@@ -3,14 +3,13 @@ ghost use Rattle.std.specs.Prelude.{◌≡◌, ◌≢◌, ◌+◌, ◌≤◌, []
 ghost use Rattle.factor_book.specs.Places.{factors_at};
 ghost use Rattle.book_range.specs.Bounded.{IsMarginable};
 ghost use Rattle.class_delta.specs.Buckets.{bucket_at, delta_place};
-ghost use Rattle.class_vega.specs.Class.{volatility_place};
+ghost use Rattle.class_volatility.specs.Vega.{volatility_place};
 ghost use Rattle.kept_buckets.specs.Dirty.{steps_left};
 ghost use Rattle.kept_buckets.specs.Kept.{value_at};
 ghost use Rattle.book_margin.specs.Right.{AreRight, IsDelta, AreVolatility, Renews};
 
-use class_curvature::curvature_bucket;
 use class_delta::{bucket_at, delta_bucket};
-use class_vega::vega_bucket;
+use class_volatility::{curvature_bucket, vega_bucket};
 use factor_book::{ClassAt, Factors};
 use kept_buckets::{KeptBuckets, VolatilityMargins, kept_values_save_steps};
 use pair_sum::Steps;

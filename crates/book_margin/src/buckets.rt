@@ -2,14 +2,14 @@
 ghost use Rattle.std.specs.Prelude.{◌+◌, ◌≤◌, IfOk, OnOk};
 ghost use Rattle.book_range.specs.Bounded.{IsMarginable};
 ghost use Rattle.class_delta.specs.Delta.{AreDeltaParts};
-ghost use Rattle.class_vega.specs.Class.{AreVegaParts};
-ghost use Rattle.class_curvature.specs.Class.{AreCurvatureParts};
+ghost use Rattle.class_volatility.specs.Vega.{AreVegaParts};
+ghost use Rattle.class_volatility.specs.Curvature.{AreCurvatureParts};
 ghost use Rattle.kept_buckets.specs.Dirty.{steps_left};
 ghost use Rattle.book_margin.specs.Right.{AreRight, AreDeltasKept, AreVolatilitiesKept, Renews};
 
 use crate::bucket::{delta_value, volatility_values};
 use class_delta::delta_buckets;
-use class_vega::volatility_buckets;
+use class_volatility::volatility_buckets;
 use factor_book::{ClassAt, Factors};
 use kept_buckets::KeptBuckets;
 use pair_sum::Steps;

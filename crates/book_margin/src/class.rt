@@ -13,9 +13,8 @@ ghost use Rattle.book_margin.specs.Classes.{base_of, AreClassParts, AreBookParts
 ghost use Rattle.book_margin.specs.Right.{AreRight, IsMargin, IsWhole, Renews};
 
 use crate::buckets::{delta_parts, volatility_parts};
-use class_curvature::curvature_from;
 use class_delta::{base_from, delta_from};
-use class_vega::vega_from;
+use class_volatility::{curvature_from, vega_from};
 use factor_book::{ClassAt, Factors};
 use kept_buckets::KeptBuckets;
 use mh_units::Cents;

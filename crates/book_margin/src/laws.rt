@@ -16,9 +16,8 @@ ghost use Rattle.kept_buckets.specs.Touched.{Forgets, SameElsewhere};
 ghost use Rattle.book_margin.specs.Classes.{class_factors};
 ghost use Rattle.book_margin.specs.Right.{AreRight, value_in};
 
-use class_curvature::curvature_hangs_on_its_factors;
 use class_delta::delta_hangs_on_its_factors;
-use class_vega::vega_hangs_on_its_factors;
+use class_volatility::{curvature_hangs_on_its_factors, vega_hangs_on_its_factors};
 
 /// The margin of a risk class in a product class hangs on its own factors alone, of both sides: two books that have the same
 /// there have the same margin. It does nothing.

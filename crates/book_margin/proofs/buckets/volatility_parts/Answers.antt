@@ -1,10 +1,8 @@
 use Rattle.std.proofs.Common.{◌∙◌, refl}
-use Rattle.vega_margin.specs.Combine.{volatility_buckets}
-use Rattle.vega_margin.specs.Vega.{vega_value, IsVegaSized}
-use Rattle.curvature_margin.specs.Curvature.{curvature_value, IsCurvatureSized}
+use Rattle.class_volatility.specs.Vega.{volatility_buckets, vega_value, IsVegaSized, volatility_side}
+use Rattle.class_volatility.specs.Curvature.{curvature_value, IsCurvatureSized}
 use Rattle.class_delta.specs.Buckets.{bucket_at}
 use Rattle.class_delta.proofs.OnSide.{some_next}
-use Rattle.class_vega.specs.Class.{volatility_side}
 use Rattle.book_margin.proofs.Gathering.{volatilities_first, volatilities_next, volatilities_kept, valued_all}
 use Rattle.book_margin.proofs.Renewed.{renews_none, renews_both}
 use Rattle.book_margin.proofs.buckets.volatility_parts.Goals as goal

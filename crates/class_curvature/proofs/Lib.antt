@@ -1,9 +1,0 @@
-pub mod Alike
-pub mod Joinable
-pub mod Counts
-pub mod Numbered
-pub mod Rates
-pub mod Pairs
-pub mod Classes
-pub mod ByBucket
-pub mod Margined

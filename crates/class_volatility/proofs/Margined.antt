@@ -1,0 +1,33 @@
+-- Books that can be margined: what each call asks of their buckets, and what their values make.
+use Rattle.std.proofs.Common.{◌≢◌, List, [], sym, subst}
+use Rattle.simm_kinds.specs.declared.key.FactorKey.{FactorKey}
+use Rattle.simm_rules.specs.Params.{Params}
+use Rattle.simm_params.specs.Facts.{IsParams}
+use Rattle.factor_book.specs.declared.at.BucketAt.{BucketAt}
+use Rattle.factor_book.specs.declared.at.ClassAt.{ClassAt}
+use Rattle.factor_book.specs.declared.holding.Holding.{Holding}
+use Rattle.factor_book.specs.Places.{factors_at}
+use Rattle.book_range.specs.Bounded.{IsMarginable}
+use Rattle.name_delta.specs.Values.{nets_in}
+use Rattle.name_delta.proofs.Shrinking.{SizesAreNetted}
+use Rattle.class_delta.proofs.Valued.{Whole}
+use Rattle.vol_factors.specs.Ranges.{IsReady}
+use Rattle.class_volatility.specs.Vega.{volatility_place, HasBuckets, AreVegaParts}
+use Rattle.class_volatility.proofs.Classes.{IsDone, AreRateLaws, done}
+use Rattle.class_volatility.proofs.InBook.{IsOwn, own_there}
+use Rattle.class_volatility.proofs.Ready.{one_ready}
+
+-- a bucket that has a volatility is one that its class has
+pub own_fits : (p : Params) (fs : List (FactorKey × Holding)) → IsMarginable p fs → (at : BucketAt) → factors_at (volatility_place at) fs ≢ [] → IsOwn p at.class at.bucket
+own_fits p fs its at = subst (λ f. factors_at (volatility_place at) f ≢ [] → IsOwn p at.class at.bucket) (sym its.are) (own_there p (record { product = at.product; class = at.class }) at.bucket its.held its.admitted)
+
+module _ (p : Params) (facts : IsParams p) (fs : List (FactorKey × Holding)) (its : IsMarginable p fs) (sizes : SizesAreNetted its.held) where
+  -- so it is in range
+  pub bucket_fits : (at : BucketAt) → factors_at (volatility_place at) fs ≢ [] → IsReady p at fs
+  bucket_fits at some = subst (IsReady p at) (sym its.are) (one_ready p facts its.held its.bounded its.amounts at.product sizes at.class at.bucket (own_fits p fs its at some))
+
+  -- all of a class
+  pub parts_fit : AreRateLaws p → (at : ClassAt) → HasBuckets at.class → (parts : List Whole) → AreVegaParts p at fs parts → IsDone p at.class (nets_in at.product fs) parts
+  parts_fit laws at several parts all =
+      subst (λ f. AreVegaParts p at f parts → IsDone p at.class (nets_in at.product f) parts) (sym its.are)
+      (λ a. done p facts laws its.held its.bounded its.amounts at.product sizes its.admitted parts at.class several a.are a.each) all

@@ -1,0 +1,29 @@
+//! What the values of buckets hang on.
+ghost use Rattle.std.specs.Prelude.{◌≡◌, List};
+ghost use Rattle.simm_kinds.specs.declared.key.FactorKey.{FactorKey};
+ghost use Rattle.simm_rules.specs.declared.values.BucketMargin.{BucketMargin};
+ghost use Rattle.simm_rules.specs.Params.{Params};
+ghost use Rattle.factor_book.specs.declared.at.BucketAt.{BucketAt};
+ghost use Rattle.factor_book.specs.declared.holding.Holding.{Holding};
+ghost use Rattle.factor_book.specs.Places.{factors_at};
+ghost use Rattle.vega_margin.specs.Vega.{vega_value, IsVegaSized};
+ghost use Rattle.curvature_margin.specs.Curvature.{curvature_value, IsCurvatureSized};
+ghost use Rattle.class_volatility.specs.Vega.{volatility_place};
+
+/// What a bucket comes to in vega hangs on its own volatilities alone: two books that have the same there have the same value. It
+/// does nothing.
+pub fn vega_hangs_on_its_factors()
+    ensures value { (p : Params) (at : BucketAt) (f g : List (FactorKey × Holding)) → factors_at (volatility_place at) f ≡ factors_at (volatility_place at) g
+        → vega_value p at f ≡ vega_value p at g }
+    ensures sized { (p : Params) (at : BucketAt) (f g : List (FactorKey × Holding)) → factors_at (volatility_place at) f ≡ factors_at (volatility_place at) g
+        → (m : BucketMargin) → IsVegaSized p at f m → IsVegaSized p at g m }
+{}
+
+/// What a bucket comes to in curvature hangs on its own volatilities alone: two books that have the same there have the same
+/// value. It does nothing.
+pub fn curvature_hangs_on_its_factors()
+    ensures value { (p : Params) (at : BucketAt) (f g : List (FactorKey × Holding)) → factors_at (volatility_place at) f ≡ factors_at (volatility_place at) g
+        → curvature_value p at f ≡ curvature_value p at g }
+    ensures sized { (p : Params) (at : BucketAt) (f g : List (FactorKey × Holding)) → factors_at (volatility_place at) f ≡ factors_at (volatility_place at) g
+        → (m : BucketMargin) → IsCurvatureSized p at f m → IsCurvatureSized p at g m }
+{}
