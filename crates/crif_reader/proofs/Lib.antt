@@ -1,6 +1,7 @@
 pub mod All
 pub mod RecordsLeft
 pub mod PlainReads
+pub mod FieldEnds
 pub mod Marks
 pub mod Places
 pub mod Gathered

@@ -2,9 +2,10 @@
 ghost use Rattle.std.specs.Prelude.{◌≡◌, ◌∷◌, ◌<◌, [], false, length, if◌then◌else◌, IfOk, OnOk, IsTrue};
 ghost use Rattle.std.specs.List.{position_or_len};
 ghost use Rattle.csv.specs.Records.{fields_of, partial_of};
-ghost use Rattle.crif_reader.specs.Plain.{has_quote, is_line_end, ends_field, without_leading_line_ends, plain_left, TakesField};
+ghost use Rattle.crif_reader.specs.Plain.{has_quote, ends_field, without_leading_line_ends, plain_left, TakesField};
 
 use csv::ByteRecord;
+use memchr::memchr3;
 use std::alloc::AllocError;
 
 /// What is left of bytes without quotes, and the byte between fields.
@@ -21,22 +22,11 @@ pub fn has_quote(bytes: &[u8]) -> bool
     bytes.contains(&b'"')
 }
 
-fn is_line_end(byte: u8) -> bool
-    ensures { result ≡ is_line_end byte }
-{
-    byte == b'\r' || byte == b'\n'
-}
-
 /// How many bytes stand before the first delimiter or line end.
 fn field_len(bytes: &[u8], delimiter: u8) -> usize
     ensures { result ≡ position_or_len (ends_field delimiter) bytes.now }
 {
-    for (place, byte) in bytes.iter().enumerate() {
-        if *byte == delimiter || is_line_end(*byte) {
-            return place;
-        }
-    }
-    bytes.len()
+    memchr3(delimiter, b'\r', b'\n', bytes).unwrap_or(bytes.len())
 }
 
 /// Leaves the line ends at the start off.
