@@ -4,6 +4,7 @@ use Rattle.std.proofs.lemmas.Bool.{and_parts, false≢true}
 use Rattle.std.specs.declared.alloc.AllocError.{AllocError}
 use Rattle.simm_kinds.specs.declared.row.TradeRows.{TradeRows}
 use Rattle.simm_kinds.specs.Batch.{rows_of}
+use Rattle.simm_rules.specs.declared.values.Breakdown.{Breakdown}
 use Rattle.factor_book.specs.Factors.{factors_of}
 use Rattle.factor_book.specs.Places.{factors_at}
 use Rattle.kept_buckets.specs.Touched.{Forgets, SameElsewhere}
@@ -35,6 +36,15 @@ stays_worked_out old new out = record { fresh = λ h. out.fresh; kept = λ at me
 
 pub caches_all : (old new : Live) (e : Event) (r : Reply) → IsWorkedOut new → Caches old new e r
 caches_all old new e r out = record { fresh = λ was h known. out.fresh; kept = λ at measure was h known. out.kept at measure }
+
+-- what is answered by a margin is worked out
+pub margin_stays : (old new : Live) (e : Event) (r : Reply) → (b : Breakdown) × (r ≡ reply.Margin b) → Caches old new e r → StaysKept old new
+margin_stays old new e r is caches =
+    let its : Caches old new e (reply.Margin is.0) = subst (Caches old new e) is.1 caches in
+    stays_worked_out old new (record {
+      fresh = its.fresh false (λ h. absurd (false≢true h)) refl;
+      kept = λ at measure. its.kept at measure false (λ h. absurd (false≢true h)) refl;
+    })
 
 pub caches_refused : (old new : Live) (e : Event) (why : Refusal) → new ≡ old → Caches old new e (reply.Refused why)
 caches_refused old new e why same =

@@ -8,15 +8,35 @@ ghost use Rattle.set_core.specs.declared.event.Event.TheVariants as events;
 use crate::asking::ask_margin;
 use crate::calling::ask_call;
 use crate::collateral::{close, mark, put, take};
-use crate::{Event, Refusal, Reply};
+use crate::{Event, Refusal, Reply, SharedMargin};
 use bucket_cache::{LiveMargin, SubmitFault, WithdrawFault};
 use collateral_ledger::Ledger;
 use simm_kinds::{Batch, Name};
 use std::alloc::{AllocError, Global};
 
+/// Answers an event as `answer` does, and gives its reply twice: to the caller, and to the journal.
+pub(crate) fn answer_twice(
+    alloc: Global,
+    live: &mut LiveMargin,
+    ledger: &mut Ledger,
+    event: &Event,
+) -> Result<(Reply, Reply), AllocError>
+    requires { ledger.old.added ≤ 65535 }
+    ensures same { IfOk result (λ both. both.1 ≡ both.0) }
+    ensures does { IfOk result (λ both. Does (traded live.old) (traded live.new) ledger.old ledger.new event.now both.0) }
+    ensures caches { IfOk result (λ both. Caches live.old live.new event.now both.0) }
+    ensures trades { OnErr result (traded live.new ≡ traded live.old) }
+    ensures stays { OnErr result (StaysKept live.old live.new) }
+    ensures collateral { OnErr result (ledger.new ≡ ledger.old) }
+{
+    let reply = answer(alloc, live, ledger, event)?;
+    let kept = reply.share()?;
+    Ok((reply, kept))
+}
+
 /// Answers an event, and changes the live margin and the ledger as its reply says. For want of memory the
 /// trades and the ledger stand, and what is kept of the margin.
-pub(crate) fn answer(
+fn answer(
     alloc: Global,
     live: &mut LiveMargin,
     ledger: &mut Ledger,
@@ -41,7 +61,10 @@ pub(crate) fn answer(
         Event::TakeLot { lot } => take(ledger, lot),
         Event::MarkLot { lot, value } => mark(ledger, lot, *value),
         Event::CloseCall { number } => close(ledger, *number),
-        Event::AskMargin => Ok(Reply::Margin(ask_margin(alloc, live)?)),
+        Event::AskMargin => {
+            let parts = ask_margin(alloc, live)?;
+            Ok(Reply::Margin(SharedMargin::new(alloc, parts)?))
+        }
         Event::AskCall { moment } => ask_call(alloc, live, ledger, *moment),
     }
 }

@@ -14,6 +14,7 @@ mod refusal;
 mod reply;
 mod reply_words;
 mod set_state;
+mod shared_margin;
 
 pub use call_note::CallNote;
 pub use event::Event;
@@ -22,3 +23,4 @@ pub use refusal::Refusal;
 pub use reply::{Entry, Reply};
 pub use reply_words::{push_reply, reply_text};
 pub use set_state::SetState;
+pub use shared_margin::SharedMargin;

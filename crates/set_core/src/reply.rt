@@ -1,15 +1,19 @@
-use crate::{CallNote, Event, Refusal};
-use simm_rules::Breakdown;
+ghost use Rattle.std.specs.Prelude.{◌≡◌, IfOk, OnErr};
+ghost use Rattle.simm_rules.specs.declared.values.Breakdown.{Breakdown};
+ghost use Rattle.set_core.specs.declared.reply.Reply.TheVariants as replies;
+
+use crate::{CallNote, Event, Refusal, SharedMargin};
+use std::alloc::AllocError;
 
 /// What an event was answered.
-#[derive(Clone, Copy, Debug, PartialEq, Eq)]
+#[derive(Drop, Debug)]
 pub enum Reply {
     /// The change was made.
     Accepted,
     /// The event was refused.
     Refused(Refusal),
     /// The margin of the current trades.
-    Margin(Breakdown),
+    Margin(SharedMargin),
     /// A call was made, and is outstanding.
     Called(CallNote),
     /// No call was made: the excess of the margin above the threshold over what is booked, the margin, and what is booked,
@@ -19,6 +23,35 @@ pub enum Reply {
         margin: i128,
         booked: i128,
     },
+}
+
+impl Reply {
+    /// The same reply for one more holder, which shares the parts of a margin. It takes no memory.
+    ///
+    /// # Errors
+    ///
+    /// Where a margin has 2^63 holders already.
+    pub(crate) fn share(&self) -> Result<Reply, AllocError>
+        ensures value { IfOk result (λ reply. reply ≡ self.now) }
+        ensures margin { OnErr result ((b : Breakdown) × (self.now ≡ replies.Margin b)) }
+    {
+        let shared = match self {
+            Reply::Accepted => Reply::Accepted,
+            Reply::Refused(refusal) => Reply::Refused(*refusal),
+            Reply::Margin(margin) => Reply::Margin(margin.share()?),
+            Reply::Called(note) => Reply::Called(*note),
+            Reply::NoCall {
+                excess,
+                margin,
+                booked,
+            } => Reply::NoCall {
+                excess: *excess,
+                margin: *margin,
+                booked: *booked,
+            },
+        };
+        Ok(shared)
+    }
 }
 
 /// One call in a set's journal: the number of its caller, the event, and the reply.

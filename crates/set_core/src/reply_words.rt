@@ -35,7 +35,7 @@ pub fn push_reply(text: &mut Text, reply: &Reply) -> Result<(), AllocError>
         Reply::Refused(refusal) => push_refusal(text, *refusal),
         Reply::Margin(margin) => {
             text.extend(b"MARGIN")?;
-            push_amount(text, margin.total.0)
+            push_amount(text, margin.parts().total.0)
         }
         Reply::Called(note) => push_note(text, note),
         Reply::NoCall {

@@ -9,7 +9,7 @@ ghost use Rattle.held_cell.specs.Halts.{Explains};
 ghost use Rattle.set_core.specs.Room.{journal_rows, event_rows, is_full_for, IsFull};
 ghost use Rattle.set_core.specs.Set.{IsSet, IsAnswered, entry_at};
 
-use crate::answering::answer;
+use crate::answering::answer_twice;
 use crate::{Entry, Event, Halt, Reply};
 use bucket_cache::LiveMargin;
 use collateral_ledger::Ledger;
@@ -92,14 +92,15 @@ impl SetState {
         if self.journal.reserve(1).is_err() {
             return Err(Halt::Memory { event });
         }
-        let Ok(reply) = answer(self.alloc, &mut self.live, &mut self.ledger, &event) else {
+        let answers = answer_twice(self.alloc, &mut self.live, &mut self.ledger, &event);
+        let Ok((reply, kept)) = answers else {
             return Err(Halt::Memory { event });
         };
         self.rows += rows as u32;
         self.journal.push_reserved(Entry {
             caller,
             event,
-            reply,
+            reply: kept,
         });
         Ok(reply)
     }

@@ -1,0 +1,54 @@
+ghost use Rattle.std.specs.Prelude.{◌≡◌, IfOk};
+
+use simm_rules::Breakdown;
+use std::alloc::{AllocError, Global};
+use std::marker::Model;
+use std::sync::Arc;
+
+/// A margin whose parts, 512 bytes, stand once for all that hold it. Contracts see the parts.
+#[derive(Drop, Debug)]
+pub struct SharedMargin {
+    parts: Arc<Breakdown, Global>,
+}
+
+impl Model for SharedMargin {
+    ghost use Rattle.std.specs.Arc.{arc_value};
+    ghost use Rattle.simm_rules.specs.declared.values.Breakdown.{Breakdown};
+
+    ghost Value = { Breakdown };
+
+    ghost view = { λ margin. arc_value margin.parts };
+}
+
+impl SharedMargin {
+    /// A margin of these parts.
+    ///
+    /// # Errors
+    ///
+    /// For want of memory alone.
+    pub fn new(alloc: Global, parts: Breakdown) -> Result<SharedMargin, AllocError>
+        ensures { IfOk result (λ margin. margin ≡ parts) }
+    {
+        let parts = Arc::new(alloc, parts)?;
+        Ok(SharedMargin { parts })
+    }
+
+    /// The same margin for one more holder. It takes no memory.
+    ///
+    /// # Errors
+    ///
+    /// Where there are 2^63 holders already.
+    pub fn share(&self) -> Result<SharedMargin, AllocError>
+        ensures { IfOk result (λ margin. margin ≡ self.now) }
+    {
+        let parts = Arc::try_clone(&self.parts)?;
+        Ok(SharedMargin { parts })
+    }
+
+    /// Lends the parts.
+    pub fn parts(&self) -> &Breakdown
+        ensures { result.now ≡ self.now }
+    {
+        &self.parts
+    }
+}
