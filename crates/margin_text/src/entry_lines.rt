@@ -25,7 +25,7 @@ fn push_reply_lines(text: &mut Text, reply: &Reply) -> Result<(), AllocError>
     ensures { OnOk result (text.new ≡ text.old ++ reply_lines reply.now) }
 {
     match reply {
-        Reply::Margin(margin) => push_parts(text, margin),
+        Reply::Margin(margin) => push_parts(text, margin.parts()),
         Reply::Accepted | Reply::Refused(_) | Reply::Called(_) | Reply::NoCall { .. } => Ok(()),
     }
 }
