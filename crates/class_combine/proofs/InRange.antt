@@ -8,7 +8,7 @@ use Rattle.simm_kinds.specs.declared.row.CrifRow.{CrifRow}
 use Rattle.simm_kinds.specs.declared.row.CrifRow.TheVariants as row
 use Rattle.simm_kinds.specs.Batch.{is_in_range, is_amount}
 use Rattle.simm_kinds.specs.Order.{same_name}
-use Rattle.simm_params.proofs.Each.{le_from}
+use Rattle.simm_params.proofs.Compared.{le_from}
 use Rattle.simm_rules.specs.Risks.{Amount}
 use Rattle.simm_rules.specs.Sums.{total_by}
 use Rattle.simm_rules.specs.AddOns.{fixed_amount, fixed_amounts, notional, notional_factor, notional_of}

@@ -2,7 +2,7 @@
 use Rattle.std.proofs.Common.{◌≡◌, ℕ, ◌≤◌, List, ◌++◌, Option, Some, None, IfSome, option_map, subst, inl, inr, ⊎_elim}
 use Rattle.mh_io.specs.Folder.{Telling, File, file_of, FolderSeen}
 use Rattle.simm_rules.specs.Params.{Params}
-use Rattle.simm_params.specs.Grammar.{params_of}
+use Rattle.params_file.specs.Grammar.{params_of}
 use Rattle.command_files.specs.declared.fault.FileFault.{FileFault}
 use Rattle.command_files.specs.declared.fault.FileFault.TheVariants as why
 use Rattle.command_files.specs.Files.{Deeds, no_deeds, with_reading, told_after, Did, IsWhole, IsTooLong, IsRead, NoValue}

@@ -5,8 +5,8 @@ use Rattle.mh_io.specs.Faults.{Rises}
 use Rattle.mh_io.specs.Folder.{Telling, file_of, FolderSeen}
 use Rattle.mh_io.specs.Limits.{most_bytes}
 use Rattle.simm_rules.specs.Params.{Params}
-use Rattle.simm_params.specs.declared.fault.ParamFault.{ParamFault}
-use Rattle.simm_params.specs.Grammar.{params_of, params_read}
+use Rattle.params_file.specs.declared.fault.ParamFault.{ParamFault}
+use Rattle.params_file.specs.Grammar.{params_of, params_read}
 use Rattle.simm_kinds.specs.declared.row.TradeRows.{TradeRows}
 use Rattle.crif_reader.specs.declared.fault.CrifFault.{CrifFault}
 use Rattle.crif_reader.specs.Grammar.{Crif, crif_of}

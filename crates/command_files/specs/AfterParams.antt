@@ -2,7 +2,7 @@
 use Rattle.std.specs.Prelude.{ℕ, ◌≡◌, List, Some}
 use Rattle.mh_io.specs.Folder.{FolderSeen}
 use Rattle.simm_rules.specs.Params.{Params}
-use Rattle.simm_params.specs.Grammar.{params_of}
+use Rattle.params_file.specs.Grammar.{params_of}
 use Rattle.command_files.specs.declared.fault.FileFault.{FileFault}
 use Rattle.command_files.specs.Files.{no_deeds, with_reading, IsWhole, NoValue}
 

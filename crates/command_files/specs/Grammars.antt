@@ -2,7 +2,7 @@
 use Rattle.std.specs.Prelude.{ℕ, ◌≡◌, List, Some, Ok, IsOkAnd, IsErrAnd}
 use Rattle.simm_kinds.specs.declared.row.TradeRows.{TradeRows}
 use Rattle.simm_rules.specs.Params.{Params}
-use Rattle.simm_params.specs.Grammar.{params_of, params_read}
+use Rattle.params_file.specs.Grammar.{params_of, params_read}
 use Rattle.crif_reader.specs.Grammar.{crif_of}
 use Rattle.csa_terms.specs.Grammar.{terms_of}
 use Rattle.csa_terms.specs.Terms.{Agreement}

@@ -8,8 +8,9 @@ use crif_reader::read_batch;
 use csa_terms::{Terms, read_terms};
 use margin_text::{crif_line, params_line, terms_line};
 use mh_io::Folder;
+use params_file::read_params;
 use simm_kinds::Batch;
-use simm_params::{Params, read_params};
+use simm_params::Params;
 use std::alloc::Global;
 
 /// Reads the parameter file of this name, and hands it back to the folder.

@@ -8,7 +8,7 @@ use Rattle.simm_kinds.specs.declared.row.TradeRows.{TradeRows}
 use Rattle.simm_kinds.specs.Batch.{rows_of}
 use Rattle.simm_rules.specs.Params.{Params}
 use Rattle.simm_rules.specs.Range.{range}
-use Rattle.simm_params.specs.Grammar.{params_of}
+use Rattle.params_file.specs.Grammar.{params_of}
 use Rattle.bucket_cache.specs.Live.{first_unadmitted}
 use Rattle.command_files.specs.Grammars.{GivesTrades}
 

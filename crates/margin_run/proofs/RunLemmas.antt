@@ -7,7 +7,7 @@ use Rattle.std.proofs.lemmas.List.Elements.{All-nil, All-cons}
 use Rattle.mh_io.specs.Folder.{FolderSeen}
 use Rattle.simm_kinds.specs.Order.{same_name}
 use Rattle.simm_rules.specs.Params.{Params}
-use Rattle.simm_params.specs.Grammar.{params_of}
+use Rattle.params_file.specs.Grammar.{params_of}
 use Rattle.csa_terms.specs.Grammar.{terms_of}
 use Rattle.csa_terms.specs.Terms.{Agreement, AreTerms}
 use Rattle.set_core.specs.Set.{Set}

@@ -6,7 +6,7 @@ use Rattle.mh_io.specs.Sink.{SinkSeen}
 use Rattle.mh_io.specs.Folder.{Telling, file_of, FolderSeen}
 use Rattle.mh_io.specs.Limits.{most_bytes}
 use Rattle.simm_rules.specs.Params.{Params}
-use Rattle.simm_params.specs.Grammar.{params_of}
+use Rattle.params_file.specs.Grammar.{params_of}
 use Rattle.csa_terms.specs.Grammar.{terms_of}
 use Rattle.csa_terms.specs.Terms.{Agreement}
 use Rattle.feed_reader.specs.Feed.{Whole, feed}

@@ -1,9 +1,9 @@
 -- The line of a parameter file's fault.
 use Rattle.std.specs.Prelude.{ℕ, List, ◌++◌, codes, decimal}
 use Rattle.std.specs.Fmt.{signed_decimal}
-use Rattle.simm_params.specs.declared.fault.ParamFault.{ParamFault}
-use Rattle.simm_params.specs.declared.fault.ParamFault.TheVariants as params
-use Rattle.simm_params.specs.Faults.{param_fault_number}
+use Rattle.params_file.specs.declared.fault.ParamFault.{ParamFault}
+use Rattle.params_file.specs.declared.fault.ParamFault.TheVariants as params
+use Rattle.params_file.specs.Faults.{param_fault_number}
 use Rattle.margin_text.specs.Fields.{field, last_field, fault_line}
 
 -- a fault's number, its path, and the value there, or a threshold behind its weight

@@ -1,7 +1,7 @@
 //! The line of a refused file's first fault, and of a refused batch.
 ghost use Rattle.std.specs.Prelude.{◌≡◌, ◌≢◌, ◌++◌, codes, decimal, IfOk, OnOk};
 ghost use Rattle.std.specs.Fmt.{signed_decimal};
-ghost use Rattle.simm_params.specs.declared.fault.ParamFault.TheVariants as params;
+ghost use Rattle.params_file.specs.declared.fault.ParamFault.TheVariants as params;
 ghost use Rattle.csa_terms.specs.declared.fault.TermsFault.TheVariants as terms;
 ghost use Rattle.crif_reader.specs.declared.fault.CrifFault.TheVariants as crif;
 ghost use Rattle.margin_text.specs.Fields.{field, last_field};
@@ -15,8 +15,8 @@ use crate::pieces::{push_field, push_last, push_last_number, push_number};
 use crif_reader::CrifFault;
 use csa_terms::TermsFault;
 use mh_units::Text;
+use params_file::ParamFault;
 use set_core::{Refusal, Reply, push_reply};
-use simm_params::ParamFault;
 use std::alloc::{AllocError, Global};
 
 /// The line of a parameter file's fault.

@@ -1,13 +1,11 @@
 -- What the parameters of classes that have buckets keep.
-use Rattle.std.specs.Prelude.{◌<◌, ◌≤◌, List, length, map}
+use Rattle.std.specs.Prelude.{◌<◌, ◌≤◌, length, map}
 use Rattle.std.specs.List.{All, count_by}
 use Rattle.simm_rules.specs.Params.{BucketTerms, CreditBucket, PricedBucket, CreditParams, PricedParams}
-use Rattle.simm_params.specs.declared.bucket_form.OwnRate.{OwnRate}
 use Rattle.simm_params.specs.Ranges.{weights, correlations, sigmas, vega_weights, hvrs, IsWithin}
 use Rattle.simm_params.specs.Thresholds.{AreThresholds}
 use Rattle.simm_params.specs.Matrix.{IsMatrix}
-use Rattle.simm_params.specs.Buckets.{ClassBucket, AreInOrder, is_numbered}
-use Rattle.simm_params.specs.Classes.{own_range}
+use Rattle.simm_params.specs.Buckets.{AreInOrder, is_numbered}
 
 -- ---- a bucket: each number is in its range
 
@@ -16,10 +14,6 @@ pub record AreTerms (t : BucketTerms) : Type 0 where
   pub thresholds : AreThresholds t.thresholds
   pub rho : IsWithin correlations t.rho
   pub vrw : IsWithin vega_weights t.vrw
-
-pub record IsClassBucket (kind : OwnRate) (b : ClassBucket) : Type 0 where
-  pub terms : AreTerms b.terms
-  pub own : IsWithin (own_range kind) b.own
 
 pub record IsCreditBucket (b : CreditBucket) : Type 0 where
   pub terms : AreTerms b.terms
@@ -30,11 +24,6 @@ pub record IsPricedBucket (b : PricedBucket) : Type 0 where
   pub sigma : IsWithin sigmas b.sigma
 
 -- ---- a class: one bucket at least and 65 at most, in order, and a matrix with a row and a column for each numbered one
-
-pub record AreClassBuckets (kind : OwnRate) (buckets : List ClassBucket) : Type 0 where
-  pub some : 0 < length buckets
-  pub few : length buckets ≤ 65
-  pub each : All (IsClassBucket kind) buckets
 
 pub record IsRangedCredit (c : CreditParams) : Type 0 where
   pub some : 0 < length c.buckets

@@ -1,8 +1,5 @@
-pub mod Faults
 pub mod Ranges
 pub mod Listed
-pub mod Currencies
-pub mod KeyRate
 pub mod Fx
 pub mod FxRanges
 pub mod FxView
@@ -10,17 +7,13 @@ pub mod FxLookups
 pub mod RateUnits
 pub mod Square
 pub mod Matrix
-pub mod BucketClass
 pub mod ClassParts
 pub mod Symmetry
 pub mod Thresholds
 pub mod ThresholdKinds
 pub mod Thickness
 pub mod ThresholdView
-pub mod Groups
 pub mod GroupView
-pub mod IrRate
-pub mod Ir
 pub mod IrRanges
 pub mod IrView
 pub mod Buckets
@@ -28,9 +21,7 @@ pub mod BucketIndex
 pub mod BucketView
 pub mod Categories
 pub mod TablesView
-pub mod TablesRanges
 pub mod Facts
-pub mod Grammar
 pub mod Classes
 pub mod ClassRanges
 pub mod ClassView

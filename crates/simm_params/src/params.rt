@@ -42,7 +42,7 @@ impl Model for Params {
 
 impl Params {
     /// The parameters of a file that passed its tests.
-    pub(crate) fn new(tables: Tables) -> Params
+    pub fn new(tables: Tables) -> Params
         requires { IsParams (tables_view tables) }
         ensures { result ≡ tables_view tables }
     {

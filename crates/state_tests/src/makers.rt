@@ -1,8 +1,9 @@
 //! What the tests are made of: names, rows, batches, parameters, terms.
 use crif_reader::read_batch;
 use csa_terms::{SetTerms, Terms, read_terms};
+use params_file::read_params;
 use simm_kinds::{Batch, Currency, Name};
-use simm_params::{Params, read_params};
+use simm_params::Params;
 use std::process::Abort;
 
 /// The correlation of two regular currencies is 0.5, of a regular one and one of high volatility 0.25, of two of high

@@ -1,0 +1,24 @@
+use Rattle.std.proofs.Common.{map}
+use Rattle.toml_values.specs.Paths.{word_of}
+use Rattle.std.proofs.lemmas.Result.{err_from_is_err_and}
+use Rattle.toml_values.specs.Answers.{is_memory}
+use Rattle.toml_values.proofs.Places.{begins, goes_on, ends, is_done}
+use Rattle.params_file.specs.Currencies.{new_currency_at}
+use Rattle.params_file.proofs.currencies.read_new_places.Goals as goal
+
+pub loop-index-init : goal.loop-index-init
+loop-index-init c = rw c.in_ok-list.ensures (begins (new_currency_at (map word_of c.args.path.now)) c.args.earlier.now c.args.places.now)
+
+pub loop-index-preserved : goal.loop-index-preserved
+loop-index-preserved c =
+    rw c.in_ok-push.ensures.ok
+    (goes_on (new_currency_at (map word_of c.args.path.now)) c.args.earlier.now c.loop-index.list c.loop-index.index c.args.places.now _ c.index-places-index.result c.in_ok-new_currency_at.field-0 c.loop-index-test.true c.index-places-index.is c.in_ok-new_currency_at.ensures c.loop-index.invariant)
+
+pub returns-in_err-new_currency_at : goal.returns-in_err-new_currency_at
+returns-in_err-new_currency_at c =
+    let p = err_from_is_err_and c.from_residual-in_err-new_currency_at.result c.from_residual-in_err-new_currency_at.ensures.1 in
+    rw (p.1, p.2)
+    (ends (new_currency_at (map word_of c.args.path.now)) c.args.earlier.now c.loop-index.list c.loop-index.index c.args.places.now _ (is_memory c.in_err-new_currency_at.field-0.0) c.in_err-new_currency_at.field-0.0 c.index-places-index.result c.loop-index-test.true c.index-places-index.is c.in_err-new_currency_at.ensures c.loop-index.invariant)
+
+pub returns : goal.returns
+returns c = is_done (new_currency_at (map word_of c.args.path.now)) c.args.earlier.now c.loop-index.list c.loop-index.index c.args.places.now _ c.loop-index-test.false c.loop-index.invariant

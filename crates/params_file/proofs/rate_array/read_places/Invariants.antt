@@ -1,0 +1,10 @@
+use Rattle.std.proofs.Common.{[], map}
+use Rattle.toml.specs.View.{items_view}
+use Rattle.toml_values.specs.Paths.{word_of}
+use Rattle.toml_values.specs.Places.{each_of}
+use Rattle.toml_values.proofs.Places.{SoFar}
+use Rattle.params_file.specs.Matrix.{rate_at}
+use Rattle.params_file.proofs.rate_array.read_places.Given as goal
+
+abbrev pub invariant-loop-index : goal.invariant-loop-index
+invariant-loop-index l = SoFar (rate_at (map word_of l.path) l.range) [] l.rates l.index l.places (each_of (rate_at (map word_of l.path) l.range) 1 [] (items_view l.places))

@@ -1,5 +1,0 @@
-use Rattle.simm_params.proofs.ClassLists.{credit_ranged}
-use Rattle.simm_params.proofs.class_table.read_credit.Goals as goal
-
-pub returns-clause-ranged : goal.returns-clause-ranged
-returns-clause-ranged c = credit_ranged c.in_ok-buckets.buckets c.in_ok-gamma.gamma c.in_ok-buckets.ensures.within c.in_ok-gamma.ensures.in_order c.in_ok-gamma.ensures.matrix

@@ -1,6 +1,0 @@
-use Rattle.simm_params.specs.Fx.{fx_thresholds}
-use Rattle.simm_params.proofs.fx_table.thresholds.Goals as goal
-
-pub returns-clause-value : goal.returns-clause-value
-unfolding fx_thresholds
-returns-clause-value c = rw (← c.member.ensures) c.category_thresholds.ensures.value

@@ -1,6 +1,0 @@
-use Rattle.std.proofs.Common.{◌≡◌, true}
-use Rattle.simm_params.specs.Symmetry.{all_below, is_mirrored}
-use Rattle.simm_params.proofs.symmetry.is_row_mirrored.Given as goal
-
-abbrev pub invariant-loop-column : goal.invariant-loop-column
-invariant-loop-column l = all_below l.column (is_mirrored l.matrix l.row) ≡ true

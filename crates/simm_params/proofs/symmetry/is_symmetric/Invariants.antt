@@ -1,6 +1,0 @@
-use Rattle.std.proofs.Common.{◌≡◌, true}
-use Rattle.simm_params.specs.Symmetry.{all_below, is_mirrored}
-use Rattle.simm_params.proofs.symmetry.is_symmetric.Given as goal
-
-abbrev pub invariant-loop-row : goal.invariant-loop-row
-invariant-loop-row l = all_below l.row (λ row. all_below row (is_mirrored l.matrix row)) ≡ true
