@@ -1,5 +1,6 @@
 -- The fields of a record of ASCII bytes are UTF-8.
 use Rattle.std.proofs.Common.{◌≡◌, ◌==◌, ◌∷◌, [], ℕ, suc, zero, Bool, true, false, cond, List, reverse, Option, Some, None, unwrap_or, refl, ap, sym, ◌∙◌, subst}
+use Rattle.std.specs.List.{AllByRecursion}
 use Rattle.std.specs.Str.{IsAscii, is_utf8}
 use Rattle.std.proofs.lemmas.List.{reverse-append}
 use Rattle.std.proofs.lemmas.Str.{is_utf8-from_IsUtf8, IsUtf8-from_ascii, IsAscii-take, IsAscii-drop, IsAscii-append}
@@ -23,33 +24,42 @@ behind_spaces (b ∷ bs) h =
 trimmed_ascii : (bytes : List ℕ) → IsAscii bytes → IsAscii (trimmed bytes)
 trimmed_ascii bytes h = reversed _ (behind_spaces _ (reversed _ (behind_spaces bytes h)))
 
-field_ascii : (start : ℕ) (ends bytes : List ℕ) (place : ℕ) → IsAscii bytes → IsAscii (unwrap_or (field_at (cut_from start ends bytes) place) [])
-unfolding cut_from field_at
-field_ascii start [] bytes place h = IsAscii-nil
-field_ascii start (end ∷ ends) bytes zero h = IsAscii-take _ _ (IsAscii-drop bytes start h)
-field_ascii start (end ∷ ends) bytes (suc place) h = field_ascii end ends bytes place h
+cut_ascii : (start : ℕ) (ends bytes : List ℕ) → IsAscii bytes → AllByRecursion IsAscii (cut_from start ends bytes)
+unfolding cut_from
+cut_ascii start [] bytes h = record {}
+cut_ascii start (end ∷ ends) bytes h = (IsAscii-take _ _ (IsAscii-drop bytes start h), cut_ascii end ends bytes h)
 
-text_at_utf8 : (r : Row) (place : ℕ) → IsAscii (text_of r) → is_utf8 (text_at (fields_of r) place) ≡ true
-text_at_utf8 r place h = is_utf8-from_IsUtf8 _ (IsUtf8-from_ascii _ (trimmed_ascii _ (field_ascii 0 r.ends r.bytes place h)))
+-- of a record whose bytes are ASCII each field is
+pub fields_ascii : (r : Row) → IsAscii (text_of r) → AllByRecursion IsAscii (fields_of r)
+fields_ascii r h = cut_ascii 0 r.ends r.bytes h
 
-text_if_utf8 : (r : Row) (place : Option ℕ) → IsAscii (text_of r) → is_utf8 (text_if (fields_of r) place) ≡ true
-text_if_utf8 r None h = is_utf8-from_IsUtf8 [] (IsUtf8-from_ascii [] IsAscii-nil)
-text_if_utf8 r (Some place) h = text_at_utf8 r place h
+field_ascii : (fields : List (List ℕ)) (place : ℕ) → AllByRecursion IsAscii fields → IsAscii (unwrap_or (field_at fields place) [])
+unfolding field_at
+field_ascii [] place h = IsAscii-nil
+field_ascii (f ∷ fs) zero h = h.0
+field_ascii (f ∷ fs) (suc place) h = field_ascii fs place h.1
 
-pub ascii_text : (columns : Columns) (r : Row) → IsAscii (text_of r) → are_text (texts_of columns (fields_of r)) ≡ true
-ascii_text columns r h =
+text_at_utf8 : (fields : List (List ℕ)) (place : ℕ) → AllByRecursion IsAscii fields → is_utf8 (text_at fields place) ≡ true
+text_at_utf8 fields place h = is_utf8-from_IsUtf8 _ (IsUtf8-from_ascii _ (trimmed_ascii _ (field_ascii fields place h)))
+
+text_if_utf8 : (fields : List (List ℕ)) (place : Option ℕ) → AllByRecursion IsAscii fields → is_utf8 (text_if fields place) ≡ true
+text_if_utf8 fields None h = is_utf8-from_IsUtf8 [] (IsUtf8-from_ascii [] IsAscii-nil)
+text_if_utf8 fields (Some place) h = text_at_utf8 fields place h
+
+pub ascii_text : (columns : Columns) (fields : List (List ℕ)) → AllByRecursion IsAscii fields → are_text (texts_of columns fields) ≡ true
+ascii_text columns fields h =
     rw (
-      text_at_utf8 r columns.trade_id h,
-      text_at_utf8 r columns.product_class h,
-      text_at_utf8 r columns.risk_type h,
-      text_at_utf8 r columns.qualifier h,
-      text_at_utf8 r columns.bucket h,
-      text_at_utf8 r columns.label1 h,
-      text_at_utf8 r columns.label2 h,
-      text_at_utf8 r columns.amount h,
-      text_at_utf8 r columns.amount_currency h,
-      text_at_utf8 r columns.amount_usd h,
-      text_if_utf8 r columns.im_model h,
+      text_at_utf8 fields columns.trade_id h,
+      text_at_utf8 fields columns.product_class h,
+      text_at_utf8 fields columns.risk_type h,
+      text_at_utf8 fields columns.qualifier h,
+      text_at_utf8 fields columns.bucket h,
+      text_at_utf8 fields columns.label1 h,
+      text_at_utf8 fields columns.label2 h,
+      text_at_utf8 fields columns.amount h,
+      text_at_utf8 fields columns.amount_currency h,
+      text_at_utf8 fields columns.amount_usd h,
+      text_if_utf8 fields columns.im_model h,
     ) refl
 
 pub some_text : (t u : Texts) → t ≡ u → are_text u ≡ true → Some t ≡ if_text u

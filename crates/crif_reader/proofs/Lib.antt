@@ -1,7 +1,8 @@
 pub mod All
 pub mod RecordsLeft
 pub mod PlainReads
-pub mod FieldEnds
+pub mod PlainAscii
+pub mod Quotes
 pub mod Marks
 pub mod Places
 pub mod Gathered

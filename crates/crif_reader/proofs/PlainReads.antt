@@ -8,7 +8,7 @@ use Rattle.csv.specs.Reading.{records, records_from, records_next}
 use Rattle.csv.specs.declared.parser.State.{State}
 use Rattle.csv.specs.declared.parser.State.TheVariants as st
 use Rattle.csv.specs.declared.parser.Terminator.TheVariants as term
-use Rattle.crif_reader.specs.Plain.{ends_field, without_leading_line_ends, has_quote, is_line_end, TakesField}
+use Rattle.crif_reader.specs.Plain.{ends_field, without_leading_line_ends, has_quote, is_line_end, plain_fields, read_further, TakesField}
 use Rattle.crif_reader.specs.Records.{csv_by}
 use Rattle.crif_reader.specs.declared.plain.PlainRecords.{PlainRecords}
 use Rattle.crif_reader.proofs.RecordsLeft.{takes_first, none_left}
@@ -92,18 +92,18 @@ first_and_rest [] some = absurd (omega arith)
 first_and_rest (b ∷ bs) some = ap (λ (rest : List ℕ). b ∷ rest) (take_all (length (b ∷ bs) - 1) bs (omega arith))
 
 -- else the byte behind it tells whether another follows
-pub field_before : (old new : PlainRecords) (before after : List (List ℕ)) (field : List ℕ) (b n : ℕ) → has_quote old.rest.now ≡ false
+pub field_before : (old new : PlainRecords) (field : List ℕ) (b n : ℕ) → has_quote old.rest.now ≡ false
     → n ≡ position_or_len (ends_field old.delimiter) old.rest.now → field ≡ take n old.rest.now → b ∷ new.rest.now ≡ drop n old.rest.now
-    → after ≡ before ++ field ∷ [] → new.delimiter ≡ old.delimiter
-    → TakesField (b == old.delimiter) old before new after
+    → plain_fields new ≡ plain_fields old ++ field ∷ [] → new.delimiter ≡ old.delimiter
+    → TakesField (b == old.delimiter) old new
 unfolding after_field
-field_before old new before after field b n e place front back all same =
+field_before old new field b n e place front back all same =
     by (b == old.delimiter) refl
   where
-    cut : next_record (csv_by old.delimiter) st.InField before [] old.rest.now ≡ after_field old.delimiter before field (b ∷ new.rest.now)
-    cut = field_cut old.delimiter before [] old.rest.now e ∙ rw (← place, ← front, ← back) refl
+    cut : read_further old ≡ after_field old.delimiter (plain_fields old) field (b ∷ new.rest.now)
+    cut = field_cut old.delimiter (plain_fields old) [] old.rest.now e ∙ rw (← place, ← front, ← back) refl
 
-    by : (more : Bool) → (b == old.delimiter) ≡ more → TakesField more old before new after
+    by : (more : Bool) → (b == old.delimiter) ≡ more → TakesField more old new
     by true parts = cut ∙ rw (parts, same, all) refl
     by false other = (after_end term.CRLF b, cut ∙ rw (other, all) refl)
 

@@ -1,6 +1,7 @@
 -- Bytes without quotes, which are cut into records in place.
-use Rattle.std.specs.Prelude.{◌≡◌, ℕ, List, [], ◌∷◌, ◌==◌, ◌||◌, Bool, false, true, Option, Some, if◌then◌else◌}
-use Rattle.std.specs.List.{list_any}
+use Rattle.std.specs.Prelude.{◌≡◌, ℕ, List, [], ◌∷◌, ◌==◌, ◌||◌, Bool, false, true, map, Option, Some, IsTrue, if◌then◌else◌}
+use Rattle.std.specs.Str.{IsAscii}
+use Rattle.std.specs.List.{list_any, AllByRecursion}
 use Rattle.csv.specs.Machine.{Read, ends_with, next_record}
 use Rattle.csv.specs.Reading.{records}
 use Rattle.csv.specs.declared.parser.State.{State}
@@ -28,11 +29,21 @@ without_leading_line_ends (b ∷ bs) = if is_line_end b then without_leading_lin
 abbrev pub plain_left : PlainRecords → List (List (List ℕ))
 plain_left plain = records (csv_by plain.delimiter) plain.rest.now
 
+-- the fields of the newest record, so far
+abbrev pub plain_fields : PlainRecords → List (List ℕ)
+plain_fields plain = map (λ field. field.now) plain.fields.items
+
+-- No quote is left. Where all bytes are known to be ASCII, so are those that are left, and the fields.
+pub record IsPlain (plain : PlainRecords) : Type 0 where
+  pub quoteless : has_quote plain.rest.now ≡ false
+  pub left : IsTrue plain.is_ascii → IsAscii plain.rest.now
+  pub fields : IsTrue plain.is_ascii → AllByRecursion IsAscii (plain_fields plain)
+
 -- what csv reads of a record further: behind its fields so far, in a field of which nothing is read yet
-abbrev pub read_further : PlainRecords → List (List ℕ) → Option Read
-read_further plain fields = next_record (csv_by plain.delimiter) st.InField fields [] plain.rest.now
+abbrev pub read_further : PlainRecords → Option Read
+read_further plain = next_record (csv_by plain.delimiter) st.InField (plain_fields plain) [] plain.rest.now
 
 -- a field was taken: csv reads the record further behind it as before it, or the record is over with it
-abbrev pub TakesField : Bool → PlainRecords → List (List ℕ) → PlainRecords → List (List ℕ) → Type 0
-TakesField true old before new fields = read_further old before ≡ read_further new fields
-TakesField false old before new fields = (s : State) × (read_further old before ≡ Some (fields, s, new.rest.now))
+abbrev pub TakesField : Bool → PlainRecords → PlainRecords → Type 0
+TakesField true old new = read_further old ≡ read_further new
+TakesField false old new = (s : State) × (read_further old ≡ Some (plain_fields new, s, new.rest.now))

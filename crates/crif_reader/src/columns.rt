@@ -1,10 +1,10 @@
 //! Where a file's header has the columns.
 ghost use Rattle.std.specs.Prelude.{◌≡◌};
-ghost use Rattle.csv.specs.Records.{fields_of};
 ghost use Rattle.crif_reader.specs.Columns.{is_column, place_of, required, columns_of};
+ghost use Rattle.crif_reader.specs.Reading.{newest};
 
+use crate::records::Records;
 use crate::{Column, CrifFault};
-use csv::ByteRecord;
 
 /// The places of the columns in a record, from 0; that of the margin model where the header has it. `count` is how many fields
 /// the header has.
@@ -45,11 +45,11 @@ fn is_column(column: Column, field: &[u8]) -> bool
 }
 
 /// The first place in the header with the column's name.
-fn place_of(header: &ByteRecord, column: Column) -> Option<usize>
-    ensures { result ≡ place_of (fields_of header.now) column }
+fn place_of(header: &Records, column: Column) -> Option<usize>
+    ensures { result ≡ place_of (newest header.now) column }
 {
-    for place in 0..header.len() {
-        let field = header.get(place)?;
+    for place in 0..header.field_count() {
+        let field = header.field(place)?;
         if is_column(column, field) {
             return Some(place);
         }
@@ -57,19 +57,19 @@ fn place_of(header: &ByteRecord, column: Column) -> Option<usize>
     None
 }
 
-fn required(header: &ByteRecord, column: Column) -> Result<usize, CrifFault>
-    ensures { result ≡ required (fields_of header.now) column }
+fn required(header: &Records, column: Column) -> Result<usize, CrifFault>
+    ensures { result ≡ required (newest header.now) column }
 {
     place_of(header, column).ok_or(CrifFault::MissingColumn(column))
 }
 
-/// The places of the columns in a header; the fault is the first required column that it lacks.
+/// The places of the columns in a header, the newest record; the fault is the first required column that it lacks.
 #[tactic(auto, unfolding(crate::specs::Columns::columns_of))]
-pub fn columns_of(header: &ByteRecord) -> Result<Columns, CrifFault>
-    ensures { result ≡ columns_of (fields_of header.now) }
+pub fn columns_of(header: &Records) -> Result<Columns, CrifFault>
+    ensures { result ≡ columns_of (newest header.now) }
 {
     Ok(Columns {
-        count: header.len(),
+        count: header.field_count(),
         trade_id: required(header, Column::TradeId)?,
         product_class: required(header, Column::ProductClass)?,
         risk_type: required(header, Column::RiskType)?,

@@ -1,11 +1,11 @@
 //! The fields of a record that are read.
 ghost use Rattle.std.specs.Prelude.{◌≡◌, option_map};
 ghost use Rattle.std.specs.Str.{is_utf8};
-ghost use Rattle.csv.specs.Records.{fields_of};
 ghost use Rattle.crif_reader.specs.Fields.{trimmed, text_at, text_if, texts, texts_of, are_text, if_text};
+ghost use Rattle.crif_reader.specs.Reading.{newest, IsReading};
 
 use crate::columns::Columns;
-use csv::ByteRecord;
+use crate::records::Records;
 use std::str;
 
 /// The fields in the columns that are read, without spaces at their ends. A field that is missing at the end is empty.
@@ -38,49 +38,50 @@ fn trim_spaces(field: &[u8]) -> &[u8]
     rest
 }
 
-fn text_at(fields: &ByteRecord, place: usize) -> &[u8]
-    ensures { result.now ≡ text_at (fields_of fields.now) place }
+fn text_at<'a>(records: &'a Records, place: usize) -> &'a [u8]
+    ensures { result.now ≡ text_at (newest records.now) place }
 {
-    trim_spaces(fields.get(place).unwrap_or(&[]))
+    trim_spaces(records.field(place).unwrap_or(&[]))
 }
 
-fn text_if(fields: &ByteRecord, place: Option<usize>) -> &[u8]
-    ensures { result.now ≡ text_if (fields_of fields.now) place }
+fn text_if<'a>(records: &'a Records, place: Option<usize>) -> &'a [u8]
+    ensures { result.now ≡ text_if (newest records.now) place }
 {
     match place {
-        Some(place) => text_at(fields, place),
+        Some(place) => text_at(records, place),
         None => &[],
     }
 }
 
 impl<'a> Fields<'a> {
-    /// Lends the fields of a record that stand in the columns, where each of them is UTF-8.
-    pub fn read(columns: &Columns, fields: &'a ByteRecord) -> Option<Fields<'a>>
-        ensures { option_map texts result ≡ if_text (texts_of columns.now (fields_of fields.now)) }
+    /// Lends the fields of the newest record that stand in the columns, where each of them is UTF-8.
+    pub fn read(columns: &Columns, records: &'a Records) -> Option<Fields<'a>>
+        requires { IsReading records.now }
+        ensures { option_map texts result ≡ if_text (texts_of columns.now (newest records.now)) }
     {
-        let texts = Fields::of(columns, fields);
-        if fields.as_slice().is_ascii() || texts.are_text() {
+        let texts = Fields::of(columns, records);
+        if records.is_ascii() || texts.are_text() {
             Some(texts)
         } else {
             None
         }
     }
 
-    fn of(columns: &Columns, fields: &'a ByteRecord) -> Fields<'a>
-        ensures { texts result ≡ texts_of columns.now (fields_of fields.now) }
+    fn of(columns: &Columns, records: &'a Records) -> Fields<'a>
+        ensures { texts result ≡ texts_of columns.now (newest records.now) }
     {
         Fields {
-            trade_id: text_at(fields, columns.trade_id),
-            product_class: text_at(fields, columns.product_class),
-            risk_type: text_at(fields, columns.risk_type),
-            qualifier: text_at(fields, columns.qualifier),
-            bucket: text_at(fields, columns.bucket),
-            label1: text_at(fields, columns.label1),
-            label2: text_at(fields, columns.label2),
-            amount: text_at(fields, columns.amount),
-            amount_currency: text_at(fields, columns.amount_currency),
-            amount_usd: text_at(fields, columns.amount_usd),
-            im_model: text_if(fields, columns.im_model),
+            trade_id: text_at(records, columns.trade_id),
+            product_class: text_at(records, columns.product_class),
+            risk_type: text_at(records, columns.risk_type),
+            qualifier: text_at(records, columns.qualifier),
+            bucket: text_at(records, columns.bucket),
+            label1: text_at(records, columns.label1),
+            label2: text_at(records, columns.label2),
+            amount: text_at(records, columns.amount),
+            amount_currency: text_at(records, columns.amount_currency),
+            amount_usd: text_at(records, columns.amount_usd),
+            im_model: text_if(records, columns.im_model),
         }
     }
 

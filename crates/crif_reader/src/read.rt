@@ -1,28 +1,21 @@
 ghost use Rattle.std.specs.Prelude.{◌≡◌, option_map};
-ghost use Rattle.csv.specs.Records.{fields_of};
 ghost use Rattle.crif_reader.specs.Reads.{Gives};
-ghost use Rattle.crif_reader.specs.Reading.{records_left, IsReading};
+ghost use Rattle.crif_reader.specs.Reading.{newest, records_left, IsReading};
 ghost use Rattle.crif_reader.specs.Row.{row_of};
 ghost use Rattle.crif_reader.specs.Grammar.{at_record, crif_of, rows_of};
 
 use crate::columns::{Columns, columns_of};
 use crate::gather::Gathering;
 use crate::params::Params;
-use crate::records::{Records, next_record, open};
+use crate::records::Records;
 use crate::row::{Entry, row_of};
 use crate::row_stop::RowStop;
 use crate::{CrifFault, RowFault};
-use csv::ByteRecord;
 use simm_kinds::{Batch, Listed, TradeRows};
 use std::alloc::Global;
 
 /// The number of the first record that is one too many: the header is the first, and 100,000 may follow it.
 const TOO_MANY: u32 = 100_002;
-
-/// The room that a record's bytes and fields are given at first: a header and rows mostly fit into it.
-const RECORD_BYTES: usize = 256;
-
-const RECORD_FIELDS: usize = 16;
 
 /// What a CRIF file has: its rows, and how many records were passed over, being present values or of the schedule.
 #[derive(Debug, Drop)]
@@ -38,29 +31,25 @@ struct Gathered {
     passed_over: u32,
 }
 
-/// The row of the record with this number, or `None` where it is passed over.
+/// The row of the newest record, which has this number, or `None` where it is passed over.
 fn read_row<'a>(
     alloc: Global,
     number: u32,
     columns: &Columns,
-    fields: &'a ByteRecord,
+    records: &'a Records,
 ) -> Result<Option<Entry<'a>>, CrifFault>
-    ensures { Gives (λ o. option_map (λ e. record { trade = e.trade.now; row = e.row }) o) result (at_record number (row_of columns.now (fields_of fields.now))) }
+    requires { IsReading records.now }
+    ensures { Gives (λ o. option_map (λ e. record { trade = e.trade.now; row = e.row }) o) result (at_record number (row_of columns.now (newest records.now))) }
 {
-    match row_of(alloc, columns, fields) {
+    match row_of(alloc, columns, records) {
         Ok(row) => Ok(row),
         Err(RowStop::Fault(fault)) => Err(CrifFault::Row { number, fault }),
         Err(RowStop::Memory) => Err(CrifFault::Memory),
     }
 }
 
-/// Reads the records behind the header, each into `fields`, and gathers their rows by trade.
-fn read_rows(
-    alloc: Global,
-    records: &mut Records,
-    columns: &Columns,
-    fields: &mut ByteRecord,
-) -> Result<Gathered, CrifFault>
+/// Reads the records behind the header, and gathers their rows by trade.
+fn read_rows(alloc: Global, records: &mut Records, columns: &Columns) -> Result<Gathered, CrifFault>
     requires { IsReading records.old }
     ensures { Gives (λ g. record { trades = g.trades.items; passed_over = g.passed_over }) result (rows_of columns.now (records_left records.old)) }
 {
@@ -68,11 +57,11 @@ fn read_rows(
     let mut params = Params::new(alloc);
     let mut number = 2u32;
     let mut passed_over = 0u32;
-    while next_record(records, fields)? {
+    while records.next_record()? {
         if number == TOO_MANY {
             return Err(CrifFault::TooManyRows);
         }
-        let taken = match read_row(alloc, number, columns, fields) {
+        let taken = match read_row(alloc, number, columns, records) {
             Ok(taken) => taken,
             Err(fault) => return Err(fault),
         };
@@ -109,13 +98,12 @@ fn read_rows(
 pub fn read_batch(alloc: Global, bytes: &[u8]) -> Result<ReadBatch, CrifFault>
     ensures { Gives (λ r. record { trades = r.batch; passed_over = r.passed_over }) result (crif_of bytes.now) }
 {
-    let mut records = open(alloc, bytes)?;
-    let mut fields = ByteRecord::with_capacity(alloc, RECORD_BYTES, RECORD_FIELDS)?;
-    if !next_record(&mut records, &mut fields)? {
+    let mut records = Records::open(alloc, bytes)?;
+    if !records.next_record()? {
         return Err(CrifFault::NoHeader);
     }
-    let columns = columns_of(&fields)?;
-    let gathered = read_rows(alloc, &mut records, &columns, &mut fields)?;
+    let columns = columns_of(&records)?;
+    let gathered = read_rows(alloc, &mut records, &columns)?;
     let batch = Batch::from_trades(Listed::from_vec(gathered.trades));
     Ok(ReadBatch {
         batch,

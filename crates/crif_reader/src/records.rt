@@ -1,9 +1,11 @@
 //! The records of a file: cut in place where it has no quotes, else by csv.
-ghost use Rattle.std.specs.Prelude.{◌≡◌, ◌∷◌, [], true, if◌then◌else◌, IfOk, IsTrue};
+ghost use Rattle.std.specs.Prelude.{◌≡◌, ◌∷◌, [], true, length, option_map, if◌then◌else◌, IfOk, IsTrue};
+ghost use Rattle.std.specs.List.{AllByRecursion};
+ghost use Rattle.std.specs.Str.{IsAscii};
 ghost use Rattle.csv.specs.Reading.{error_kind, stops_reader, strip_bom};
-ghost use Rattle.csv.specs.Records.{fields_of};
+ghost use Rattle.csv.specs.Records.{field_at, fields_of};
 ghost use Rattle.crif_reader.specs.Records.{has_tab, delimiter_of, records_of, reader_left, IsBetweenRecords};
-ghost use Rattle.crif_reader.specs.Reading.{records_left, IsReading};
+ghost use Rattle.crif_reader.specs.Reading.{newest, records_left, IsReading};
 
 use crate::plain::{PlainRecords, has_quote};
 use csv::{ByteRecord, Error, Reader, ReaderBuilder};
@@ -12,11 +14,24 @@ use std::alloc::{AllocError, Global};
 /// The byte order mark in UTF-8.
 const BYTE_ORDER_MARK: [u8; 3] = [0xEF, 0xBB, 0xBF];
 
-/// The records that are left. csv's reader is large and dear to make, so that bytes without quotes are read without it.
+/// The room that a record's bytes and fields are given at first: a header and rows mostly fit into it.
+const RECORD_BYTES: usize = 256;
+
+const RECORD_FIELDS: usize = 16;
+
+/// The records that are left, and the newest of those that were read. csv's reader is large and dear to make, so that bytes
+/// without quotes are read without it, and their fields are not copied.
 #[derive(Drop)]
 pub enum Records<'a> {
-    Quoted(Box<Reader<&'a [u8]>>),
+    Quoted(Box<QuotedRecords<'a>>),
     Plain(PlainRecords<'a>),
+}
+
+/// csv's reader, and the newest record that it read.
+#[derive(Drop)]
+pub struct QuotedRecords<'a> {
+    reader: Reader<&'a [u8]>,
+    newest: ByteRecord,
 }
 
 /// Whether a tab stands before the first LF.
@@ -60,30 +75,6 @@ fn open_reader(alloc: Global, bytes: &[u8]) -> Reader<&[u8]>
         .from_reader(alloc, bytes)
 }
 
-/// The records that csv reads. It stands apart, so that the reader's size is paid for only where it is needed.
-#[inline(never)]
-fn open_quoted(alloc: Global, bytes: &[u8]) -> Result<Records<'_>, AllocError>
-    ensures reading { IfOk result (λ records. IsReading records) }
-    ensures records { IfOk result (λ records. records_left records ≡ records_of bytes.now) }
-{
-    Ok(Records::Quoted(Box::new(alloc, open_reader(alloc, bytes))?))
-}
-
-/// The records of a file, from its first. The only error is want of memory.
-#[tactic(auto, unfolding(crate::specs::Records::records_of))]
-pub fn open(alloc: Global, bytes: &[u8]) -> Result<Records<'_>, AllocError>
-    ensures reading { IfOk result (λ records. IsReading records) }
-    ensures records { IfOk result (λ records. records_left records ≡ records_of bytes.now) }
-{
-    if has_quote(bytes) {
-        return open_quoted(alloc, bytes);
-    }
-    Ok(Records::Plain(PlainRecords {
-        rest: strip_bom(bytes),
-        delimiter: delimiter_of(bytes),
-    }))
-}
-
 /// Want of memory: it alone ends the reading of bytes that lie in memory.
 fn stopped(_error: Error) -> AllocError
     requires { stops_reader (error_kind _error) ≡ true }
@@ -91,26 +82,85 @@ fn stopped(_error: Error) -> AllocError
     AllocError
 }
 
-/// Reads csv's next record into `taken`, and answers whether there was one. The only error is want of memory.
-fn read_quoted(reader: &mut Reader<&[u8]>, taken: &mut ByteRecord) -> Result<bool, AllocError>
-    requires { IsBetweenRecords reader.old }
-    ensures record { IfOk result (λ found. reader_left reader.old ≡ (if found then fields_of taken.new ∷ reader_left reader.new else [])) }
-    ensures reading { IfOk result (λ found. IsTrue found → IsBetweenRecords reader.new) }
-{
-    match reader.read_byte_record(taken) {
-        Ok(found) => Ok(found),
-        Err(error) => Err(stopped(error)),
+impl QuotedRecords<'_> {
+    /// Reads csv's next record, and answers whether there was one. The only error is want of memory.
+    fn next_record(&mut self) -> Result<bool, AllocError>
+        requires { IsBetweenRecords self.old.reader }
+        ensures record { IfOk result (λ found. reader_left self.old.reader ≡ (if found then fields_of self.new.newest ∷ reader_left self.new.reader else [])) }
+        ensures reading { IfOk result (λ found. IsTrue found → IsBetweenRecords self.new.reader) }
+    {
+        match self.reader.read_byte_record(&mut self.newest) {
+            Ok(found) => Ok(found),
+            Err(error) => Err(stopped(error)),
+        }
     }
 }
 
-/// Reads the next record into `taken`, and answers whether there was one. The only error is want of memory.
-pub fn next_record(records: &mut Records, taken: &mut ByteRecord) -> Result<bool, AllocError>
-    requires { IsReading records.old }
-    ensures record { IfOk result (λ found. records_left records.old ≡ (if found then fields_of taken.new ∷ records_left records.new else [])) }
-    ensures reading { IfOk result (λ found. IsTrue found → IsReading records.new) }
-{
-    match records {
-        Records::Quoted(reader) => read_quoted(reader, taken),
-        Records::Plain(plain) => plain.next_record(taken),
+impl<'a> Records<'a> {
+    /// The records of a file, before the first. The only error is want of memory.
+    #[tactic(auto, unfolding(crate::specs::Records::records_of))]
+    pub fn open(alloc: Global, bytes: &'a [u8]) -> Result<Records<'a>, AllocError>
+        ensures reading { IfOk result (λ records. IsReading records) }
+        ensures records { IfOk result (λ records. records_left records ≡ records_of bytes.now) }
+    {
+        if has_quote(bytes) {
+            return Records::open_quoted(alloc, bytes);
+        }
+        let rest = strip_bom(bytes);
+        Ok(Records::Plain(PlainRecords::new(alloc, rest, delimiter_of(bytes))?))
+    }
+
+    /// The records that csv reads. It stands apart, so that the reader's size is paid for only where it is needed.
+    #[inline(never)]
+    fn open_quoted(alloc: Global, bytes: &'a [u8]) -> Result<Records<'a>, AllocError>
+        ensures reading { IfOk result (λ records. IsReading records) }
+        ensures records { IfOk result (λ records. records_left records ≡ records_of bytes.now) }
+    {
+        let newest = ByteRecord::with_capacity(alloc, RECORD_BYTES, RECORD_FIELDS)?;
+        let reader = open_reader(alloc, bytes);
+        Ok(Records::Quoted(Box::new(alloc, QuotedRecords { reader, newest })?))
+    }
+
+    /// Reads the next record, and answers whether there was one. The only error is want of memory.
+    pub fn next_record(&mut self) -> Result<bool, AllocError>
+        requires { IsReading self.old }
+        ensures record { IfOk result (λ found. records_left self.old ≡ (if found then newest self.new ∷ records_left self.new else [])) }
+        ensures reading { IfOk result (λ found. IsTrue found → IsReading self.new) }
+    {
+        match self {
+            Records::Quoted(quoted) => quoted.next_record(),
+            Records::Plain(plain) => plain.next_record(),
+        }
+    }
+
+    /// How many fields the newest record has.
+    pub fn field_count(&self) -> usize
+        ensures { result ≡ length (newest self.now) }
+    {
+        match self {
+            Records::Quoted(quoted) => quoted.newest.len(),
+            Records::Plain(plain) => plain.field_count(),
+        }
+    }
+
+    /// The field of the newest record at this place.
+    pub fn field(&self, place: usize) -> Option<&[u8]>
+        ensures { option_map (λ f. f.now) result ≡ field_at (newest self.now) place }
+    {
+        match self {
+            Records::Quoted(quoted) => quoted.newest.get(place),
+            Records::Plain(plain) => plain.field(place),
+        }
+    }
+
+    /// Whether the fields of the newest record are known to be ASCII.
+    pub fn is_ascii(&self) -> bool
+        requires { IsReading self.now }
+        ensures { IsTrue result → AllByRecursion IsAscii (newest self.now) }
+    {
+        match self {
+            Records::Quoted(quoted) => quoted.newest.as_slice().is_ascii(),
+            Records::Plain(plain) => plain.is_ascii(),
+        }
     }
 }

@@ -1,9 +1,9 @@
 //! The row of a record.
 ghost use Rattle.std.specs.Prelude.{◌≡◌, IfOk, option_map};
-ghost use Rattle.csv.specs.Records.{fields_of};
 ghost use Rattle.simm_kinds.specs.Words.{is_word};
 ghost use Rattle.crif_reader.specs.Reads.{GivesRow};
 ghost use Rattle.crif_reader.specs.Fields.{texts};
+ghost use Rattle.crif_reader.specs.Reading.{newest, IsReading};
 ghost use Rattle.crif_reader.specs.Row.{trade_of, product_of, amount_text, amount_of, rate_of, sensitivity_of, notional_of, fixed_amount_of, notional_factor_of, multiplier_of, entry_of, is_present_value, typed_of, model_of, row_of};
 
 use crate::RowFault;
@@ -11,8 +11,8 @@ use crate::columns::Columns;
 use crate::factor::factor_of;
 use crate::fields::Fields;
 use crate::names::{read_full_name, read_name};
+use crate::records::Records;
 use crate::row_stop::RowStop;
-use csv::ByteRecord;
 use mh_units::{Cents, Rate4, read_cents, read_rate4};
 use simm_kinds::{CrifRow, FactorKey, Name, ProductClass, RiskType};
 use std::alloc::Global;
@@ -205,18 +205,19 @@ fn model_of<'a>(alloc: Global, fields: &Fields<'a>) -> Result<Option<Entry<'a>>,
     typed_of(alloc, fields)
 }
 
-/// The row of a record, or `None` where the record is passed over: a present value, or a record of the schedule.
+/// The row of the newest record, or `None` where the record is passed over: a present value, or a record of the schedule.
 pub fn row_of<'a>(
     alloc: Global,
     columns: &Columns,
-    fields: &'a ByteRecord,
+    records: &'a Records,
 ) -> Result<Option<Entry<'a>>, RowStop>
-    ensures { GivesRow (λ o. option_map (λ e. record { trade = e.trade.now; row = e.row }) o) result (row_of columns.now (fields_of fields.now)) }
+    requires { IsReading records.now }
+    ensures { GivesRow (λ o. option_map (λ e. record { trade = e.trade.now; row = e.row }) o) result (row_of columns.now (newest records.now)) }
 {
-    if fields.len() > columns.count {
+    if records.field_count() > columns.count {
         return Err(RowStop::Fault(RowFault::FieldCount));
     }
-    match Fields::read(columns, fields) {
+    match Fields::read(columns, records) {
         Some(texts) => model_of(alloc, &texts),
         None => Err(RowStop::Fault(RowFault::NotUtf8)),
     }

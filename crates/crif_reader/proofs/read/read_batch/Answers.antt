@@ -1,8 +1,7 @@
 use Rattle.std.proofs.Common.{◌≡◌, ◌∷◌, [], true, false, sym, ap, ◌∙◌}
 use Rattle.std.proofs.lemmas.Result.{err_from_is_err_and}
-use Rattle.csv.specs.Records.{fields_of}
 use Rattle.crif_reader.specs.Grammar.{crif_of, crif_of_records}
-use Rattle.crif_reader.specs.Reading.{records_left}
+use Rattle.crif_reader.specs.Reading.{newest, records_left}
 use Rattle.crif_reader.specs.Records.{records_of}
 use Rattle.crif_reader.proofs.Batches.{batch_of_rows}
 use Rattle.crif_reader.proofs.Runs.{fails_same}
@@ -19,7 +18,7 @@ pub returns-in_err-columns : goal.returns-in_err-columns
 unfolding crif_of
 returns-in_err-columns c =
     let found : c.in_ok-next_record.field-0 ≡ true = c.if-not-branch.false in
-    let all : records_of c.args.bytes.now ≡ fields_of c.next_record.new.taken ∷ records_left c.next_record.new.records = sym c.in_ok-records.ensures.records ∙ rw found at c.in_ok-next_record.ensures.record in
+    let all : records_of c.args.bytes.now ≡ newest c.next_record.new.self ∷ records_left c.next_record.new.self = sym c.in_ok-records.ensures.records ∙ rw found at c.in_ok-next_record.ensures.record in
     let p = err_from_is_err_and c.from_residual-in_err-columns.result c.from_residual-in_err-columns.ensures.1 in
     rw (p.1, p.2, all, sym c.in_err-columns.ensures) (fails_same _ _)
 
@@ -27,7 +26,7 @@ pub returns-in_err-gathered : goal.returns-in_err-gathered
 unfolding crif_of
 returns-in_err-gathered c =
     let found : c.in_ok-next_record.field-0 ≡ true = c.if-not-branch.false in
-    let all : records_of c.args.bytes.now ≡ fields_of c.next_record.new.taken ∷ records_left c.next_record.new.records = sym c.in_ok-records.ensures.records ∙ rw found at c.in_ok-next_record.ensures.record in
+    let all : records_of c.args.bytes.now ≡ newest c.next_record.new.self ∷ records_left c.next_record.new.self = sym c.in_ok-records.ensures.records ∙ rw found at c.in_ok-next_record.ensures.record in
     let p = err_from_is_err_and c.from_residual-in_err-gathered.result c.from_residual-in_err-gathered.ensures.1 in
     rw (p.1, p.2, all, sym c.in_ok-columns.ensures) c.in_err-gathered.ensures
 
@@ -38,5 +37,5 @@ pub returns : goal.returns
 unfolding crif_of
 returns c =
     let found : c.in_ok-next_record.field-0 ≡ true = c.if-not-branch.false in
-    let all : records_of c.args.bytes.now ≡ fields_of c.next_record.new.taken ∷ records_left c.next_record.new.records = sym c.in_ok-records.ensures.records ∙ rw found at c.in_ok-next_record.ensures.record in
+    let all : records_of c.args.bytes.now ≡ newest c.next_record.new.self ∷ records_left c.next_record.new.self = sym c.in_ok-records.ensures.records ∙ rw found at c.in_ok-next_record.ensures.record in
     rw (all, sym c.in_ok-columns.ensures, c.from_trades-batch.ensures, c.from_vec.ensures) c.in_ok-gathered.ensures

@@ -1,9 +1,8 @@
 use Rattle.std.proofs.Common.{◌∙◌, ◌≡◌, ◌≢◌, ◌∷◌, [], length, sym, ap, arith, vec_len}
 use Rattle.std.proofs.lemmas.Bool.{eqb-false, eqb-true, not-true, not-false}
-use Rattle.csv.specs.Records.{fields_of}
 use Rattle.crif_reader.specs.declared.fault.CrifFault.TheVariants.{Row}
 use Rattle.crif_reader.specs.Growth.{grown}
-use Rattle.crif_reader.specs.Reading.{records_left}
+use Rattle.crif_reader.specs.Reading.{newest, records_left}
 use Rattle.crif_reader.specs.Row.{row_of}
 use Rattle.crif_reader.proofs.Binds.{mapped_ok}
 use Rattle.crif_reader.proofs.GoodRows.{good_row}
@@ -22,24 +21,24 @@ loop-params-init c =
 
 pub returns-then-number-eq-TOO_MANY : goal.returns-then-number-eq-TOO_MANY
 returns-then-number-eq-TOO_MANY c =
-    let left : records_left c.loop-params.records ≡ fields_of c.next_record.new.taken ∷ records_left c.next_record.new.records = rw c.if-branch.true at c.in_ok-next_record.ensures.record in
+    let left : records_left c.loop-params.records ≡ newest c.next_record.new.self ∷ records_left c.next_record.new.self = rw c.if-branch.true at c.in_ok-next_record.ensures.record in
     way_too_long _ _ c.loop-params.number c.loop-params.passed_over c.loop-params.params (grown c.loop-params.gathering) _ _ (omega arith) (rw left at c.loop-params.invariant.way)
 
 pub returns-in-Err : goal.returns-in-Err
 returns-in-Err c =
-    let left : records_left c.loop-params.records ≡ fields_of c.next_record.new.taken ∷ records_left c.next_record.new.records = rw c.if-branch.true at c.in_ok-next_record.ensures.record in
+    let left : records_left c.loop-params.records ≡ newest c.next_record.new.self ∷ records_left c.next_record.new.self = rw c.if-branch.true at c.in_ok-next_record.ensures.record in
     let few : c.loop-params.number ≢ 100002 = omega arith in
     way_fails _ _ c.loop-params.number c.loop-params.passed_over c.loop-params.params (grown c.loop-params.gathering) _ _ c.in-Err.fault few c.in-Err.ensures (rw left at c.loop-params.invariant.way)
 
 pub add-requires-clause-name : goal.add-requires-clause-name
 add-requires-clause-name c =
-    let fields = fields_of c.next_record.new.taken in
+    let fields = newest c.next_record.new.self in
     let read = mapped_ok (λ d. Row c.loop-params.number d) (row_of c.args.columns.now fields) _ (rw c.in-Some.is at c.in-Ok.ensures) in
     (good_row c.args.columns.now fields (record { trade = c.in-Some.entry.trade.now; row = c.in-Some.entry.row }) read).name
 
 pub loop-params-preserved : goal.loop-params-preserved
 loop-params-preserved c =
-    let left : records_left c.loop-params.records ≡ fields_of c.next_record.new.taken ∷ records_left c.next_record.new.records = rw c.if-branch.true at c.in_ok-next_record.ensures.record in
+    let left : records_left c.loop-params.records ≡ newest c.next_record.new.self ∷ records_left c.next_record.new.self = rw c.if-branch.true at c.in_ok-next_record.ensures.record in
     let way = rw left at c.loop-params.invariant.way in
     let few : c.loop-params.number ≢ 100002 = omega arith in
     let reading = c.in_ok-next_record.ensures.reading c.if-branch.true in
@@ -68,7 +67,7 @@ loop-params-preserved c =
 
 pub returns-then-not-branch : goal.returns-then-not-branch
 returns-then-not-branch c =
-    let left : records_left c.loop-params.records ≡ fields_of c.next_record.new.taken ∷ records_left c.next_record.new.records = rw c.if-branch.true at c.in_ok-next_record.ensures.record in
+    let left : records_left c.loop-params.records ≡ newest c.next_record.new.self ∷ records_left c.next_record.new.self = rw c.if-branch.true at c.in_ok-next_record.ensures.record in
     let few : c.loop-params.number ≢ 100002 = omega arith in
     way_repeats _ _ c.loop-params.number c.loop-params.passed_over c.loop-params.params (grown c.loop-params.gathering) _ _ (record { trade = c.in-Some.entry.trade.now; row = c.in-Some.entry.row }) few
     (rw c.in-Some.is at c.in-Ok.ensures)

@@ -1,8 +1,8 @@
 use Rattle.std.proofs.Common.{◌≡◌, false, ltb, length, Option, option_map, Result, subst, arith}
 use Rattle.std.proofs.lemmas.Bool.{le-ltb}
-use Rattle.csv.specs.Records.{fields_of}
 use Rattle.crif_reader.specs.declared.row_stop.RowStop.{RowStop}
 use Rattle.crif_reader.specs.Fields.{Texts, texts, texts_of, are_text}
+use Rattle.crif_reader.specs.Reading.{newest}
 use Rattle.crif_reader.specs.Reads.{GivesRow}
 use Rattle.crif_reader.specs.Row.{Entry, model_of}
 use Rattle.crif_reader.proofs.Binds.{some_if}
@@ -13,7 +13,7 @@ of_same view read t u same h = subst (λ texts. GivesRow view read (model_of tex
 
 pub returns-in-Some : goal.returns-in-Some
 returns-in-Some c =
-    let fields = fields_of c.args.fields.now in
+    let fields = newest c.args.records.now in
     let all = texts_of c.args.columns.now fields in
     let few : ltb c.args.columns.now.count (length fields) ≡ false = le-ltb c.args.columns.now.count (length fields) (omega arith) in
     let parts = some_if (are_text all) (texts c.in-Some.texts) all c.in-Some.ensures in
