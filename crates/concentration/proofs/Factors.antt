@@ -1,12 +1,12 @@
 -- The concentration factor is the least number of its rule, and stays below 347; a ratio of two lies between 0 and 1.
-use Rattle.std.proofs.Common.{◌≡◌, ℕ, ◌*◌, ◌^◌, ◌<◌, ◌≤◌, ℤ, pos, negsuc, ◌*ℤ◌, ◌≤ℤ◌, ◌<ℤ◌, unsigned_abs, sym, ap, ◌∙◌, subst, arith}
+use Rattle.std.proofs.Common.{◌≡◌, ℕ, ◌*◌, ◌^◌, ◌<◌, ◌≤◌, ℤ, pos, negsuc, ◌+ℤ◌, ◌-ℤ◌, ◌*ℤ◌, ◌≤ℤ◌, ◌<ℤ◌, unsigned_abs, sym, ap, ◌∙◌, subst, arith}
 use Rattle.std.proofs.lemmas.Nat.{mul-le}
 use Rattle.std.proofs.lemmas.Int.{ints, clamps}
 use Rattle.std.proofs.Math.IntN.{zero-*ℤ, *ℤ_comm}
 use Rattle.std.specs.Int.{int_min, int_max}
 use Rattle.mh_units.specs.Rounding.{up, down, root, IsUp, IsRoot}
-use Rattle.mh_units.proofs.Integers.{below_next, mul-le_ℤ}
-use Rattle.mh_units.proofs.Roundings.{up_is, down_is, root_is}
+use Rattle.mh_units.proofs.Integers.{add-mul_ℤ, below_next, mul-le_ℤ}
+use Rattle.mh_units.proofs.Roundings.{up_is, down_is, root_is, IsDown_unique}
 use Rattle.simm_rules.specs.Concentration.{IsConcentration, one, cr, ratio}
 
 -- ---- the ratio of the lesser over the greater
@@ -31,6 +31,18 @@ itself_over a low =
 -- of two equal factors
 pub ratio_of_equals : (a b : ℤ) → one ≤ℤ a → a ≡ b → one ≡ ratio a b
 ratio_of_equals a b low e = subst (λ z. one ≡ ratio a z) e (itself_over a low)
+
+-- what a guess leaves of a number tells that it is the quotient
+pub quotient_is : (n d g : ℤ) → pos 0 <ℤ d → pos 0 ≤ℤ (n -ℤ (g *ℤ d)) → (n -ℤ (g *ℤ d)) <ℤ d → g ≡ down n d
+quotient_is n (pos k) g some low high =
+    let next : n <ℤ ((g +ℤ pos 1) *ℤ pos k) = omega (arith, ints, add-mul_ℤ g (pos 1) (pos k)) in
+    IsDown_unique n (pos k) g (down n (pos k)) (record { within = omega (arith, ints); greatest = λ y under. below_next y g n k under next }) (down_is n (pos k) some)
+quotient_is n (negsuc k) g some low high = absurd some.lt
+
+pub product_fits : (g d : ℤ) → pos 0 ≤ℤ g → g ≤ℤ one → pos 0 <ℤ d → d <ℤ pos 347000000 → (pos 0 ≤ℤ (g *ℤ d)) × ((g *ℤ d) ≤ℤ pos (347 * 10 ^ 12))
+product_fits (pos g) (pos d) low most some below = let le : g * d ≤ 1000000 * 347000000 = mul-le g d 1000000 347000000 (omega (arith, ints)) (omega (arith, ints)) in (omega (arith, ints), omega (arith, ints))
+product_fits (negsuc g) d low most some below = absurd low.le
+product_fits (pos g) (negsuc d) low most some below = absurd some.lt
 
 -- ---- the factor
 

@@ -4,12 +4,16 @@
 #![tactic(auto)]
 
 ghost use Rattle.std.specs.Prelude.{◌≡◌, ◌*◌, ◌≤◌, ◌^◌, pos, ◌≤ℤ◌, ◌<ℤ◌, ◌*ℤ◌, unsigned_abs};
+ghost use Rattle.std.specs.Bool.{OnTrue};
 ghost use Rattle.mh_units.specs.Rounding.{down, root, up};
 ghost use Rattle.simm_rules.specs.Concentration.{IsConcentration, one};
 ghost use Rattle.simm_rules.specs.Concentration.{cr as cr_of, ratio as ratio_of};
 ghost use Rattle.simm_rules.specs.Bucket.{combined};
 
 use mh_units::{Corr6, div_up, least_root, mul_corr};
+
+// The bits of a guessed quotient.
+const LOW_BITS: u64 = 0xffff_ffff;
 
 /// The concentration factor of a net sensitivity over its threshold, both in cents: the least `c` from 1 on with
 /// `c * c * threshold` at least the size of `net`, to the millionth. Up to the threshold it takes no root.
@@ -82,5 +86,53 @@ fn quotient_below_one(lesser: i64, greater: i64) -> i64
     ensures not_negative { pos 0 ≤ℤ result }
     ensures at_most_one { result ≤ℤ one }
 {
-    (lesser * Corr6::ONE.0).div_euclid(greater)
+    quotient(lesser, greater)
+}
+
+// The same. A guess costs a part of what a division of 64 bits costs on many processors. It is checked, and the number above it
+// too; a division settles what neither is right on.
+fn quotient(lesser: i64, greater: i64) -> i64
+    requires low { pos 0 ≤ℤ lesser }
+    requires ordered { lesser ≤ℤ greater }
+    requires positive { pos 0 <ℤ greater }
+    requires high { greater <ℤ pos 347000000 }
+    ensures { result ≡ down (lesser *ℤ one) greater }
+{
+    let number = lesser * Corr6::ONE.0;
+    let guess = guessed_quotient(number as u64, greater as u32);
+    if is_quotient(number, greater, guess) {
+        return guess;
+    }
+    if is_quotient(number, greater, guess + 1) {
+        return guess + 1;
+    }
+    number.div_euclid(greater)
+}
+
+// About what a number over another is; nothing is said of it but its size. One division of 32 bits gives about 2^40 over the
+// divisor; most of the number is divided by a product with it, and then what is left.
+fn guessed_quotient(number: u64, divisor: u32) -> i64
+    ensures at_least { pos 0 ≤ℤ result }
+    ensures at_most { result <ℤ pos (2 ^ 32) }
+{
+    let inverse = u64::from(u32::MAX / (divisor / 256 + 1));
+    let most = number.wrapping_mul(inverse) >> 40;
+    let rest = number.wrapping_sub(most.wrapping_mul(u64::from(divisor)));
+    let quotient = most.wrapping_add(rest.wrapping_mul(inverse) >> 40);
+    (quotient & LOW_BITS) as i64
+}
+
+// Whether a guess is the quotient of two numbers, down, and at most 1,000,000.
+fn is_quotient(number: i64, divisor: i64, guess: i64) -> bool
+    requires low { pos 0 ≤ℤ number }
+    requires bounded { number ≤ℤ pos (10 ^ 15) }
+    requires positive { pos 0 <ℤ divisor }
+    requires high { divisor <ℤ pos 347000000 }
+    ensures { OnTrue result (guess ≡ down number divisor) }
+{
+    if guess < 0 || Corr6::ONE.0 < guess {
+        return false;
+    }
+    let rest = number - guess * divisor;
+    0 <= rest && rest < divisor
 }
