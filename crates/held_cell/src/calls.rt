@@ -12,7 +12,7 @@ use std::thread;
 use std::time::Duration;
 
 // How often a call that finds its cell taken yields before it sleeps.
-const YIELDS: u32 = 16;
+const YIELDS: u32 = 100;
 
 // How long it then sleeps, in milliseconds, if nobody wakes it.
 const SLEEP: u64 = 10;
