@@ -30,7 +30,7 @@ pub(crate) fn answer_twice(
     ensures collateral { OnErr result (ledger.new ≡ ledger.old) }
 {
     let reply = answer(alloc, live, ledger, event)?;
-    let kept = reply.share()?;
+    let kept = reply.share(alloc)?;
     Ok((reply, kept))
 }
 

@@ -3,7 +3,7 @@ ghost use Rattle.simm_rules.specs.declared.values.Breakdown.{Breakdown};
 ghost use Rattle.set_core.specs.declared.reply.Reply.TheVariants as replies;
 
 use crate::{CallNote, Event, Refusal, SharedMargin};
-use std::alloc::AllocError;
+use std::alloc::{AllocError, Global};
 
 /// What an event was answered.
 #[derive(Drop, Debug)]
@@ -26,19 +26,19 @@ pub enum Reply {
 }
 
 impl Reply {
-    /// The same reply for one more holder, which shares the parts of a margin. It takes no memory.
+    /// The same reply for one more holder, which shares the parts of a margin.
     ///
     /// # Errors
     ///
-    /// Where a margin has 2^63 holders already.
-    pub(crate) fn share(&self) -> Result<Reply, AllocError>
+    /// For want of memory alone, at a margin.
+    pub(crate) fn share(&self, alloc: Global) -> Result<Reply, AllocError>
         ensures value { IfOk result (λ reply. reply ≡ self.now) }
         ensures margin { OnErr result ((b : Breakdown) × (self.now ≡ replies.Margin b)) }
     {
         let shared = match self {
             Reply::Accepted => Reply::Accepted,
             Reply::Refused(refusal) => Reply::Refused(*refusal),
-            Reply::Margin(margin) => Reply::Margin(margin.share()?),
+            Reply::Margin(margin) => Reply::Margin(margin.share(alloc)?),
             Reply::Called(note) => Reply::Called(*note),
             Reply::NoCall {
                 excess,

@@ -33,16 +33,18 @@ impl SharedMargin {
         Ok(SharedMargin { parts })
     }
 
-    /// The same margin for one more holder. It takes no memory.
+    /// The same margin for one more holder. It takes no memory up to 2^63 holders; one more has the parts of its own.
     ///
     /// # Errors
     ///
-    /// Where there are 2^63 holders already.
-    pub fn share(&self) -> Result<SharedMargin, AllocError>
+    /// For want of memory alone.
+    pub fn share(&self, alloc: Global) -> Result<SharedMargin, AllocError>
         ensures { IfOk result (λ margin. margin ≡ self.now) }
     {
-        let parts = Arc::try_clone(&self.parts)?;
-        Ok(SharedMargin { parts })
+        match Arc::try_clone(&self.parts) {
+            Ok(parts) => Ok(SharedMargin { parts }),
+            Err(_) => SharedMargin::new(alloc, *self.parts()),
+        }
     }
 
     /// Lends the parts.
