@@ -29,14 +29,14 @@ type Caller = Seat<Multiplier>;
 
 const CALLS: u32 = 1_000;
 
-// The callers and events of a machine's entries, in order.
-fn made(rt: &impl Abort, machine: &Multiplier, expected: &[(u32, u32)]) {
+// Whether these are the callers and events of a machine's entries, in order.
+fn has_calls(machine: &Multiplier, expected: &[(u32, u32)]) -> bool {
     let calls = machine.calls.as_slice();
-    assert_eq!(rt; calls.len(), expected.len());
+    let mut same = calls.len() == expected.len();
     for (entry, (caller, event)) in calls.iter().zip(expected) {
-        assert_eq!(rt; entry.caller, *caller);
-        assert_eq!(rt; entry.event, *event);
+        same = same && entry.caller == *caller && entry.event == *event;
     }
+    same
 }
 
 // A call, which is to be done: the reply, and the length of the journal after it.
@@ -54,24 +54,24 @@ fn done(rt: &(impl Abort + Wait), cell: &Cell, seat: &mut Caller, event: u32) ->
 #[test]
 fn joined_seats_have_each_call_once(rt: HostRuntime) -> Result<(), Fail> {
     let (cell, seat) = HeldCell::start(rt.alloc(), Multiplier::new(rt.alloc(), 3, None), 3)?;
-    assert_eq!(rt; seat.seen_len(), 0);
+    assert!(rt; seat.seen_len() == 0);
     let (mut first, mut others) = cell.split(seat, 1);
-    assert_eq!(rt; done(&rt, &cell, &mut first, 7), (21, 1));
-    assert_eq!(rt; done(&rt, &cell, &mut others, 11), (33, 2));
-    assert_eq!(rt; done(&rt, &cell, &mut others, 13), (39, 3));
-    assert_eq!(rt; first.seen_len(), 1);
+    assert!(rt; done(&rt, &cell, &mut first, 7) == (21, 1));
+    assert!(rt; done(&rt, &cell, &mut others, 11) == (33, 2));
+    assert!(rt; done(&rt, &cell, &mut others, 13) == (39, 3));
+    assert!(rt; first.seen_len() == 1);
     let mut all = cell.join(first, others);
-    assert_eq!(rt; all.seen_len(), 3);
+    assert!(rt; all.seen_len() == 3);
     match cell.call(&rt, &mut all, WEIGHT) {
         Outcome::Full {
             entries,
             weight,
             event,
-        } => assert_eq!(rt; (entries, weight, event), (3, 31, WEIGHT)),
+        } => assert!(rt; (entries, weight, event) == (3, 31, WEIGHT)),
         _ => panic!(rt; "the machine takes no more"),
     }
     let machine = cell.close(all);
-    made(&rt, &machine, &[(0, 7), (1, 11), (1, 13)]);
+    assert!(rt; has_calls(&machine, &[(0, 7), (1, 11), (1, 13)]));
     drop(machine);
     Ok(())
 }
@@ -81,7 +81,7 @@ fn call_once(rt: &(impl Abort + Wait), cell: &Cell, mut seat: Caller) -> Caller
     ensures cell { IsSeatOf cell.now result }
     ensures callers { (result.first ≡ seat.first) × (result.count ≡ seat.count) }
 {
-    assert_eq!(rt; done(rt, cell, &mut seat, 7), (14, 1));
+    assert!(rt; done(rt, cell, &mut seat, 7) == (14, 1));
     seat
 }
 
@@ -97,10 +97,10 @@ fn try_beside(rt: &impl Abort, gate: &Gate, cell: &Cell, mut seat: Caller) -> Ca
             loaded,
             found,
             event,
-        } => assert_eq!(rt; (loaded, found, event), (1, 1, 5)),
+        } => assert!(rt; (loaded, found, event) == (1, 1, 5)),
         TryOutcome::Did(_) => panic!(rt; "the other call is in its step"),
     }
-    assert_eq!(rt; seat.seen_len(), 0);
+    assert!(rt; seat.seen_len() == 0);
     gate.open.store(true, Ordering::SeqCst);
     seat
 }
@@ -124,13 +124,13 @@ fn a_taken_cell_is_busy(rt: HostRuntime) -> Result<(), Fail> {
     );
     match cell.try_call(&mut second, 5) {
         TryOutcome::Did(Outcome::Done { reply, entries }) => {
-            assert_eq!(rt; (reply, entries), (10, 2))
+            assert!(rt; (reply, entries) == (10, 2))
         }
         _ => panic!(rt; "the cell is free"),
     }
     let all = cell.join(first, second);
     let machine = cell.close(all);
-    made(&rt, &machine, &[(0, 7), (1, 5)]);
+    assert!(rt; has_calls(&machine, &[(0, 7), (1, 5)]));
     drop(machine);
     Ok(())
 }
@@ -195,7 +195,7 @@ fn has_each_call_once(calls: &[Entry<u32, u64>]) -> bool {
 fn eight_threads_lose_and_double_no_call(rt: HostRuntime) -> Result<(), Fail> {
     let (cell, seat) = HeldCell::start(rt.alloc(), Multiplier::new(rt.alloc(), 5, None), 8)?;
     let all = call_by_each(&rt, &cell, seat, 8);
-    assert_eq!(rt; all.seen_len(), 8 * CALLS);
+    assert!(rt; all.seen_len() == 8 * CALLS);
     let machine = cell.close(all);
     assert!(rt; has_each_call_once(machine.calls.as_slice()));
     drop(machine);

@@ -29,7 +29,11 @@ mod pair_sum_calls;
 #[cfg(test)]
 mod portfolio;
 #[cfg(test)]
-mod simm_kinds_calls;
+mod simm_kinds_batches;
+#[cfg(test)]
+mod simm_kinds_factors;
+#[cfg(test)]
+mod simm_kinds_words;
 #[cfg(test)]
 mod simm_rules_calls;
 #[cfg(test)]

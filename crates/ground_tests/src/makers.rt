@@ -53,18 +53,25 @@ pub fn trade(
     }
 }
 
+pub fn bytes(rt: &(impl Abort + AllocGlobal), text: &[u8]) -> Bytes {
+    Bytes::from_slice(rt.alloc(), text)
+        .ok()
+        .expect(rt, "memory")
+}
+
+/// The one call that is to fail; there is no call 0.
+pub fn calls(rt: &(impl Abort + AllocGlobal), number: u64) -> Vec<u64> {
+    vec![in rt.alloc(); number].ok().expect(rt, "memory")
+}
+
 /// A source of these bytes, so many at a call, that fails at one call, or at none for 0.
 pub fn source(
     rt: &(impl Abort + AllocGlobal),
-    bytes: &[u8],
+    text: &[u8],
     most: usize,
     failing: u64,
 ) -> MemSource {
-    let failing = vec![in rt.alloc(); failing].ok().expect(rt, "memory");
-    let bytes = Bytes::from_slice(rt.alloc(), bytes)
-        .ok()
-        .expect(rt, "memory");
-    MemSource::new(rt.alloc(), bytes, most.max(1), failing)
+    MemSource::new(rt.alloc(), bytes(rt, text), most.max(1), calls(rt, failing))
 }
 
 /// What is read of a file.

@@ -1,6 +1,6 @@
 ghost use Rattle.std.specs.Prelude.{None};
 
-use crate::makers::source;
+use crate::makers::{bytes, calls, source};
 use mh_io::{
     Failed, FindRefused, Folder, MOST_BYTES, MemFolder, MemSink, PutFault, ReadAllFault,
     RealFolder, RealSink, Source, put_all, read_all,
@@ -112,8 +112,7 @@ const PUTS: [(usize, usize, u64, usize); 11] = [
 
 /// A sink with this room that takes so many bytes at a call, and fails at one call.
 fn sink(rt: &(impl Abort + AllocGlobal), room: usize, most: usize, failing: u64) -> MemSink {
-    let failing = vec![in rt.alloc(); failing].ok().expect(rt, "memory");
-    MemSink::new(rt.alloc(), room, most, failing)
+    MemSink::new(rt.alloc(), room, most, calls(rt, failing))
         .ok()
         .expect(rt, "memory")
 }
@@ -160,18 +159,26 @@ const FILES: [(&str, &str, u64); 3] = [
     ("a.csv", "new", 0),
 ];
 
+/// Adds a file that gives two bytes at a call.
+fn add(
+    rt: &(impl Abort + AllocGlobal),
+    folder: &mut MemFolder,
+    name: &str,
+    text: &str,
+    failing: u64,
+) {
+    let bytes = bytes(rt, text.as_bytes());
+    folder
+        .add(rt.alloc(), name, bytes, 2, calls(rt, failing))
+        .ok()
+        .expect(rt, "memory");
+}
+
 /// A folder that finds no file at its third find.
 fn folder(rt: &(impl Abort + AllocGlobal)) -> MemFolder {
-    let mut folder = MemFolder::new(vec![in rt.alloc(); 3].ok().expect(rt, "memory"));
-    for (name, text, failing) in FILES {
-        let failing = vec![in rt.alloc(); failing].ok().expect(rt, "memory");
-        let bytes = Bytes::from_slice(rt.alloc(), text.as_bytes())
-            .ok()
-            .expect(rt, "memory");
-        folder
-            .add(rt.alloc(), name, bytes, 2, failing)
-            .ok()
-            .expect(rt, "memory");
+    let mut folder = MemFolder::new(calls(rt, 3));
+    for (name, text, failing) in &FILES {
+        add(rt, &mut folder, name, text, *failing);
     }
     folder
 }

@@ -1,6 +1,6 @@
 ghost use Rattle.std.specs.Prelude.{None};
 
-use crate::makers::source;
+use crate::makers::{bytes, source};
 use mh_io::{Failed, LINE_BYTES, LineFault, LineStep, Lines, MOST_BYTES, Source, lines_of};
 use mh_units::Bytes;
 use std::alloc::AllocError;
@@ -187,9 +187,7 @@ fn a_source_is_handed_back(rt: HostRuntime) {
 #[test]
 fn a_line_is_appended(rt: HostRuntime) {
     let mut lines = lines_over(&rt, source(&rt, b"cd\r\n", 3, 0));
-    let mut bytes = Bytes::from_slice(rt.alloc(), b"ab")
-        .ok()
-        .expect(&rt, "memory");
+    let mut bytes = bytes(&rt, b"ab");
     for answer in [LineStep::Line, LineStep::End] {
         assert!(rt; lines.append_line(&mut bytes) == Ok(answer));
         assert!(rt; bytes.as_slice() == b"abcd".as_slice());
