@@ -1,141 +1,15 @@
 //! Batches, withdrawals and questions at random on one live margin. What it answers is that of live margins which are given the
 //! same trades at once; what it keeps of its buckets is by the rule of what the rows of an event touch.
-ghost use Rattle.std.specs.Prelude.{◌<◌, IfSome, vec_len};
+ghost use Rattle.std.specs.Prelude.{◌<◌};
 
 use crate::asking::{live, submit, total};
+use crate::expected_book::{Book, Mark, Row, Trade};
 use crate::makers::{name, rows};
+use crate::random_places::{bucket, place_at};
 use bucket_cache::LiveMargin;
-use simm_kinds::{Batch, BucketId, BucketNumber, Currency, Measure, Name, ProductClass, RiskClass};
+use simm_kinds::{Batch, Name};
 use simm_rules::BucketMargin;
 use std::process::Abort;
-
-/// Factors whose rows lie in one bucket on one side, and the measures that such a row touches.
-struct Place {
-    product: ProductClass,
-    class: RiskClass,
-    /// The currency or the number of the bucket; neither for a single one.
-    bucket: &'static str,
-    measures: &'static [Measure],
-    /// The risk type, qualifier, bucket and labels of each.
-    factors: &'static [&'static str],
-}
-
-const DELTA: &[Measure] = &[Measure::Delta];
-
-const VOLATILITY: &[Measure] = &[Measure::Vega, Measure::Curvature];
-
-const BASE_CORRELATION: &[Measure] = &[Measure::BaseCorr];
-
-const PLACES: [Place; 13] = [
-    Place {
-        product: ProductClass::RatesFX,
-        class: RiskClass::IR,
-        bucket: "EUR",
-        measures: DELTA,
-        factors: &[
-            "Risk_IRCurve,EUR,,10y,OIS",
-            "Risk_IRCurve,EUR,,2y,Libor3m",
-            "Risk_Inflation,EUR,,,",
-            "Risk_XCcyBasis,EUR,,,",
-        ],
-    },
-    Place {
-        product: ProductClass::RatesFX,
-        class: RiskClass::IR,
-        bucket: "EUR",
-        measures: VOLATILITY,
-        factors: &["Risk_IRVol,EUR,,5y,", "Risk_InflationVol,EUR,,1y,"],
-    },
-    Place {
-        product: ProductClass::RatesFX,
-        class: RiskClass::IR,
-        bucket: "GBP",
-        measures: DELTA,
-        factors: &["Risk_IRCurve,GBP,,10y,OIS", "Risk_IRCurve,GBP,,30y,OIS"],
-    },
-    Place {
-        product: ProductClass::RatesFX,
-        class: RiskClass::FX,
-        bucket: "",
-        measures: DELTA,
-        factors: &["Risk_FX,EUR,,,", "Risk_FX,BRL,,,", "Risk_FX,USD,,,"],
-    },
-    Place {
-        product: ProductClass::RatesFX,
-        class: RiskClass::FX,
-        bucket: "",
-        measures: VOLATILITY,
-        factors: &["Risk_FXVol,EURUSD,,1y,", "Risk_FXVol,BRLGBP,,5y,"],
-    },
-    Place {
-        product: ProductClass::Credit,
-        class: RiskClass::IR,
-        bucket: "EUR",
-        measures: DELTA,
-        factors: &["Risk_IRCurve,EUR,,10y,OIS"],
-    },
-    Place {
-        product: ProductClass::Credit,
-        class: RiskClass::CreditQ,
-        bucket: "1",
-        measures: DELTA,
-        factors: &["Risk_CreditQ,ACME,1,5y,", "Risk_CreditQ,BOLT,1,2y,USD"],
-    },
-    Place {
-        product: ProductClass::Credit,
-        class: RiskClass::CreditQ,
-        bucket: "1",
-        measures: VOLATILITY,
-        factors: &["Risk_CreditVol,ACME,1,5y,", "Risk_CreditVol,BOLT,1,1y,"],
-    },
-    Place {
-        product: ProductClass::Credit,
-        class: RiskClass::CreditQ,
-        bucket: "",
-        measures: BASE_CORRELATION,
-        factors: &["Risk_BaseCorr,CDX,,,", "Risk_BaseCorr,ITRAXX,,,"],
-    },
-    Place {
-        product: ProductClass::Credit,
-        class: RiskClass::CreditNonQ,
-        bucket: "1",
-        measures: DELTA,
-        factors: &["Risk_CreditNonQ,LOAN,1,3y,"],
-    },
-    Place {
-        product: ProductClass::Equity,
-        class: RiskClass::Equity,
-        bucket: "1",
-        measures: DELTA,
-        factors: &["Risk_Equity,ACME,1,,", "Risk_Equity,BOLT,1,,"],
-    },
-    Place {
-        product: ProductClass::Equity,
-        class: RiskClass::Equity,
-        bucket: "1",
-        measures: VOLATILITY,
-        factors: &["Risk_EquityVol,ACME,1,1y,", "Risk_EquityVol,BOLT,1,2w,"],
-    },
-    Place {
-        product: ProductClass::Commodity,
-        class: RiskClass::Commodity,
-        bucket: "1",
-        measures: VOLATILITY,
-        factors: &["Risk_CommodityVol,COAL,1,6m,"],
-    },
-];
-
-fn place_at(rt: &impl Abort, index: usize) -> &'static Place {
-    PLACES.get(index).expect(rt, "a place")
-}
-
-fn bucket(text: &[u8]) -> BucketId {
-    match (Currency::read(text), BucketNumber::read(text)) {
-        (Some(currency), _) => BucketId::Currency(currency),
-        (None, Some(number)) => BucketId::Number(number),
-        (None, None) => BucketId::Single,
-    }
-}
 
 /// Numbers that look random, the same in each run.
 #[derive(Drop)]
@@ -163,21 +37,6 @@ impl Random {
         let index = self.below(count);
         *items.get(index as usize).expect(rt, "an item")
     }
-}
-
-/// A row of a factor at a place, and its amount in dollars.
-#[derive(Clone, Copy)]
-struct Row {
-    place: usize,
-    factor: &'static str,
-    dollars: i64,
-}
-
-/// A trade and its rows.
-#[derive(Clone, Copy)]
-struct Trade {
-    name: &'static str,
-    rows: [Row; 2],
 }
 
 const NAMES: [&str; 8] = ["A", "B", "C", "D", "E", "F", "G", "H"];
@@ -209,116 +68,6 @@ fn chosen_names(rt: &(impl Abort + AllocGlobal), random: &mut Random) -> Vec<&'s
         }
     }
     names
-}
-
-/// A value of a bucket in a measure, and whether it is to be kept.
-#[derive(Drop)]
-struct Mark {
-    place: usize,
-    measure: Measure,
-    is_kept: bool,
-}
-
-/// What a live margin is to hold: its trades, and which values it keeps.
-#[derive(Drop)]
-struct Book {
-    trades: Vec<Trade>,
-    marks: Vec<Mark>,
-}
-
-fn touches(rows: &[Row], mark: &Mark) -> bool {
-    rows.iter().any(|row| row.place == mark.place)
-}
-
-impl Book {
-    /// No trades, and nothing kept.
-    fn new(rt: &(impl Abort + AllocGlobal)) -> Book {
-        let mut marks = Vec::new(rt.alloc());
-        for (index, place) in PLACES.iter().enumerate() {
-            for measure in place.measures {
-                let mark = Mark {
-                    place: index,
-                    measure: *measure,
-                    is_kept: false,
-                };
-                marks.push(mark).ok().expect(rt, "memory");
-            }
-        }
-        Book {
-            trades: Vec::new(rt.alloc()),
-            marks,
-        }
-    }
-
-    /// The values that these rows touch are kept no longer.
-    fn touch(&mut self, rows: &[Row]) {
-        for mark in self.marks.iter_mut() {
-            if touches(rows, mark) {
-                mark.is_kept = false;
-            }
-        }
-    }
-
-    /// Which of its trades has this name.
-    fn index_of(&self, name: &str) -> Option<usize>
-        ensures { IfSome result (λ index. index < vec_len self.now.trades) }
-    {
-        self.trades.iter().position(|trade| trade.name == name)
-    }
-
-    /// Takes a trade out, where it is there.
-    fn take(&mut self, name: &str) {
-        if let Some(index) = self.index_of(name) {
-            let trade = self.trades.remove(index);
-            self.touch(&trade.rows);
-        }
-    }
-
-    /// Takes a trade in, in place of the one of its name.
-    fn put(&mut self, rt: &impl Abort, trade: Trade) {
-        self.take(trade.name);
-        self.touch(&trade.rows);
-        self.trades.push(trade).ok().expect(rt, "memory");
-    }
-
-    /// Whether a row lies where a value is.
-    fn has_rows(&self, mark: &Mark) -> bool {
-        self.trades.iter().any(|trade| touches(&trade.rows, mark))
-    }
-
-    fn put_all(&mut self, rt: &impl Abort, trades: &[Trade]) {
-        for trade in trades {
-            self.put(rt, *trade);
-        }
-    }
-
-    fn take_all(&mut self, names: &[&'static str]) {
-        for name in names {
-            self.take(name);
-        }
-    }
-
-    /// Whether each of these names is of a trade.
-    fn has_all(&self, names: &[&'static str]) -> bool {
-        names.iter().all(|name| self.index_of(name).is_some())
-    }
-
-    /// How many values of buckets that have a row are not kept.
-    fn dirty_count(&self) -> usize {
-        let dirty = self
-            .marks
-            .iter()
-            .filter(|mark| !mark.is_kept && self.has_rows(mark));
-        dirty.count()
-    }
-
-    /// A question was answered: just the values of the buckets that have a row are kept.
-    fn renew(&mut self) {
-        let trades = &self.trades;
-        for mark in self.marks.iter_mut() {
-            mark.is_kept = trades.iter().any(|trade| touches(&trade.rows, mark));
-        }
-    }
 }
 
 fn add_row(rt: &(impl Abort + AllocGlobal), lines: &mut String, trade: &str, row: Row) {

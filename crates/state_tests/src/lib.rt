@@ -13,6 +13,8 @@ mod csa_calls_amounts;
 #[cfg(test)]
 mod csa_terms_calls;
 #[cfg(test)]
+mod expected_book;
+#[cfg(test)]
 mod kept_buckets_at_random;
 #[cfg(test)]
 mod kept_buckets_calls;
@@ -20,6 +22,8 @@ mod kept_buckets_calls;
 mod makers;
 #[cfg(test)]
 mod moment_texts;
+#[cfg(test)]
+mod random_places;
 #[cfg(test)]
 mod set_core_calls;
 #[cfg(test)]
