@@ -1,5 +1,5 @@
 -- A batch that is a book of its own.
-use Rattle.std.proofs.Common.{◌≡◌, ◌∙◌, ◌<◌, ◌+◌, ℕ, suc, List, [], ◌∷◌, ◌++◌, length, drop, get_or, find, Some, option_map, Bool, true, cond, None, ap, sym, refl, arith, add-one, drop-cons}
+use Rattle.std.proofs.Common.{◌≡◌, ◌∙◌, ◌<◌, ◌+◌, ◌^◌, ℕ, suc, List, [], ◌∷◌, length, drop, get_or, find, Some, option_map, Bool, true, cond, None, ap, sym, refl, arith, add-one, drop-cons}
 use Rattle.std.specs.List.{list_all, flat_map}
 use Rattle.simm_kinds.specs.declared.row.CrifRow.{CrifRow}
 use Rattle.simm_kinds.specs.declared.row.TradeRows.{TradeRows}
@@ -9,30 +9,25 @@ use Rattle.simm_rules.specs.Params.{Params}
 use Rattle.simm_rules.specs.AddOns.{multiplier, notional_factor}
 use Rattle.simm_rules.specs.Admits.{admits}
 use Rattle.simm_rules.specs.Range.{range}
-use Rattle.bucket_cache.specs.declared.sums.Sums.{Sums}
 use Rattle.bucket_cache.specs.Live.{rows_or_none, rows_in}
-use Rattle.bucket_cache.specs.Sums.{book_sums, HasRoom}
+use Rattle.bucket_cache.specs.Sums.{book_sums}
 use Rattle.bucket_cache.specs.Held.{IsMarginBook}
 use Rattle.bucket_cache.proofs.Lives.{batch_facts}
 use Rattle.bucket_cache.proofs.Parameters.{parameters_stand, no_notional_factor, no_multiplier, each_named}
 
-pub batch_room : (p : Params) (ts : List TradeRows) (came : List CrifRow) (sums : Sums) → IsBatch ts → came ≡ rows_of ts → sums ≡ book_sums p [] → HasRoom p sums came
-batch_room p ts came sums batch comes are = record {
-  held = [];
-  are = are;
-  amounts = ap (list_all is_in_range) comes ∙ (batch_facts ts batch).amounts;
-  few = omega (arith, ap length comes, (batch_facts ts batch).few);
-}
+-- the rows that a batch lends are few, and their amounts are those that a batch can have
+pub few_lent : (ts : List TradeRows) (came : List CrifRow) → IsBatch ts → came ≡ rows_of ts → length came < 2 ^ 32
+few_lent ts came batch comes = omega (arith, ap length comes, (batch_facts ts batch).few)
 
-pub batch_sums : (p : Params) (ts : List TradeRows) (came : List CrifRow) → came ≡ rows_of ts → (sums : Sums) → sums ≡ book_sums p ([] ++ came) → sums ≡ book_sums p (rows_of ts)
-batch_sums p ts came comes sums are = are ∙ ap (book_sums p) comes
+pub amounts_lent : (ts : List TradeRows) (came : List CrifRow) → IsBatch ts → came ≡ rows_of ts → list_all is_in_range came ≡ true
+amounts_lent ts came batch comes = ap (list_all is_in_range) comes ∙ (batch_facts ts batch).amounts
 
-pub batch_book : (p : Params) (ts : List TradeRows) (sums : Sums) (parameters : List CrifRow) → IsBatch ts → sums ≡ book_sums p (rows_of ts) → range p (rows_of ts) ≡ None → list_all (admits p) (rows_of ts) ≡ true
-    → parameters ≡ rows_in ts [] → IsMarginBook p sums parameters (rows_of ts)
-batch_book p ts sums parameters batch are in_range admitted same =
+pub batch_book : (p : Params) (ts : List TradeRows) (parameters : List CrifRow) → IsBatch ts → range p (rows_of ts) ≡ None → list_all (admits p) (rows_of ts) ≡ true
+    → parameters ≡ rows_in ts [] → IsMarginBook p (book_sums p (rows_of ts)) parameters (rows_of ts)
+batch_book p ts parameters batch in_range admitted same =
     let facts = batch_facts ts batch in
     record {
-      are = are;
+      are = refl;
       in_range = in_range;
       amounts = facts.amounts;
       admitted = admitted;

@@ -43,7 +43,7 @@ module _ (lent : List LentRows) (i : ℕ) (t : LentRows) (below : i < length len
   pub left_behind : (rest : List CrifRow) → rest ++ all_rows (drop i lent) ≡ rest ++ t.rows.now ++ all_rows (drop (i + 1) lent)
   left_behind rest = ap (λ rows. rest ++ rows) rows_left ∙ sym (append_assoc rest t.rows.now (all_rows (drop (i + 1) lent)))
 
-all_front : (test : CrifRow → Bool) (i : ℕ) (lent : List LentRows) → list_all test (all_rows lent) ≡ true → list_all test (all_rows (take i lent)) ≡ true
+pub all_front : (test : CrifRow → Bool) (i : ℕ) (lent : List LentRows) → list_all test (all_rows lent) ≡ true → list_all test (all_rows (take i lent)) ≡ true
 all_front test zero lent h = refl
 all_front test (suc i) [] h = refl
 all_front test (suc i) (l ∷ ls) h =

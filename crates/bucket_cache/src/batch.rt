@@ -7,9 +7,9 @@ ghost use Rattle.simm_rules.specs.Simm.{simm};
 ghost use Rattle.bucket_cache.specs.Live.{first_unadmitted, rows_in};
 
 use crate::admitting::first_unadmitted;
+use crate::booking::{count_rows, net, sum_add_ons};
 use crate::fault::SubmitFault;
 use crate::lending::lend_batch;
-use crate::sums::Sums;
 use book_margin::margin_in_range;
 use book_range::{range_bounds, range_fault};
 use simm_kinds::{CrifRow, TradeRows};
@@ -47,14 +47,15 @@ pub fn batch_margin(
         });
     }
     let lent = lend_batch(alloc, trades)?;
-    let mut sums = Sums::new(alloc);
-    sums.add_lent(alloc, params, lent.as_slice())?;
-    if let Some(fault) = range_fault(params, &sums.factors, sums.rows) {
+    let lent = lent.as_slice();
+    let factors = net(alloc, lent)?;
+    if let Some(fault) = range_fault(params, &factors, count_rows(lent)) {
         return Err(SubmitFault::Range(fault));
     }
     range_bounds(params);
+    let add_ons = sum_add_ons(alloc, lent)?;
     let parameters = parameters_in(trades);
-    Ok(margin_in_range(alloc, params, &sums.factors, &sums.add_ons, parameters)?)
+    Ok(margin_in_range(alloc, params, &factors, &add_ons, parameters)?)
 }
 
 // The rows of the trade without a name, which has all parameters; none where there is no such trade.

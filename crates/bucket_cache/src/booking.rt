@@ -1,11 +1,13 @@
-//! The factors and the number of rows that are lent.
+//! The factors, the add-ons and the number of rows that are lent.
 ghost use Rattle.std.specs.Prelude.{◌≡◌, ◌^◌, ◌<◌, true, IfOk, length};
 ghost use Rattle.std.specs.List.{list_all};
 ghost use Rattle.simm_kinds.specs.Batch.{is_in_range};
 ghost use Rattle.factor_book.specs.Factors.{factors_of};
+ghost use Rattle.class_combine.specs.Sums.{sums_of};
 ghost use Rattle.bucket_cache.specs.Lent.{all_rows};
 
 use crate::lent::LentRows;
+use class_combine::AddOnSums;
 use factor_book::Factors;
 use std::alloc::{AllocError, Global};
 
@@ -32,4 +34,17 @@ pub fn net(alloc: Global, lent: &[LentRows]) -> Result<Factors, AllocError>
         factors.add_rows(alloc, trade.rows)?;
     }
     Ok(factors)
+}
+
+/// The sums of the add-ons of all rows. Want of memory is the only error.
+pub fn sum_add_ons(alloc: Global, lent: &[LentRows]) -> Result<AddOnSums, AllocError>
+    requires few { length (all_rows lent.now) < 2 ^ 32 }
+    requires amounts { list_all is_in_range (all_rows lent.now) ≡ true }
+    ensures { IfOk result (λ add_ons. add_ons ≡ sums_of (all_rows lent.now)) }
+{
+    let mut add_ons = AddOnSums::new(alloc);
+    for trade in lent {
+        add_ons.add_rows(alloc, trade.rows)?;
+    }
+    Ok(add_ons)
 }
