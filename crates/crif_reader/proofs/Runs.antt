@@ -63,11 +63,15 @@ read_ok number (Err d) o e = cc
 pub taken_none : (columns : Columns) (number : ℕ) (before : List Entry) (fields : List (List ℕ)) → at_record number (row_of columns fields) ≡ Ok None → at_record number (taken_of columns before fields) ≡ Ok None
 taken_none columns number before fields e = rw (read_ok number (row_of columns fields) None e) refl
 
-pub taken_once : (columns : Columns) (number : ℕ) (before : List Entry) (fields : List (List ℕ)) (entry : Entry) → at_record number (row_of columns fields) ≡ Ok (Some entry) → is_repeated (rows_in before) entry.row ≡ false → at_record number (taken_of columns before fields) ≡ Ok (Some entry)
-taken_once columns number before fields entry e first = rw (read_ok number (row_of columns fields) (Some entry) e, first) refl
+-- what is left to test of a row
+pub taken_some : (columns : Columns) (number : ℕ) (before : List Entry) (fields : List (List ℕ)) (entry : Entry) → at_record number (row_of columns fields) ≡ Ok (Some entry) → at_record number (once before (Some entry)) ≡ at_record number (taken_of columns before fields)
+taken_some columns number before fields entry e = rw (read_ok number (row_of columns fields) (Some entry) e) refl
 
-pub taken_twice : (columns : Columns) (number : ℕ) (before : List Entry) (fields : List (List ℕ)) (entry : Entry) → at_record number (row_of columns fields) ≡ Ok (Some entry) → is_repeated (rows_in before) entry.row ≡ true → at_record number (taken_of columns before fields) ≡ Err (Row number DuplicateParam)
-taken_twice columns number before fields entry e again = rw (read_ok number (row_of columns fields) (Some entry) e, again) refl
+pub once_first : (number : ℕ) (before : List Entry) (entry : Entry) → is_repeated (rows_in before) entry.row ≡ false → at_record number (once before (Some entry)) ≡ Ok (Some entry)
+once_first number before entry first = rw first refl
+
+pub once_again : (number : ℕ) (before : List Entry) (entry : Entry) → is_repeated (rows_in before) entry.row ≡ true → at_record number (once before (Some entry)) ≡ Err (Row number DuplicateParam)
+once_again number before entry again = rw again refl
 
 -- ---- the run
 
@@ -102,13 +106,13 @@ way_passes columns all number passed_over params made fields more few e way =
 -- or it gives a row that repeats no parameter
 pub way_takes : (columns : Columns) (all : List (List (List ℕ))) (number passed_over : ℕ) (params new : Params) (made : List TradeRows) (fields : List (List ℕ)) (more : List (List (List ℕ))) (entry : Entry) → number ≢ 100002
     → at_record number (row_of columns fields) ≡ Ok (Some entry)
-    → ((before : List CrifRow) → IsNoted params before → is_repeated before entry.row ≡ false) → ((before : List CrifRow) → IsNoted params before → IsNoted new (before ++ entry.row ∷ []))
+    → ((before : List Entry) → IsNoted params (rows_in before) → at_record number (once before (Some entry)) ≡ Ok (Some entry)) → ((before : List CrifRow) → IsNoted params before → IsNoted new (before ++ entry.row ∷ []))
     → IsUnderWay columns all number passed_over params made (fields ∷ more) → IsUnderWay columns all (number + 1) passed_over new (with_entry made entry) more
 way_takes columns all number passed_over params new made fields more entry few e first noted way =
     record {
       entries = way.entries ++ entry ∷ [];
       trades = rw way.trades (sym (gathered-push way.entries entry));
-      run = sym (run_more columns number (kept_at way.entries passed_over) fields more (Some entry) (ne_eqb number 100002 few) (taken_once columns number way.entries fields entry e (first (rows_in way.entries) way.noted))) ∙ way.run;
+      run = sym (run_more columns number (kept_at way.entries passed_over) fields more (Some entry) (ne_eqb number 100002 few) (sym (taken_some columns number way.entries fields entry e) ∙ first way.entries way.noted)) ∙ way.run;
       count = omega (arith, way.count, length-append way.entries (entry ∷ []));
       noted = rw (map-append (λ d. d.row) way.entries (entry ∷ [])) (noted (rows_in way.entries) way.noted);
     }
@@ -124,12 +128,12 @@ pub way_fails : (columns : Columns) (all : List (List (List ℕ))) (number passe
     → Fails fault (at_record number (row_of columns fields)) → IsUnderWay columns all number passed_over params made (fields ∷ more) → Fails fault (rows_of columns all)
 way_fails columns all number passed_over params made fields more fault few h way = way_stops columns all number passed_over params made fields more fault few way (taken_fails columns number way.entries fields fault h)
 
--- and so does one that repeats a parameter
-pub way_repeats : (columns : Columns) (all : List (List (List ℕ))) (number passed_over : ℕ) (params : Params) (made : List TradeRows) (fields : List (List ℕ)) (more : List (List (List ℕ))) (entry : Entry) → number ≢ 100002
-    → at_record number (row_of columns fields) ≡ Ok (Some entry) → ((before : List CrifRow) → IsNoted params before → is_repeated before entry.row ≡ true)
-    → IsUnderWay columns all number passed_over params made (fields ∷ more) → rows_of columns all ≡ Err (Row number DuplicateParam)
-way_repeats columns all number passed_over params made fields more entry few e again way =
-    way_stops columns all number passed_over params made fields more (Row number DuplicateParam) few way (taken_twice columns number way.entries fields entry e (again (rows_in way.entries) way.noted))
+-- and so does one whose row may not stand behind those before it
+pub way_fails_late : (columns : Columns) (all : List (List (List ℕ))) (number passed_over : ℕ) (params : Params) (made : List TradeRows) (fields : List (List ℕ)) (more : List (List (List ℕ))) (entry : Entry) (fault : CrifFault) → number ≢ 100002
+    → at_record number (row_of columns fields) ≡ Ok (Some entry) → ((before : List Entry) → IsNoted params (rows_in before) → Fails fault (at_record number (once before (Some entry))))
+    → IsUnderWay columns all number passed_over params made (fields ∷ more) → Fails fault (rows_of columns all)
+way_fails_late columns all number passed_over params made fields more entry fault few e late way =
+    way_stops columns all number passed_over params made fields more fault few way (rw (taken_some columns number way.entries fields entry e) at (late way.entries way.noted))
 
 pub way_too_long : (columns : Columns) (all : List (List (List ℕ))) (number passed_over : ℕ) (params : Params) (made : List TradeRows) (fields : List (List ℕ)) (more : List (List (List ℕ))) → number ≡ 100002
     → IsUnderWay columns all number passed_over params made (fields ∷ more) → rows_of columns all ≡ Err TooManyRows

@@ -1,5 +1,5 @@
 //! Rows gathered by trade.
-ghost use Rattle.std.specs.Prelude.{◌≡◌, ◌∷◌, [], ℕ, List, length, unwrap_or, Some, None, IfOk, OnOk, if◌then◌else◌};
+ghost use Rattle.std.specs.Prelude.{◌≡◌, ◌∷◌, [], ℕ, List, length, unwrap_or, Some, None, false, IfOk, OnOk, if◌then◌else◌};
 ghost use Rattle.simm_kinds.specs.NameText.{IsName};
 ghost use Rattle.simm_kinds.specs.Order.{same_name};
 ghost use Rattle.crif_reader.specs.Growth.{with_entry, noted_at, grown, is_newest, IsApart, IsIndex};
@@ -90,19 +90,42 @@ impl Gathering {
         ensures index { OnOk result (IsIndex self.new) }
     {
         let Entry { trade, row } = added;
-        if self.is_newest(trade) {
-            self.rows.push(row)?;
-            return Ok(());
+        if !self.is_newest(trade) {
+            return self.add_elsewhere(alloc, trade, row);
         }
+        self.rows.push(row)?;
+        Ok(())
+    }
+
+    /// Adds a row to a trade that isn't the newest.
+    fn add_elsewhere(&mut self, alloc: Global, trade: &[u8], row: CrifRow) -> Result<(), AllocError>
+        requires index { IsIndex self.old }
+        requires name { IsName trade.now }
+        requires other { is_newest self.old.newest trade.now ≡ false }
+        ensures trades { OnOk result (grown self.new ≡ with_entry (grown self.old) (record { trade = trade.now; row = row })) }
+        ensures index { OnOk result (IsIndex self.new) }
+    {
         let count = self.count();
         let place = place_or_end(alloc, &mut self.places, trade, count)?;
-        if place == count {
-            self.finish(alloc)?;
-            self.newest = Some(Name::of_bytes(alloc, trade)?);
-            self.rows.push(row)?;
-        } else {
-            self.trades[place].rows.push(row)?;
+        if place != count {
+            return self.trades[place].rows.push(row);
         }
+        self.begin(alloc, trade)?;
+        self.rows.push(row)?;
+        Ok(())
+    }
+
+    /// Puts the newest trade behind the others, and begins another without a row.
+    fn begin(&mut self, alloc: Global, trade: &[u8]) -> Result<(), AllocError>
+        requires apart { IsApart self.old.trades.items self.old.newest self.old.rows.items }
+        requires name { IsName trade.now }
+        ensures trades { OnOk result (self.new.trades.items ≡ grown self.old) }
+        ensures newest { OnOk result (self.new.newest ≡ Some trade.now) }
+        ensures rows { OnOk result (self.new.rows.items ≡ []) }
+        ensures places { self.new.places ≡ self.old.places }
+    {
+        self.finish(alloc)?;
+        self.newest = Some(Name::of_bytes(alloc, trade)?);
         Ok(())
     }
 

@@ -1,8 +1,13 @@
-ghost use Rattle.std.specs.Prelude.{◌≡◌, option_map};
+ghost use Rattle.std.specs.Prelude.{◌≡◌, ◌++◌, ◌∷◌, [], List, Some, option_map, OnOk};
 ghost use Rattle.crif_reader.specs.Reads.{Gives};
 ghost use Rattle.crif_reader.specs.Reading.{newest, records_left, IsReading};
-ghost use Rattle.crif_reader.specs.Row.{row_of};
+ghost use Rattle.crif_reader.specs.Row.{Entry as Placed, row_of};
+ghost use Rattle.simm_kinds.specs.NameText.{IsName};
+ghost use Rattle.simm_kinds.specs.declared.row.CrifRow.{CrifRow};
 ghost use Rattle.crif_reader.specs.Grammar.{at_record, crif_of, rows_of};
+ghost use Rattle.crif_reader.specs.Growth.{grown, with_entry, IsIndex};
+ghost use Rattle.crif_reader.specs.Noted.{IsNoted};
+ghost use Rattle.crif_reader.specs.Repeated.{once, rows_in};
 
 use crate::columns::{Columns, columns_of};
 use crate::gather::Gathering;
@@ -48,6 +53,30 @@ fn read_row<'a>(
     }
 }
 
+/// Takes the row of the record with this number, unless it repeats a parameter.
+fn take_row(
+    alloc: Global,
+    number: u32,
+    params: &mut Params,
+    gathering: &mut Gathering,
+    added: Entry,
+) -> Result<(), CrifFault>
+    requires index { IsIndex gathering.old }
+    requires name { IsName added.trade.now }
+    ensures given { (before : List Placed) → IsNoted params.old (rows_in before)
+        → Gives (λ _. Some (record { trade = added.entry.trade.now; row = added.entry.row })) result (at_record number (once before (Some (record { trade = added.entry.trade.now; row = added.entry.row })))) }
+    ensures noted { (before : List CrifRow) → IsNoted params.old before → OnOk result (IsNoted params.new (before ++ added.entry.row ∷ [])) }
+    ensures trades { OnOk result (grown gathering.new ≡ with_entry (grown gathering.old) (record { trade = added.entry.trade.now; row = added.entry.row })) }
+    ensures index { OnOk result (IsIndex gathering.new) }
+{
+    if !params.note(alloc, &added.row)? {
+        let fault = RowFault::DuplicateParam;
+        return Err(CrifFault::Row { number, fault });
+    }
+    gathering.add(alloc, added)?;
+    Ok(())
+}
+
 /// Reads the records behind the header, and gathers their rows by trade.
 fn read_rows(alloc: Global, records: &mut Records, columns: &Columns) -> Result<Gathered, CrifFault>
     requires { IsReading records.old }
@@ -66,13 +95,7 @@ fn read_rows(alloc: Global, records: &mut Records, columns: &Columns) -> Result<
             Err(fault) => return Err(fault),
         };
         match taken {
-            Some(entry) => {
-                if !params.note(alloc, &entry.row)? {
-                    let fault = RowFault::DuplicateParam;
-                    return Err(CrifFault::Row { number, fault });
-                }
-                gathering.add(alloc, entry)?;
-            }
+            Some(entry) => take_row(alloc, number, &mut params, &mut gathering, entry)?,
             None => passed_over += 1,
         }
         number += 1;
@@ -104,7 +127,7 @@ pub fn read_batch(alloc: Global, bytes: &[u8]) -> Result<ReadBatch, CrifFault>
     }
     let columns = columns_of(&records)?;
     let gathered = read_rows(alloc, &mut records, &columns)?;
-    let batch = Batch::from_trades(Listed::from_vec(gathered.trades));
+    let batch = Batch::from_trades(alloc, Listed::from_vec(gathered.trades))?;
     Ok(ReadBatch {
         batch,
         passed_over: gathered.passed_over,

@@ -21,7 +21,7 @@ use Rattle.crif_reader.specs.Trades.{gathered}
 use Rattle.crif_reader.specs.Grammar.{at_record, kept_of, none_kept, crif_of, crif_of_records}
 use Rattle.crif_reader.specs.Grammar.{rows_of as file_rows_of}
 use Rattle.crif_reader.proofs.Onces.{IsOnce}
-use Rattle.crif_reader.proofs.Runs.{run_more, taken_once, kept_at}
+use Rattle.crif_reader.proofs.Runs.{run_more, taken_some, once_first, kept_at}
 use Rattle.crif_writer.specs.Rows.{row_fields, HasRowParts}
 use Rattle.crif_writer.specs.Text.{header_fields, trade_records, batch_text, records_text, tab_writer, HasTradeParts}
 use Rattle.crif_writer.proofs.FirstOfKind.{first_of_kind}
@@ -144,7 +144,7 @@ kept_all before (e ∷ es) number reads once few =
     let taken : at_record number (row_of places (record_of e)) ≡ Ok (Some e) = rw reads.0 refl in
     let early : number ≢ 100002 = omega arith in
     let one = append_assoc before (e ∷ []) es in
-    run_more places number (kept_at before 0) (record_of e) (map record_of es) (Some e) (ne_eqb number 100002 early) (taken_once places number before (record_of e) e taken first)
+    run_more places number (kept_at before 0) (record_of e) (map record_of es) (Some e) (ne_eqb number 100002 early) (sym (taken_some places number before (record_of e) e taken) ∙ once_first number before e first)
     ∙ kept_all (before ++ e ∷ []) es (number + 1) reads.1 (subst (λ (x : List Entry). IsOnce (rows_in x)) (sym one) once) (omega arith)
     ∙ ap (λ (x : List Entry). Ok (kept_at x 0)) one
 

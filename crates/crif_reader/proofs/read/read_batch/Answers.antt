@@ -30,12 +30,12 @@ returns-in_err-gathered c =
     let p = err_from_is_err_and c.from_residual-in_err-gathered.result c.from_residual-in_err-gathered.ensures.1 in
     rw (p.1, p.2, all, sym c.in_ok-columns.ensures) c.in_err-gathered.ensures
 
-pub from_trades-batch-requires : goal.from_trades-batch-requires
-from_trades-batch-requires c = rw c.from_vec.ensures (batch_of_rows _ _ _ c.in_ok-gathered.ensures)
+pub from_trades-requires : goal.from_trades-requires
+from_trades-requires c = rw c.from_vec.ensures (batch_of_rows _ _ _ c.in_ok-gathered.ensures)
 
 pub returns : goal.returns
 unfolding crif_of
 returns c =
     let found : c.in_ok-next_record.field-0 ≡ true = c.if-not-branch.false in
     let all : records_of c.args.bytes.now ≡ newest c.next_record.new.self ∷ records_left c.next_record.new.self = sym c.in_ok-records.ensures.records ∙ rw found at c.in_ok-next_record.ensures.record in
-    rw (all, sym c.in_ok-columns.ensures, c.from_trades-batch.ensures, c.from_vec.ensures) c.in_ok-gathered.ensures
+    rw (all, sym c.in_ok-columns.ensures, c.in_ok-batch.ensures, c.from_vec.ensures) c.in_ok-gathered.ensures

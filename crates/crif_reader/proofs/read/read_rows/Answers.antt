@@ -1,14 +1,15 @@
 use Rattle.std.proofs.Common.{◌∙◌, ◌≡◌, ◌≢◌, ◌∷◌, [], length, sym, ap, arith, vec_len}
-use Rattle.std.proofs.lemmas.Bool.{eqb-false, eqb-true, not-true, not-false}
+use Rattle.std.proofs.lemmas.Bool.{eqb-false, eqb-true}
+use Rattle.std.proofs.lemmas.Result.{err_from_is_err_and}
 use Rattle.crif_reader.specs.declared.fault.CrifFault.TheVariants.{Row}
 use Rattle.crif_reader.specs.Growth.{grown}
 use Rattle.crif_reader.specs.Reading.{newest, records_left}
 use Rattle.crif_reader.specs.Row.{row_of}
 use Rattle.crif_reader.proofs.Binds.{mapped_ok}
 use Rattle.crif_reader.proofs.GoodRows.{good_row}
-use Rattle.crif_reader.proofs.Runs.{way_starts, way_passes, way_takes, way_fails, way_repeats, way_too_long, way_ends, way_ends_empty}
+use Rattle.crif_reader.proofs.Runs.{way_starts, way_passes, way_takes, way_fails, way_fails_late, way_too_long, way_ends, way_ends_empty}
 use Rattle.crif_reader.proofs.read.read_rows.Goals as goal
-use Rattle.crif_reader.proofs.read.read_rows.Goals.{in-Some+in_ok-note-in-Some+else-not-branch+in_ok-add-in-Some, in-None}
+use Rattle.crif_reader.proofs.read.read_rows.Goals.{in-Some+in_ok-take_row-in-Some, in-None}
 
 pub loop-params-init : goal.loop-params-init
 loop-params-init c =
@@ -30,8 +31,8 @@ returns-in-Err c =
     let few : c.loop-params.number ≢ 100002 = omega arith in
     way_fails _ _ c.loop-params.number c.loop-params.passed_over c.loop-params.params (grown c.loop-params.gathering) _ _ c.in-Err.fault few c.in-Err.ensures (rw left at c.loop-params.invariant.way)
 
-pub add-requires-clause-name : goal.add-requires-clause-name
-add-requires-clause-name c =
+pub take_row-requires-clause-name : goal.take_row-requires-clause-name
+take_row-requires-clause-name c =
     let fields = newest c.next_record.new.self in
     let read = mapped_ok (λ d. Row c.loop-params.number d) (row_of c.args.columns.now fields) _ (rw c.in-Some.is at c.in-Ok.ensures) in
     (good_row c.args.columns.now fields (record { trade = c.in-Some.entry.trade.now; row = c.in-Some.entry.row }) read).name
@@ -43,17 +44,13 @@ loop-params-preserved c =
     let few : c.loop-params.number ≢ 100002 = omega arith in
     let reading = c.in_ok-next_record.ensures.reading c.if-branch.true in
     elim c.match-taken.branch [
-      | in-Some+in_ok-note-in-Some+else-not-branch+in_ok-add-in-Some w ↦
-          let once = w.if-not-branch.false in
+      | in-Some+in_ok-take_row-in-Some w ↦
           record {
             reading = reading;
-            index = rw w.gathering-is w.in_ok-add-in-Some.ensures.index;
-            way = rw (w.gathering-is, w.passed_over-is, w.params-is, w.in_ok-add-in-Some.ensures.trades) (
-                way_takes _ _ c.loop-params.number c.loop-params.passed_over c.loop-params.params w.note.new.self (grown c.loop-params.gathering) _ _ (record { trade = w.in-Some.entry.trade.now; row = w.in-Some.entry.row }) few
-                (rw w.in-Some.is at c.in-Ok.ensures)
-                (λ before noted. not-true _ (sym (w.in_ok-note-in-Some.ensures.once before noted) ∙ once))
-                (λ before noted. w.in_ok-note-in-Some.ensures.noted before noted once)
-                way
+            index = rw w.gathering-is w.in_ok-take_row-in-Some.ensures.index;
+            way = rw (w.gathering-is, w.passed_over-is, w.params-is, w.in_ok-take_row-in-Some.ensures.trades) (
+                way_takes _ _ c.loop-params.number c.loop-params.passed_over c.loop-params.params w.take_row.new.params (grown c.loop-params.gathering) _ _ (record { trade = w.in-Some.entry.trade.now; row = w.in-Some.entry.row }) few
+                (rw w.in-Some.is at c.in-Ok.ensures) w.in_ok-take_row-in-Some.ensures.given w.in_ok-take_row-in-Some.ensures.noted way
                 );
             few = omega arith;
           }
@@ -65,14 +62,15 @@ loop-params-preserved c =
       }
     ]
 
-pub returns-then-not-branch : goal.returns-then-not-branch
-returns-then-not-branch c =
+pub returns-in_err-take_row-in-Some : goal.returns-in_err-take_row-in-Some
+returns-in_err-take_row-in-Some c =
     let left : records_left c.loop-params.records ≡ newest c.next_record.new.self ∷ records_left c.next_record.new.self = rw c.if-branch.true at c.in_ok-next_record.ensures.record in
     let few : c.loop-params.number ≢ 100002 = omega arith in
-    way_repeats _ _ c.loop-params.number c.loop-params.passed_over c.loop-params.params (grown c.loop-params.gathering) _ _ (record { trade = c.in-Some.entry.trade.now; row = c.in-Some.entry.row }) few
-    (rw c.in-Some.is at c.in-Ok.ensures)
-    (λ before noted. not-false _ (sym (c.in_ok-note-in-Some.ensures.once before noted) ∙ c.if-not-branch.true))
-    (rw left at c.loop-params.invariant.way)
+    let p = err_from_is_err_and c.from_residual-in_err-take_row-in-Some.result c.from_residual-in_err-take_row-in-Some.ensures.1 in
+    rw (p.1, p.2) (
+    way_fails_late _ _ c.loop-params.number c.loop-params.passed_over c.loop-params.params (grown c.loop-params.gathering) _ _ (record { trade = c.in-Some.entry.trade.now; row = c.in-Some.entry.row }) _ few
+    (rw c.in-Some.is at c.in-Ok.ensures) c.in_err-take_row-in-Some.ensures.given (rw left at c.loop-params.invariant.way)
+    )
 
 pub returns-then-is_empty : goal.returns-then-is_empty
 returns-then-is_empty c =
