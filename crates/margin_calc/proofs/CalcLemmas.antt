@@ -1,9 +1,10 @@
 -- The files of a calculation, one after the other.
-use Rattle.std.proofs.Common.{◌≡◌, ℕ, List, Option, Some, None, ap, ◌∙◌}
+use Rattle.std.proofs.Common.{◌≡◌, ℕ, List, Option, Some, None, Result, Ok, Err, inl, inr, sym, subst, ap, ◌∙◌}
 use Rattle.mh_io.specs.Folder.{FolderSeen}
 use Rattle.simm_kinds.specs.declared.row.TradeRows.{TradeRows}
 use Rattle.simm_kinds.specs.Batch.{rows_of}
 use Rattle.simm_rules.specs.Params.{Params}
+use Rattle.simm_rules.specs.declared.values.Breakdown.{Breakdown}
 use Rattle.simm_rules.specs.declared.values.RangeFault.{RangeFault}
 use Rattle.simm_rules.specs.Range.{range}
 use Rattle.params_file.specs.Grammar.{params_of}
@@ -19,7 +20,7 @@ use Rattle.command_files.specs.Files.{no_deeds, with_reading, IsRead}
 use Rattle.command_files.specs.Grammars.{GivesTrades}
 use Rattle.command_files.proofs.FileLemmas.{did_more}
 use Rattle.command_files.proofs.AfterParamsLemmas.{whole_before}
-use Rattle.margin_calc.specs.Calc.{HasBoth, TellsRefusal, CalcCause}
+use Rattle.margin_calc.specs.Calc.{HasBoth, TellsRefusal, CalcCause, BatchEnds, MarginEnds}
 
 -- both files were read
 pub both_read : (old mid new : FolderSeen) (params_name crif_name : List ℕ) (p : Params) (trades : List TradeRows) → IsRead old mid no_deeds params_name (λ bytes. params_of bytes ≡ Some p) → IsRead mid new no_deeds crif_name (λ bytes. GivesTrades bytes trades) → HasBoth params_name crif_name old new p trades
@@ -47,3 +48,9 @@ refused_cause old new params_name crif_name p trades why (fault.OfFile file name
 refused_cause old new params_name crif_name p trades why (fault.OfBatch line) both refused tells =
     record { p = p; trades = trades; why = why; both = both; refused = refused; tells = tells }
 refused_cause old new params_name crif_name p trades why fault.Memory both refused tells = record { p = p; trades = trades; both = both }
+
+-- both files were read, and the batch came to its margin or not
+pub batch_ends : (old new : FolderSeen) (params_name crif_name : List ℕ) (p : Params) (trades : List TradeRows) (r : Result Breakdown Fault) → HasBoth params_name crif_name old new p trades → BatchEnds p trades r → MarginEnds params_name crif_name old new r
+batch_ends old new params_name crif_name p trades (Ok b) both ends = record { p = p; trades = trades; both = both; admitted = ends.0; in_range = ends.1; margin = ends.2 }
+batch_ends old new params_name crif_name p trades (Err f) both (inl none) = subst (CalcCause params_name crif_name old new) (sym none) (record { p = p; trades = trades; both = both })
+batch_ends old new params_name crif_name p trades (Err f) both (inr refused) = refused_cause old new params_name crif_name p trades refused.0 f both refused.1 refused.2

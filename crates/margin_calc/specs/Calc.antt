@@ -61,6 +61,11 @@ TellsRefusal why (fault.OfFile file name f) = ⊥
 TellsRefusal why (fault.OfBatch line) = line ≡ refusal_fault why
 TellsRefusal why fault.Memory = Unit {0}
 
+-- what a batch comes to under the parameters: its margin, a refusal, or no memory
+abbrev pub BatchEnds : Params → List TradeRows → Result Breakdown Fault → Type 0
+BatchEnds p trades (Ok b) = (first_unadmitted p trades ≡ None) × (range p (rows_of trades) ≡ None) × (b ≡ simm p (rows_of trades))
+BatchEnds p trades (Err f) = (f ≡ fault.Memory) ⊎ ((why : Refusal) × (if_admitted (first_unadmitted p trades) (range p (rows_of trades)) ≡ reply.Refused why) × TellsRefusal why f)
+
 -- both files were read, and then memory ran out, for the margin or for the line of a refusal
 pub record IsStarved (params_name crif_name : List ℕ) (old new : FolderSeen) : Type 0 where
   pub p : Params

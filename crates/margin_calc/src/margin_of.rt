@@ -1,12 +1,14 @@
 ghost use Rattle.std.specs.Prelude.{◌≡◌};
 ghost use Rattle.command_files.specs.Files.{KeepsCounts};
-ghost use Rattle.margin_calc.specs.Calc.{TellsRefusal, MarginEnds};
+ghost use Rattle.margin_calc.specs.Calc.{TellsRefusal, BatchEnds, MarginEnds};
 
 use bucket_cache::{SubmitFault, batch_margin};
 use command_files::{Fault, InputFile, read_crif_file, read_param_file};
 use margin_text::refusal_line;
 use mh_io::Folder;
 use set_core::Refusal;
+use simm_kinds::Batch;
+use simm_params::Params;
 use simm_rules::Breakdown;
 use std::alloc::Global;
 
@@ -17,6 +19,24 @@ fn refused<'a>(alloc: Global, refusal: Refusal) -> Fault<'a>
     match refusal_line(alloc, refusal) {
         Ok(line) => Fault::OfBatch(line),
         Err(_) => Fault::Memory,
+    }
+}
+
+/// Works out the margin of a batch.
+fn margin_of_batch<'a>(
+    alloc: Global,
+    params: &Params,
+    batch: &Batch,
+) -> Result<Breakdown, Fault<'a>>
+    ensures { BatchEnds params.now batch.now result }
+{
+    match batch_margin(alloc, params, batch.trades()) {
+        Ok(margin) => Ok(margin),
+        Err(SubmitFault::BucketUnknown { trade, row }) => {
+            Err(refused(alloc, Refusal::BucketUnknown { trade, row }))
+        }
+        Err(SubmitFault::Range(fault)) => Err(refused(alloc, Refusal::Range(fault))),
+        Err(SubmitFault::Memory) => Err(Fault::Memory),
     }
 }
 
@@ -46,12 +66,5 @@ pub(crate) fn margin_of_files<'a, F: Folder>(
             why,
         }),
     };
-    match batch_margin(alloc, &values, batch.trades()) {
-        Ok(margin) => Ok(margin),
-        Err(SubmitFault::BucketUnknown { trade, row }) => {
-            Err(refused(alloc, Refusal::BucketUnknown { trade, row }))
-        }
-        Err(SubmitFault::Range(fault)) => Err(refused(alloc, Refusal::Range(fault))),
-        Err(SubmitFault::Memory) => Err(Fault::Memory),
-    }
+    margin_of_batch(alloc, &values, &batch)
 }
