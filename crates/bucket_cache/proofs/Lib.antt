@@ -1,4 +1,5 @@
 pub mod Maps
+pub mod HeldRows
 pub mod Ranges
 pub mod Books
 pub mod Admitted

@@ -6,12 +6,20 @@ use Rattle.simm_kinds.specs.declared.row.CrifRow.{CrifRow}
 use Rattle.simm_kinds.specs.declared.row.TradeRows.{TradeRows}
 use Rattle.simm_kinds.specs.Order.{same_name}
 use Rattle.bucket_cache.specs.declared.lent.LentRows.{LentRows}
+use Rattle.bucket_cache.specs.declared.held_rows.HeldTrade.{HeldTrade}
 
 abbrev pub trade_of : List ℕ × List CrifRow → TradeRows
 trade_of entry = record { trade = entry.0; rows = entry.1 }
 
 abbrev pub trades_of : List (List ℕ × List CrifRow) → List TradeRows
 trades_of entries = map trade_of entries
+
+-- a trade of which the book holds the rows
+abbrev pub held_trade : HeldTrade → TradeRows
+held_trade held = record { trade = held.trade; rows = held.rows }
+
+abbrev pub held_trades : List HeldTrade → List TradeRows
+held_trades held = map held_trade held
 
 -- each trade's rows
 abbrev pub row_lists : List TradeRows → List (List CrifRow)

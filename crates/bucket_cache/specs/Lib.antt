@@ -1,4 +1,5 @@
 pub mod Live
+pub mod RowsAt
 pub mod Entries
 pub mod Lent
 pub mod Sums

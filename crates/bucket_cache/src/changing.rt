@@ -1,31 +1,21 @@
-//! Changes of the current trades. Only `copies_of` and `distinct_names` take memory.
+//! Changes of the current trades. Only `distinct_names` takes memory.
 ghost use Rattle.std.specs.Prelude.{◌≡◌, ◌+◌, ◌≤◌, ◌<◌, ◌^◌, ℕ, List, length, not, position, false, IfOk};
 ghost use Rattle.std.specs.List.{list_any, filter};
 ghost use Rattle.indexmap.specs.IndexMap.{spare};
 ghost use Rattle.simm_kinds.specs.Order.{same_name};
 ghost use Rattle.simm_kinds.specs.Repeats.{repeats};
 ghost use Rattle.bucket_cache.specs.Live.{put_trade, put_trades, is_current, first_unknown};
-ghost use Rattle.bucket_cache.specs.Entries.{trades_of, lent_names, is_among};
+ghost use Rattle.bucket_cache.specs.Entries.{trades_of, held_trade, held_trades, lent_names, is_among};
 
+use crate::held_rows::{HeldRows, HeldTrade};
 use indexmap::{IndexMap, IndexSet};
-use simm_kinds::{CrifRow, Listed, Name, TradeRows};
+use simm_kinds::Name;
 use std::alloc::{AllocError, Global};
 
-/// Copies the trades.
-pub fn copies_of(alloc: Global, trades: &[TradeRows]) -> Result<Vec<TradeRows>, AllocError>
-    ensures { IfOk result (λ copies. copies.items ≡ trades.now) }
-{
-    let mut copies = Vec::with_capacity(alloc, trades.len())?;
-    for trade in trades {
-        copies.push(trade.copy(alloc)?)?;
-    }
-    Ok(copies)
-}
-
 /// Puts the trades, for which there is room.
-pub fn put_all(current: &mut IndexMap<Name, Listed<CrifRow>>, trades: Vec<TradeRows>)
+pub fn put_all(current: &mut IndexMap<Name, HeldRows>, trades: Vec<HeldTrade>)
     requires { length trades.items ≤ spare current.old }
-    ensures { trades_of current.new.entries ≡ put_trades trades.items (trades_of current.old.entries) }
+    ensures { trades_of current.new.entries ≡ put_trades (held_trades trades.items) (trades_of current.old.entries) }
 {
     for trade in trades {
         put_one(current, trade);
@@ -33,30 +23,30 @@ pub fn put_all(current: &mut IndexMap<Name, Listed<CrifRow>>, trades: Vec<TradeR
 }
 
 // Puts one trade.
-fn put_one(current: &mut IndexMap<Name, Listed<CrifRow>>, put: TradeRows)
+fn put_one(current: &mut IndexMap<Name, HeldRows>, put: HeldTrade)
     requires { 0 < spare current.old }
-    ensures put { trades_of current.new.entries ≡ put_trade put (trades_of current.old.entries) }
+    ensures put { trades_of current.new.entries ≡ put_trade (held_trade put) (trades_of current.old.entries) }
     ensures room { spare current.old ≤ spare current.new + 1 }
 {
-    let TradeRows { trade, rows } = put;
+    let HeldTrade { trade, rows } = put;
     current.insert(trade, rows).unwrap();
 }
 
 /// The place, from 1, of the first name that is not current.
-pub fn first_unknown(current: &IndexMap<Name, Listed<CrifRow>>, names: &[Name]) -> Option<u64>
+pub fn first_unknown(current: &IndexMap<Name, HeldRows>, names: &[Name]) -> Option<u64>
     ensures { result ≡ first_unknown names.now (trades_of current.now.entries) }
 {
     let index = unknown_index(current, names)?;
     Some(index as u64 + 1)
 }
 
-fn unknown_index(current: &IndexMap<Name, Listed<CrifRow>>, names: &[Name]) -> Option<usize>
+fn unknown_index(current: &IndexMap<Name, HeldRows>, names: &[Name]) -> Option<usize>
     ensures { result ≡ position (λ name. not (is_current (trades_of current.now.entries) name)) names.now }
 {
     names.iter().position(|name| !is_current(current, name))
 }
 
-fn is_current(current: &IndexMap<Name, Listed<CrifRow>>, name: &Name) -> bool
+fn is_current(current: &IndexMap<Name, HeldRows>, name: &Name) -> bool
     ensures { result ≡ is_current (trades_of current.now.entries) name.now }
 {
     current.contains_key(name)
@@ -75,11 +65,11 @@ pub fn distinct_names(alloc: Global, names: &[Name]) -> Result<IndexSet<&Name>, 
 }
 
 /// Keeps the trades whose names are not among these.
-pub fn keep_others(current: &mut IndexMap<Name, Listed<CrifRow>>, names: &IndexSet<&Name>)
+pub fn keep_others(current: &mut IndexMap<Name, HeldRows>, names: &IndexSet<&Name>)
     ensures { current.new.entries ≡ filter (λ e. not (is_among names.now.keys e.0)) current.old.entries }
 {
     current.retain(
-        |name: &Name, rows: &mut Listed<CrifRow>| -> bool
+        |name: &Name, rows: &mut HeldRows| -> bool
             ensures { (result ≡ not (is_among names.entry.now.keys name.now)) × (rows.new ≡ rows.old) }
         { !has_name(names, name) },
     );

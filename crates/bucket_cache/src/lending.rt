@@ -3,9 +3,10 @@ ghost use Rattle.std.specs.Prelude.{◌≡◌, map, IfOk};
 ghost use Rattle.bucket_cache.specs.Live.{rows_in};
 ghost use Rattle.bucket_cache.specs.Entries.{trades_of, lent_lists, row_lists};
 
+use crate::held_rows::HeldRows;
 use crate::lent::LentRows;
 use indexmap::IndexMap;
-use simm_kinds::{CrifRow, Listed, Name, TradeRows};
+use simm_kinds::{CrifRow, Name, TradeRows};
 use std::alloc::{AllocError, Global};
 
 /// The rows of a batch.
@@ -24,7 +25,7 @@ pub fn lend_batch(alloc: Global, batch: &[TradeRows]) -> Result<Vec<LentRows<'_>
 /// The rows that the current trades have which a batch names, in the batch's order; of a trade that is not current none.
 pub fn lend_replaced<'a>(
     alloc: Global,
-    current: &'a IndexMap<Name, Listed<CrifRow>>,
+    current: &'a IndexMap<Name, HeldRows>,
     batch: &[TradeRows],
 ) -> Result<Vec<LentRows<'a>>, AllocError>
     ensures { IfOk result (λ lent. lent_lists lent.items ≡ map (λ t. rows_in (trades_of current.now.entries) t.trade) batch.now) }
@@ -41,7 +42,7 @@ pub fn lend_replaced<'a>(
 /// The rows that the current trades of these names have, in the names' order; of a trade that is not current none.
 pub fn lend_named<'a>(
     alloc: Global,
-    current: &'a IndexMap<Name, Listed<CrifRow>>,
+    current: &'a IndexMap<Name, HeldRows>,
     names: &[&Name],
 ) -> Result<Vec<LentRows<'a>>, AllocError>
     ensures { IfOk result (λ lent. lent_lists lent.items ≡ map (λ name. rows_in (trades_of current.now.entries) name.now) names.now) }
@@ -56,7 +57,7 @@ pub fn lend_named<'a>(
 }
 
 /// The rows of a trade, none where it is not current.
-pub fn rows_in<'a>(current: &'a IndexMap<Name, Listed<CrifRow>>, name: &Name) -> &'a [CrifRow]
+pub fn rows_in<'a>(current: &'a IndexMap<Name, HeldRows>, name: &Name) -> &'a [CrifRow]
     ensures { result.now ≡ rows_in (trades_of current.now.entries) name.now }
 {
     match current.get(name) {

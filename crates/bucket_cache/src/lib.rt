@@ -7,6 +7,7 @@ mod booking;
 mod changing;
 mod exchanging;
 mod fault;
+mod held_rows;
 mod lending;
 mod lent;
 mod live;

@@ -1,6 +1,6 @@
 ghost use Rattle.std.specs.Prelude.{◌≡◌, ◌+◌, ◌^◌, ◌<◌, ◌≤◌, ◌++◌, [], length, map, None, Some, Err, IsOk, IfOk, IfSome, OnOk, OnErr, ℕ, pos, ◌≤ℤ◌, ◌<ℤ◌, true, false, is_some};
 ghost use Rattle.std.specs.Option.{option_copied};
-ghost use Rattle.simm_kinds.specs.Batch.{IsBatch, rows_of};
+ghost use Rattle.simm_kinds.specs.Batch.{rows_of};
 ghost use Rattle.simm_rules.specs.declared.values.RangeFault.{RangeFault as Fault};
 ghost use Rattle.simm_rules.specs.Range.{range};
 ghost use Rattle.simm_rules.specs.Simm.{simm};
@@ -15,8 +15,9 @@ ghost use Rattle.bucket_cache.specs.Cached.{IsCached};
 ghost use Rattle.bucket_cache.specs.Live.{put_trades, without, named, rows_moved, first_unadmitted, first_unknown, name_at, rows_named};
 
 use crate::admitting::first_unadmitted;
-use crate::changing::{copies_of, distinct_names, first_unknown, keep_others, put_all};
+use crate::changing::{distinct_names, first_unknown, keep_others, put_all};
 use crate::fault::{SubmitFault, WithdrawFault};
+use crate::held_rows::{HeldRows, hold_trades};
 use crate::lending::rows_in;
 use crate::margining::margin_of;
 use crate::moving::{take_in, take_out};
@@ -27,7 +28,7 @@ use factor_book::BucketAt;
 use indexmap::IndexMap;
 use kept_buckets::KeptBuckets;
 use pair_sum::Steps;
-use simm_kinds::{BucketId, CrifRow, Listed, Measure, Name, ProductClass, RiskClass, TradeRows};
+use simm_kinds::{Batch, BucketId, CrifRow, Measure, Name, ProductClass, RiskClass};
 use simm_params::Params;
 use simm_rules::{Breakdown, BucketMargin};
 use std::alloc::{AllocError, Global};
@@ -40,7 +41,7 @@ use std::sync::ledger::{Blank, Ledger};
 #[derive(Drop)]
 pub struct LiveMargin {
     params: Params,
-    trades: IndexMap<Name, Listed<CrifRow>>,
+    trades: IndexMap<Name, HeldRows>,
     sums: Sums,
     kept: KeptBuckets,
     // the margin of the book, where nothing has changed since it was worked out
@@ -72,40 +73,40 @@ impl LiveMargin {
     }
 
     /// Takes a batch in: each trade has just these rows afterwards. A known trade keeps its place, and the new ones go
-    /// last in the batch's order. What is kept of a bucket is forgotten where a row lies in it that the batch adds or replaces,
-    /// and all else is kept. It costs the rows of the batch and of the trades that it replaces, each the logarithm of the number
-    /// of keys; no other row is looked at.
+    /// last in the batch's order. No row is copied: they stand once for the book and for all that hold the batch. What is kept
+    /// of a bucket is forgotten where a row lies in it that the batch adds or replaces, and all else is kept. It costs the rows
+    /// of the batch and of the trades that it replaces, each the logarithm of the number of keys; no other row is looked at.
     ///
     /// # Errors
     ///
     /// `BucketUnknown` exactly where a row is not admitted, with the place of the first such row; then `Range` exactly
     /// where the book afterwards would be out of range, with the first quantity that is above its limit; and `Memory` for
     /// want of memory. Nothing changes then.
-    pub fn submit(&mut self, alloc: Global, trades: &[TradeRows]) -> Result<(), SubmitFault>
-        requires { IsBatch trades.now }
-        ensures admitted { OnOk result (first_unadmitted self.old.params trades.now ≡ None) }
-        ensures in_range { OnOk result (range self.old.params (rows_of (put_trades trades.now self.old.book)) ≡ None) }
+    pub fn submit(&mut self, alloc: Global, batch: &Batch) -> Result<(), SubmitFault>
+        ensures admitted { OnOk result (first_unadmitted self.old.params batch.now ≡ None) }
+        ensures in_range { OnOk result (range self.old.params (rows_of (put_trades batch.now self.old.book)) ≡ None) }
         ensures params { OnOk result (self.new.params ≡ self.old.params) }
-        ensures book { OnOk result (self.new.book ≡ put_trades trades.now self.old.book) }
-        ensures kept { OnOk result (Forgets (rows_moved trades.now self.old.book) self.old.kept self.new.kept) }
-        ensures elsewhere { OnOk result (SameElsewhere (rows_moved trades.now self.old.book) (factors_of (rows_of self.old.book)) (factors_of (rows_of self.new.book))) }
+        ensures book { OnOk result (self.new.book ≡ put_trades batch.now self.old.book) }
+        ensures kept { OnOk result (Forgets (rows_moved batch.now self.old.book) self.old.kept self.new.kept) }
+        ensures elsewhere { OnOk result (SameElsewhere (rows_moved batch.now self.old.book) (factors_of (rows_of self.old.book)) (factors_of (rows_of self.new.book))) }
         ensures stale { OnOk result (self.new.is_fresh ≡ false) }
         ensures unadmitted { (trade row : ℕ) → result ≡ Err (SubmitFault.BucketUnknown trade row) →
-            first_unadmitted self.old.params trades.now ≡ Some (record { trade = trade; row = row }) }
+            first_unadmitted self.old.params batch.now ≡ Some (record { trade = trade; row = row }) }
         ensures range { (fault : Fault) → result ≡ Err (SubmitFault.Range fault) →
-            range self.old.params (rows_of (put_trades trades.now self.old.book)) ≡ Some fault }
+            range self.old.params (rows_of (put_trades batch.now self.old.book)) ≡ Some fault }
         ensures range_of_admitted { (fault : Fault) → result ≡ Err (SubmitFault.Range fault) →
-            first_unadmitted self.old.params trades.now ≡ None }
+            first_unadmitted self.old.params batch.now ≡ None }
         ensures unchanged { OnErr result (self.new ≡ self.old) }
     {
+        let trades = batch.trades();
         if let Some(at) = first_unadmitted(&self.params, trades) {
             return Err(SubmitFault::BucketUnknown {
                 trade: at.trade,
                 row: at.row,
             });
         }
-        let copies = copies_of(alloc, trades)?;
-        self.trades.reserve(copies.len())?;
+        let held = hold_trades(alloc, batch)?;
+        self.trades.reserve(held.len())?;
         let fault = take_in(
             alloc,
             &self.params,
@@ -117,7 +118,7 @@ impl LiveMargin {
         if let Some(fault) = fault {
             return Err(SubmitFault::Range(fault));
         }
-        put_all(&mut self.trades, copies);
+        put_all(&mut self.trades, held);
         self.last = None;
         Ok(())
     }

@@ -13,6 +13,7 @@ ghost use Rattle.bucket_cache.specs.Sums.{book_sums};
 ghost use Rattle.bucket_cache.specs.Held.{IsSummed, IsMoved};
 
 use crate::exchanging::exchange;
+use crate::held_rows::HeldRows;
 use crate::lending::{lend_batch, lend_named, lend_replaced};
 use crate::sums::Sums;
 use crate::touching::touch_lent;
@@ -22,7 +23,7 @@ use class_combine::sums_ignore_order;
 use factor_book::order_is_free;
 use indexmap::IndexMap;
 use kept_buckets::{KeptBuckets, other_factors_stand, touches_add_up};
-use simm_kinds::{CrifRow, Listed, Name, TradeRows};
+use simm_kinds::{Name, TradeRows};
 use simm_params::Params;
 use simm_rules::RangeFault;
 use std::alloc::{AllocError, Global};
@@ -36,7 +37,7 @@ use std::alloc::{AllocError, Global};
 pub fn take_in(
     alloc: Global,
     params: &Params,
-    current: &IndexMap<Name, Listed<CrifRow>>,
+    current: &IndexMap<Name, HeldRows>,
     sums: &mut Sums,
     kept: &mut KeptBuckets,
     batch: &[TradeRows],
@@ -75,7 +76,7 @@ pub fn take_in(
 pub fn take_out(
     alloc: Global,
     params: &Params,
-    current: &IndexMap<Name, Listed<CrifRow>>,
+    current: &IndexMap<Name, HeldRows>,
     sums: &mut Sums,
     kept: &mut KeptBuckets,
     names: &[&Name],

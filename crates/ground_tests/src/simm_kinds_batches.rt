@@ -177,10 +177,16 @@ fn each_factor_is_taken_into_a_batch(rt: HostRuntime) {
     }
 }
 
+/// The batch that `batch_with` makes, shared by its first holder, which is gone.
+fn shared_batch(rt: &(impl Abort + AllocGlobal), other: TradeRows) -> Batch {
+    let first = batch_with(rt, other).ok().expect(rt, "a batch");
+    first.share(rt.alloc()).ok().expect(rt, "memory")
+}
+
 #[test]
-fn a_batch_has_its_trades(rt: HostRuntime) {
+fn a_shared_batch_has_its_trades(rt: HostRuntime) {
     let other = trade(&rt, "T2", "EUR", 7, 2);
-    let batch = batch_with(&rt, other).ok().expect(&rt, "a batch");
+    let batch = shared_batch(&rt, other);
     let [_, other] = batch.trades() else {
         panic!(rt; "two trades");
     };

@@ -74,7 +74,7 @@ fn submit(alloc: Global, live: &mut LiveMargin, batch: &Batch) -> Result<Reply, 
     ensures caches { IfOk result (Caches live.old live.new (events.Submit batch.now)) }
     ensures unchanged { OnErr result (live.new ≡ live.old) }
 {
-    match live.submit(alloc, batch.trades()) {
+    match live.submit(alloc, batch) {
         Ok(()) => Ok(Reply::Accepted),
         Err(SubmitFault::BucketUnknown { trade, row }) => {
             Ok(Reply::Refused(Refusal::BucketUnknown { trade, row }))

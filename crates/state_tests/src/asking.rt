@@ -19,7 +19,7 @@ pub fn live(rt: &(impl Abort + AllocGlobal)) -> LiveMargin {
 
 /// Takes a batch in. It is to be accepted.
 pub fn submit(rt: &(impl Abort + AllocGlobal), live: &mut LiveMargin, batch: &Batch) {
-    assert!(rt; live.submit(rt.alloc(), batch.trades()).is_ok());
+    assert!(rt; live.submit(rt.alloc(), batch).is_ok());
 }
 
 fn asked<L: Ledger>(alloc: Global, live: &mut LiveMargin, blank: Blank) -> Option<i128>

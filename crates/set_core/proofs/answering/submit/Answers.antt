@@ -1,12 +1,11 @@
-use Rattle.std.proofs.Common.{◌≡◌, ℕ, Option, None, Some, refl, sym, ap, ◌∙◌, subst, Err}
+use Rattle.std.proofs.Common.{◌≡◌, ℕ, Option, None, Some, refl, sym, ap, ◌∙◌, Err}
 use Rattle.simm_rules.specs.declared.values.RangeFault.{RangeFault}
 use Rattle.bucket_cache.specs.declared.place.RowPlace.{RowPlace}
-use Rattle.collateral_ledger.specs.Holdings.{Holdings}
 use Rattle.set_core.specs.declared.event.Event.TheVariants as events
 use Rattle.set_core.specs.declared.reply.Reply.TheVariants as reply
 use Rattle.set_core.specs.declared.refusal.Refusal.TheVariants as refusal
 use Rattle.set_core.specs.Answer.{if_in_range, if_admitted}
-use Rattle.set_core.specs.Live.{Caches, Does, traded}
+use Rattle.set_core.specs.Live.{traded}
 use Rattle.set_core.proofs.Caching.{caches_moved}
 use Rattle.set_core.proofs.Changes.{other_trades}
 use Rattle.set_core.proofs.answering.submit.Goals as goal
@@ -21,21 +20,13 @@ unknown : (at : Option RowPlace) (found : Option RangeFault) (trade row : ℕ) �
 unknown at found trade row is = ap (λ o. if_admitted o found) (sym is)
 
 pub returns-in-Ok-clause-does : goal.returns-in-Ok-clause-does
-returns-in-Ok-clause-does c =
-    subst (λ batch. (h : Holdings) → Does (traded c.args.live.now) (traded c.submit.new.self) h h (events.Submit batch) reply.Accepted) c.trades.ensures.value
-    (λ h. record { value = accepted _ _ c.in-Ok.ensures.admitted c.in-Ok.ensures.in_range; live = other_trades c.submit.new.self c.args.live.now _ c.in-Ok.ensures.params c.in-Ok.ensures.book; ledger = refl })
+returns-in-Ok-clause-does c = λ h. record { value = accepted _ _ c.in-Ok.ensures.admitted c.in-Ok.ensures.in_range; live = other_trades c.submit.new.self c.args.live.now _ c.in-Ok.ensures.params c.in-Ok.ensures.book; ledger = refl }
 
 pub returns-in-Err-BucketUnknown-clause-does : goal.returns-in-Err-BucketUnknown-clause-does
-returns-in-Err-BucketUnknown-clause-does c =
-    subst (λ batch. (h : Holdings) → Does (traded c.args.live.now) (traded c.submit.new.self) h h (events.Submit batch) (reply.Refused (refusal.BucketUnknown c.in-Err-BucketUnknown.trade c.in-Err-BucketUnknown.row))) c.trades.ensures.value
-    (λ h. record { value = unknown _ _ _ _ (c.in-Err-BucketUnknown.ensures.unadmitted c.in-Err-BucketUnknown.trade c.in-Err-BucketUnknown.row (ap Err c.in-Err-BucketUnknown.field-0-is)); live = ap traded c.in-Err-BucketUnknown.ensures.unchanged; ledger = refl })
+returns-in-Err-BucketUnknown-clause-does c = λ h. record { value = unknown _ _ _ _ (c.in-Err-BucketUnknown.ensures.unadmitted c.in-Err-BucketUnknown.trade c.in-Err-BucketUnknown.row (ap Err c.in-Err-BucketUnknown.field-0-is)); live = ap traded c.in-Err-BucketUnknown.ensures.unchanged; ledger = refl }
 
 pub returns-in-Err-Range-clause-does : goal.returns-in-Err-Range-clause-does
-returns-in-Err-Range-clause-does c =
-    subst (λ batch. (h : Holdings) → Does (traded c.args.live.now) (traded c.submit.new.self) h h (events.Submit batch) (reply.Refused (refusal.Range c.in-Err-Range.fault))) c.trades.ensures.value
-    (λ h. record { value = out_of_range _ _ _ (c.in-Err-Range.ensures.range_of_admitted c.in-Err-Range.fault (ap Err c.in-Err-Range.field-0-is)) (c.in-Err-Range.ensures.range c.in-Err-Range.fault (ap Err c.in-Err-Range.field-0-is)); live = ap traded c.in-Err-Range.ensures.unchanged; ledger = refl })
+returns-in-Err-Range-clause-does c = λ h. record { value = out_of_range _ _ _ (c.in-Err-Range.ensures.range_of_admitted c.in-Err-Range.fault (ap Err c.in-Err-Range.field-0-is)) (c.in-Err-Range.ensures.range c.in-Err-Range.fault (ap Err c.in-Err-Range.field-0-is)); live = ap traded c.in-Err-Range.ensures.unchanged; ledger = refl }
 
 pub returns-in-Ok-clause-caches : goal.returns-in-Ok-clause-caches
-returns-in-Ok-clause-caches c =
-    subst (λ batch. Caches c.args.live.now c.submit.new.self (events.Submit batch) reply.Accepted) c.trades.ensures.value
-    (caches_moved c.args.live.now c.submit.new.self (events.Submit c.trades.result.now) refl c.in-Ok.ensures.kept c.in-Ok.ensures.elsewhere)
+returns-in-Ok-clause-caches c = caches_moved c.args.live.now c.submit.new.self (events.Submit c.args.batch.now) refl c.in-Ok.ensures.kept c.in-Ok.ensures.elsewhere

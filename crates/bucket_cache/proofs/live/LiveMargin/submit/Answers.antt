@@ -44,8 +44,8 @@ invariant_of-self-in-Some-fault c =
 
 pub returns-in-Some-fault-clause-range : goal.returns-in-Some-fault-clause-range
 returns-in-Some-fault-clause-range c = λ fault is.
-    sym (ap (λ (l : Live). range l.params (rows_of (put_trades c.args.trades.now l.book))) (seen_still c.self.inside.params (is_some c.self.inside.last) c.reserve.ensures.entries refl ∙ c.self.view_is))
-    ∙ sym c.in_ok-fault.ensures.range ∙ c.in-Some-fault.is ∙ ap Some (same_fault c.in-Some-fault.fault fault is)
+    sym (ap (λ (l : Live). range l.params (rows_of (put_trades c.args.batch.now l.book))) (seen_still c.self.inside.params (is_some c.self.inside.last) c.reserve.ensures.entries refl ∙ c.self.view_is))
+    ∙ sym (rw c.trades-trades.ensures.value at c.in_ok-fault.ensures.range) ∙ c.in-Some-fault.is ∙ ap Some (same_fault c.in-Some-fault.fault fault is)
 
 pub returns-in-Some-fault-clause-unchanged : goal.returns-in-Some-fault-clause-unchanged
 returns-in-Some-fault-clause-unchanged c =
@@ -54,29 +54,29 @@ returns-in-Some-fault-clause-unchanged c =
 pub invariant_of-self-2 : goal.invariant_of-self-2
 invariant_of-self-2 c =
     let us = trades_of c.reserve.new.self.entries in
-    held_after c.self.inside.params c.args.trades.now us _ c.self.inside.kept _ (rows_of us) (rows_moved c.args.trades.now us) _ c.requires (sym c.first_unadmitted.ensures ∙ c.in_default.is)
-    (summed_still c.self.inside.params (ap trades_of c.reserve.ensures.entries) c.self.invariant.summed).live (sym c.in_ok-fault.ensures.range ∙ c.in_default-fault.is)
-    (c.put_all.ensures ∙ ap (λ xs. put_trades xs us) c.in_ok-copies.ensures) (on_none c.in_ok-fault.fault _ c.in_default-fault.is c.in_ok-fault.ensures.moved)
+    held_after c.self.inside.params c.args.batch.now us _ c.self.inside.kept _ (rows_of us) (rows_moved c.args.batch.now us) _ c.trades-trades.ensures.batch (sym (rw c.trades-trades.ensures.value at c.first_unadmitted.ensures) ∙ c.in_default.is)
+    (summed_still c.self.inside.params (ap trades_of c.reserve.ensures.entries) c.self.invariant.summed).live (sym (rw c.trades-trades.ensures.value at c.in_ok-fault.ensures.range) ∙ c.in_default-fault.is)
+    (c.put_all.ensures ∙ ap (λ xs. put_trades xs us) c.in_ok-held.ensures) (on_none c.in_ok-fault.fault _ c.in_default-fault.is (rw c.trades-trades.ensures.value at c.in_ok-fault.ensures.moved))
 
 pub returns-clause-in_range : goal.returns-clause-in_range
 returns-clause-in_range c =
-    sym (ap (λ (l : Live). range l.params (rows_of (put_trades c.args.trades.now l.book))) (seen_still c.self.inside.params (is_some c.self.inside.last) c.reserve.ensures.entries refl ∙ c.self.view_is))
-    ∙ sym c.in_ok-fault.ensures.range ∙ c.in_default-fault.is
+    sym (ap (λ (l : Live). range l.params (rows_of (put_trades c.args.batch.now l.book))) (seen_still c.self.inside.params (is_some c.self.inside.last) c.reserve.ensures.entries refl ∙ c.self.view_is))
+    ∙ sym (rw c.trades-trades.ensures.value at c.in_ok-fault.ensures.range) ∙ c.in_default-fault.is
 
 pub returns-clause-book : goal.returns-clause-book
 returns-clause-book c =
-    c.put_all.ensures ∙ ap (λ xs. put_trades xs (trades_of c.reserve.new.self.entries)) c.in_ok-copies.ensures
-    ∙ ap (λ (l : Live). put_trades c.args.trades.now l.book) (seen_still c.self.inside.params (is_some c.self.inside.last) c.reserve.ensures.entries refl ∙ c.self.view_is)
+    c.put_all.ensures ∙ ap (λ xs. put_trades xs (trades_of c.reserve.new.self.entries)) c.in_ok-held.ensures
+    ∙ ap (λ (l : Live). put_trades c.args.batch.now l.book) (seen_still c.self.inside.params (is_some c.self.inside.last) c.reserve.ensures.entries refl ∙ c.self.view_is)
 
 pub returns-clause-kept : goal.returns-clause-kept
 returns-clause-kept c =
-    subst (λ (l : Live). Forgets (rows_moved c.args.trades.now l.book) l.kept c.take_in.new.kept) (seen_still c.self.inside.params (is_some c.self.inside.last) c.reserve.ensures.entries refl ∙ c.self.view_is)
-    (on_none c.in_ok-fault.fault _ c.in_default-fault.is c.in_ok-fault.ensures.moved).forgotten
+    subst (λ (l : Live). Forgets (rows_moved c.args.batch.now l.book) l.kept c.take_in.new.kept) (seen_still c.self.inside.params (is_some c.self.inside.last) c.reserve.ensures.entries refl ∙ c.self.view_is)
+    (on_none c.in_ok-fault.fault _ c.in_default-fault.is (rw c.trades-trades.ensures.value at c.in_ok-fault.ensures.moved)).forgotten
 
 pub returns-clause-elsewhere : goal.returns-clause-elsewhere
 returns-clause-elsewhere c =
     let us = trades_of c.reserve.new.self.entries in
-    subst (λ (l : Live). SameElsewhere (rows_moved c.args.trades.now l.book) (factors_of (rows_of l.book)) (factors_of (rows_of (trades_of c.put_all.new.current.entries))))
+    subst (λ (l : Live). SameElsewhere (rows_moved c.args.batch.now l.book) (factors_of (rows_of l.book)) (factors_of (rows_of (trades_of c.put_all.new.current.entries))))
     (seen_still c.self.inside.params (is_some c.self.inside.last) c.reserve.ensures.entries refl ∙ c.self.view_is)
-    (subst (λ book. SameElsewhere (rows_moved c.args.trades.now us) (factors_of (rows_of us)) (factors_of (rows_of book))) (sym (c.put_all.ensures ∙ ap (λ xs. put_trades xs us) c.in_ok-copies.ensures))
-    (on_none c.in_ok-fault.fault _ c.in_default-fault.is c.in_ok-fault.ensures.moved).elsewhere)
+    (subst (λ book. SameElsewhere (rows_moved c.args.batch.now us) (factors_of (rows_of us)) (factors_of (rows_of book))) (sym (c.put_all.ensures ∙ ap (λ xs. put_trades xs us) c.in_ok-held.ensures))
+    (on_none c.in_ok-fault.fault _ c.in_default-fault.is (rw c.trades-trades.ensures.value at c.in_ok-fault.ensures.moved)).elsewhere)
