@@ -22,7 +22,9 @@ use std::sync::ledger::Ledger;
 /// The values of the buckets of a class on the side of volatility, bucket by bucket in order.
 #[derive(Debug, Drop)]
 pub struct VolatilityParts {
+    /// The vega value of each bucket.
     pub vegas: Vec<(BucketId, BucketMargin)>,
+    /// The curvature value of each bucket.
     pub curvatures: Vec<(BucketId, BucketMargin)>,
 }
 

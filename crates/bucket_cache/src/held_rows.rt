@@ -38,7 +38,9 @@ impl HeldRows {
 /// A trade of a batch: its name, and its rows.
 #[derive(Drop)]
 pub struct HeldTrade {
+    /// Its name.
     pub trade: Name,
+    /// Its rows.
     pub rows: HeldRows,
 }
 

@@ -3,5 +3,6 @@ use simm_kinds::CrifRow;
 /// The rows of one trade, lent: a list of these is the rows of some trades in order, and no row of them is copied.
 #[derive(Clone, Copy, Debug)]
 pub struct LentRows<'a> {
+    /// The rows.
     pub rows: &'a [CrifRow],
 }

@@ -15,9 +15,13 @@ use std::alloc::{AllocError, Global};
 /// sums of their add-ons. A row that comes or goes costs the logarithm of the number of keys.
 #[derive(Drop)]
 pub struct Sums {
+    /// How many rows there are.
     pub rows: usize,
+    /// Their factors.
     pub factors: Factors,
+    /// Their gross sizes.
     pub sizes: GrossSizes,
+    /// The sums of their add-ons.
     pub add_ons: AddOnSums,
 }
 

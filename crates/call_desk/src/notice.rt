@@ -15,6 +15,7 @@ pub struct Notice {
     pub set: Name,
     /// The number of the call in its set.
     pub number: u32,
+    /// Whether collateral is delivered or returned.
     pub flow: Flow,
     /// In cents.
     pub amount: i64,

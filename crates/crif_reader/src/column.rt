@@ -4,16 +4,27 @@ ghost use Rattle.crif_reader.specs.Columns.{column_name};
 /// A column of a CRIF file that is read: ten that each file has, and the margin model, which it may lack.
 #[derive(Clone, Copy, Debug, PartialEq, Eq)]
 pub enum Column {
+    /// `TradeID`.
     TradeId,
+    /// `ProductClass`.
     ProductClass,
+    /// `RiskType`.
     RiskType,
+    /// `Qualifier`.
     Qualifier,
+    /// `Bucket`.
     Bucket,
+    /// `Label1`.
     Label1,
+    /// `Label2`.
     Label2,
+    /// `Amount`.
     Amount,
+    /// `AmountCurrency`.
     AmountCurrency,
+    /// `AmountUSD`.
     AmountUsd,
+    /// `IMModel`.
     ImModel,
 }
 

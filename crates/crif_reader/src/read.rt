@@ -25,7 +25,9 @@ const TOO_MANY: u32 = 100_002;
 /// What a CRIF file has: its rows, and how many records were passed over, being present values or of the schedule.
 #[derive(Debug, Drop)]
 pub struct ReadBatch {
+    /// The rows, by trade.
     pub batch: Batch,
+    /// How many records gave no row.
     pub passed_over: u32,
 }
 

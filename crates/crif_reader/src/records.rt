@@ -23,7 +23,9 @@ const RECORD_FIELDS: usize = 16;
 /// without quotes are read without it, and their fields are not copied.
 #[derive(Drop)]
 pub enum Records<'a> {
+    /// Bytes with quotes, as csv reads them.
     Quoted(Box<QuotedRecords<'a>>),
+    /// Bytes without quotes, cut in place.
     Plain(PlainRecords<'a>),
 }
 

@@ -20,7 +20,9 @@ use std::alloc::Global;
 /// A row, and the name of the trade that it belongs to, which the record lends; it is empty for a parameter of an add-on.
 #[derive(Drop)]
 pub struct Entry<'a> {
+    /// The name of the trade.
     pub trade: &'a [u8],
+    /// The row.
     pub row: CrifRow,
 }
 

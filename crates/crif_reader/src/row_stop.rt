@@ -4,7 +4,9 @@ use std::alloc::AllocError;
 /// Why the reading of a record stops: its fault, or want of memory.
 #[derive(Clone, Copy, Debug)]
 pub enum RowStop {
+    /// The record's fault.
     Fault(RowFault),
+    /// There was no memory.
     Memory,
 }
 

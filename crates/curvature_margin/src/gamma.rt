@@ -14,8 +14,11 @@ use simm_params::Params;
 /// Those of numbered buckets, by their places among those that the file lists.
 #[derive(Drop)]
 pub struct SquaredGamma<'a> {
+    /// The parameters.
     pub params: &'a Params,
+    /// The class.
     pub class: ListedClass,
+    /// The places of the buckets.
     pub places: Vec<usize>,
     ghost symmetric: { (i j : ℕ) → with_itself (squared_at (gamma_in params.now class) places.items) i j ≡ with_itself (squared_at (gamma_in params.now class) places.items) j i },
     ghost at_most_one: { (i j : ℕ) → unsigned_abs (with_itself (squared_at (gamma_in params.now class) places.items) i j) ≤ 1000000 },
@@ -53,6 +56,7 @@ impl Correlation for SquaredGamma<'_> {
 pub struct EvenGamma {
     /// How many buckets there are.
     pub count: usize,
+    /// The correlation, squared.
     pub gamma: Corr6,
     ghost symmetric: { (i j : ℕ) → with_itself (λ _ _. gamma.0) i j ≡ with_itself (λ _ _. gamma.0) j i },
     ghost at_most_one: { (i j : ℕ) → unsigned_abs (with_itself (λ _ _. gamma.0) i j) ≤ 1000000 },

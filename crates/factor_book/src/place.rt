@@ -28,9 +28,13 @@ impl BookSide {
 /// are ordered by these parts. Base correlations stand in the bucket `Single` of the delta side of `CreditQ`.
 #[derive(Clone, Copy, Debug, PartialEq, Eq, PartialOrd, Ord)]
 pub struct Place {
+    /// The product class.
     pub product: ProductClass,
+    /// The risk class.
     pub class: RiskClass,
+    /// The side.
     pub side: BookSide,
+    /// The bucket.
     pub bucket: BucketId,
 }
 

@@ -12,6 +12,7 @@ use std::alloc::Global;
 pub struct FeedJob<S: Source> {
     /// Its number, from 0.
     pub number: u32,
+    /// Its lines.
     pub lines: Lines<S>,
     /// A seat for each set, in their order, by which it calls that set.
     pub seats: Vec<Seat<SetState>>,

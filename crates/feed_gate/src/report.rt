@@ -70,6 +70,7 @@ pub struct FeedReport {
     pub done: u32,
     /// The others, in the order of their lines.
     pub refused: Listed<RefusedMessage>,
+    /// How it ended.
     pub end: FeedEnd,
 }
 

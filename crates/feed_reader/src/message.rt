@@ -53,7 +53,9 @@ pub enum Message {
 /// A message, with the number of its first line.
 #[derive(Debug, Drop)]
 pub struct Fed {
+    /// The number of its first line, from 1.
     pub line: u32,
+    /// The message.
     pub message: Message,
 }
 

@@ -13,7 +13,9 @@ use std::sync::atomic::AtomicU64;
 // What the table is told as it is made.
 #[derive(Drop)]
 pub struct Start<M> {
+    /// The machine.
     pub machine: Snapshot<M>,
+    /// How many callers there are.
     pub callers: u32,
 }
 

@@ -4,8 +4,11 @@ use std::collections::LinkedList;
 
 /// One of the two seats that a joined seat was made of, as it was then. No value of it is made.
 pub struct Part<E, R> {
+    /// Its first caller.
     pub first: u32,
+    /// How many callers it stood for.
     pub count: u32,
+    /// The journal that it had seen.
     pub seen: LinkedList<Entry<E, R>>,
 }
 
@@ -13,8 +16,11 @@ pub struct Part<E, R> {
 pub struct View<B, E, R> {
     /// The base of the machine that the cell was started with. A seat that went into another has none.
     pub base: Option<B>,
+    /// Its first caller.
     pub first: u32,
+    /// How many callers it stands for.
     pub count: u32,
+    /// The journal that it has seen.
     pub seen: LinkedList<Entry<E, R>>,
     /// Whether the machine is out with this seat.
     pub holding: bool,

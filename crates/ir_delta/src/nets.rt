@@ -12,6 +12,7 @@ use std::alloc::{AllocError, Global};
 /// The net sensitivity to one rate of a currency.
 #[derive(Clone, Copy, Debug)]
 pub struct RateNet {
+    /// The rate.
     pub rate: Rate,
     /// In cents.
     pub net: i128,

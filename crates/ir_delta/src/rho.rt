@@ -12,7 +12,9 @@ use weighted_bucket::Rho;
 /// The parameters' correlations of the rates of one currency, by their places.
 #[derive(Drop)]
 pub struct RateRho<'a> {
+    /// The parameters.
     pub params: &'a Params,
+    /// The rates.
     pub rates: Vec<Rate>,
     ghost symmetric: { (i j : ℕ) → rho_at params.now rates.items i j ≡ rho_at params.now rates.items j i },
     ghost at_most_one: { (i j : ℕ) → unsigned_abs (rho_at params.now rates.items i j) ≤ 1000000 },

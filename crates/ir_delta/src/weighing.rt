@@ -18,7 +18,9 @@ use weighted_bucket::{Weighed, weigh};
 /// The rates of a bucket, and each one weighed.
 #[derive(Drop)]
 pub struct WeighedRates {
+    /// The rates.
     pub rates: Vec<Rate>,
+    /// Each of them weighed, at the same places.
     pub factors: Vec<Weighed>,
 }
 

@@ -12,11 +12,17 @@ use simm_kinds::{ProductClass, RiskClass};
 /// Those of one product class.
 #[derive(Clone, Copy, Debug, PartialEq, Eq)]
 pub struct KeptClasses {
+    /// That of interest rates.
     pub ir: Option<Cents>,
+    /// That of credit that qualifies.
     pub credit_q: Option<Cents>,
+    /// That of credit that does not qualify.
     pub credit_nonq: Option<Cents>,
+    /// That of equity.
     pub equity: Option<Cents>,
+    /// That of commodities.
     pub commodity: Option<Cents>,
+    /// That of foreign exchange.
     pub fx: Option<Cents>,
 }
 
@@ -67,9 +73,13 @@ impl KeptClasses {
 /// Those of all product classes.
 #[derive(Clone, Copy, Debug, PartialEq, Eq)]
 pub struct KeptMargins {
+    /// Those of interest rates and foreign exchange.
     pub rates_fx: KeptClasses,
+    /// Those of credit.
     pub credit: KeptClasses,
+    /// Those of equity.
     pub equity: KeptClasses,
+    /// Those of commodities.
     pub commodity: KeptClasses,
 }
 

@@ -16,7 +16,9 @@ pub enum KeptValue {
 /// The values of a bucket on the side of volatility.
 #[derive(Clone, Copy, Debug, PartialEq, Eq)]
 pub struct VolatilityMargins {
+    /// The vega value.
     pub vega: BucketMargin,
+    /// The curvature value.
     pub curvature: BucketMargin,
 }
 

@@ -48,6 +48,7 @@ pub enum Supply {
 /// There was no memory; what was handed in comes back.
 #[derive(Debug, Drop)]
 pub struct MemoryBack<T> {
+    /// What was handed in.
     pub back: T,
 }
 

@@ -5,6 +5,7 @@ use crate::sink::Sink;
 /// A sink failed after it took this many bytes.
 #[derive(Clone, Copy, Debug, PartialEq, Eq)]
 pub struct PutFault {
+    /// How many bytes it took.
     pub put: usize,
 }
 

@@ -12,6 +12,7 @@ const FAR: u64 = 1000;
 /// A numeral taken apart. Of a text that is no numeral it has what stands in these places.
 #[derive(Clone, Copy)]
 pub struct Parts<'a> {
+    /// Whether a minus stands first.
     pub negative: bool,
     /// The digits before the point.
     pub whole: &'a [u8],
@@ -19,7 +20,9 @@ pub struct Parts<'a> {
     pub fraction: &'a [u8],
     /// What follows these digits: nothing, or an exponent.
     pub rest: &'a [u8],
+    /// Whether the exponent has a minus.
     pub exponent_negative: bool,
+    /// The digits of the exponent.
     pub exponent: &'a [u8],
 }
 

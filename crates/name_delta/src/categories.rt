@@ -10,7 +10,9 @@ use weighted_bucket::Rho;
 /// The correlations of the currencies of a bucket, by the volatility categories of both.
 #[derive(Drop)]
 pub struct CategoryRho<'a> {
+    /// The parameters.
     pub params: &'a Params,
+    /// The volatility categories of the currencies.
     pub categories: Vec<VolatilityCategory>,
     ghost symmetric: { (a b : Category) → rho_of params.now a b ≡ rho_of params.now b a },
     ghost at_most_one: { (a b : Category) → unsigned_abs (rho_of params.now a b) ≤ 1000000 },

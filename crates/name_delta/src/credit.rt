@@ -27,8 +27,11 @@ use weighted_bucket::{Grouped, Scaling, Weighed, bucket_margin, group_cr, weigh}
 /// A bucket of a class of credit in a product class.
 #[derive(Clone, Copy, Debug)]
 pub struct CreditAt {
+    /// The product class.
     pub product: ProductClass,
+    /// The class.
     pub kind: CreditKind,
+    /// The bucket.
     pub bucket: Bucket,
 }
 

@@ -8,6 +8,7 @@ use weighted_bucket::Rho;
 pub struct EvenRho {
     /// How many factors there are.
     pub count: usize,
+    /// The correlation.
     pub rho: Corr6,
     ghost at_most_one: { unsigned_abs rho.0 ≤ 1000000 },
 }

@@ -12,8 +12,11 @@ use simm_params::Params;
 /// The correlations of numbered buckets, by their places among those that the file lists.
 #[derive(Drop)]
 pub struct GammaTable<'a> {
+    /// The parameters.
     pub params: &'a Params,
+    /// The class.
     pub class: NamedClass,
+    /// The places of the buckets.
     pub places: Vec<usize>,
     ghost symmetric: { (i j : ℕ) → with_itself (gamma_at (gamma_in params.now class) places.items) i j ≡ with_itself (gamma_at (gamma_in params.now class) places.items) j i },
     ghost at_most_one: { (i j : ℕ) → unsigned_abs (with_itself (gamma_at (gamma_in params.now class) places.items) i j) ≤ 1000000 },

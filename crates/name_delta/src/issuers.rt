@@ -7,6 +7,7 @@ use weighted_bucket::{Grouped, Rho};
 /// The correlations of the points of a bucket of credit, by the numbers of their issuers.
 #[derive(Drop)]
 pub struct IssuerRho<'a> {
+    /// The points, each with the number of its issuer.
     pub grouped: &'a [Grouped],
     /// Of two points of one issuer.
     pub same: Corr6,

@@ -12,7 +12,9 @@ use simm_params::{CreditKind, Params, PricedKind};
 /// A class of which the file lists buckets.
 #[derive(Clone, Copy, Debug)]
 pub enum NamedClass {
+    /// A class of credit.
     Credit(CreditKind),
+    /// Equity or commodities.
     Priced(PricedKind),
 }
 

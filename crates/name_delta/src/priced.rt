@@ -27,8 +27,11 @@ use weighted_bucket::{Scaling, Weighed, bucket_margin};
 /// A bucket of equity or of commodities in a product class.
 #[derive(Clone, Copy, Debug)]
 pub struct PricedAt {
+    /// The product class.
     pub product: ProductClass,
+    /// The class.
     pub kind: PricedKind,
+    /// The bucket.
     pub bucket: Bucket,
 }
 

@@ -4,9 +4,13 @@ ghost use Rattle.params_file.specs.BucketClass.{class_key, has_residual};
 /// The risk classes that have buckets, in their order.
 #[derive(Clone, Copy, Debug)]
 pub enum BucketClass {
+    /// Credit that qualifies.
     CreditQ,
+    /// Credit that does not qualify.
     CreditNonQ,
+    /// Equity.
     Equity,
+    /// Commodities.
     Commodity,
 }
 

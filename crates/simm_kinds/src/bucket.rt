@@ -8,7 +8,9 @@ use crate::words::is_word;
 /// The bucket of an issuer or an index: one of the numbered ones, or the residual one, which comes last.
 #[derive(Clone, Copy, Debug, PartialEq, Eq, PartialOrd, Ord, Hash)]
 pub enum Bucket {
+    /// A bucket with a number, from 1.
     Number(BucketNumber),
+    /// The bucket of what fits in no other.
     Residual,
 }
 

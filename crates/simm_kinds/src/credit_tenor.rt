@@ -7,10 +7,15 @@ use crate::Tenor;
 /// A vertex of a credit spread: one of five years of the grid of tenors.
 #[derive(Clone, Copy, Debug, PartialEq, Eq, PartialOrd, Ord, Hash)]
 pub enum CreditTenor {
+    /// One year.
     Y1,
+    /// Two years.
     Y2,
+    /// Three years.
     Y3,
+    /// Five years.
     Y5,
+    /// Ten years.
     Y10,
 }
 

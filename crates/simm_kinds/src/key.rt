@@ -8,7 +8,9 @@ use std::alloc::{AllocError, Global};
 /// ordered by the product class, and then by the factor.
 #[derive(Debug, Drop, PartialEq, Eq, PartialOrd, Ord, Hash)]
 pub struct FactorKey {
+    /// The product class of the trade.
     pub product: ProductClass,
+    /// What the sensitivity is to.
     pub factor: Factor,
 }
 

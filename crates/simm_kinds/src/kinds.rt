@@ -9,9 +9,13 @@ use crate::{BucketNumber, Currency};
 /// The product class of a trade. Margins of different product classes never net.
 #[derive(Clone, Copy, Debug, PartialEq, Eq, PartialOrd, Ord, Hash)]
 pub enum ProductClass {
+    /// Interest rates and foreign exchange.
     RatesFX,
+    /// Credit.
     Credit,
+    /// Equity.
     Equity,
+    /// Commodities.
     Commodity,
 }
 
@@ -61,11 +65,17 @@ impl Worded for ProductClass {
 /// The risk class that a sensitivity belongs to.
 #[derive(Clone, Copy, Debug, PartialEq, Eq, PartialOrd, Ord, Hash)]
 pub enum RiskClass {
+    /// Interest rates, with inflation and cross-currency basis.
     IR,
+    /// Credit that qualifies.
     CreditQ,
+    /// Credit that does not qualify.
     CreditNonQ,
+    /// Equity.
     Equity,
+    /// Commodities.
     Commodity,
+    /// Foreign exchange.
     FX,
 }
 
@@ -115,9 +125,13 @@ impl Worded for RiskClass {
 /// What part of a class's margin a sum is for.
 #[derive(Clone, Copy, Debug, PartialEq, Eq, PartialOrd, Ord, Hash)]
 pub enum Measure {
+    /// Changes of the values themselves.
     Delta,
+    /// Changes of volatilities.
     Vega,
+    /// What second-order changes add, worked out from the volatility sensitivities.
     Curvature,
+    /// Changes of base correlations, in credit that qualifies alone.
     BaseCorr,
 }
 
@@ -125,34 +139,58 @@ pub enum Measure {
 /// correlation. Vega and curvature are both margins of the volatility side.
 #[derive(Clone, Copy, Debug, PartialEq, Eq, PartialOrd, Ord, Hash)]
 pub enum Side {
+    /// The value's own change.
     Delta,
+    /// The change of a volatility.
     Volatility,
+    /// The change of a base correlation.
     BaseCorr,
 }
 
 /// The risk type of a CRIF record, in the order of the standard's table. `Pv` never stands in a row that is kept.
 #[derive(Clone, Copy, Debug, PartialEq, Eq, PartialOrd, Ord, Hash)]
 pub enum RiskType {
+    /// A point of an interest rate curve.
     IrCurve,
+    /// The inflation of a currency.
     Inflation,
+    /// The cross-currency basis of a currency.
     XccyBasis,
+    /// A volatility of an interest rate.
     IrVol,
+    /// A volatility of inflation.
     InflationVol,
+    /// A point of a credit curve that qualifies.
     CreditQ,
+    /// A volatility of credit that qualifies.
     CreditVol,
+    /// A point of a credit curve that does not qualify.
     CreditNonQ,
+    /// A volatility of credit that does not qualify.
     CreditVolNonQ,
+    /// The base correlation of an index.
     BaseCorr,
+    /// An equity price.
     Equity,
+    /// A volatility of an equity.
     EquityVol,
+    /// A commodity price.
     Commodity,
+    /// A volatility of a commodity.
     CommodityVol,
+    /// An exchange rate.
     Fx,
+    /// A volatility of a pair of currencies.
     FxVol,
+    /// The notional of a trade, for an add-on.
     Notional,
+    /// A parameter: the share of a qualifier's notional that is added on.
     AddOnNotionalFactor,
+    /// A parameter: a fixed amount that is added on.
     AddOnFixedAmount,
+    /// A parameter: what the margin of a product class is multiplied by.
     ProductClassMultiplier,
+    /// A present value, which no margin reads.
     Pv,
 }
 
@@ -232,17 +270,29 @@ impl Worded for RiskType {
 /// A vertex of the standard's grid of maturities: weeks, months, years.
 #[derive(Clone, Copy, Debug, PartialEq, Eq, PartialOrd, Ord, Hash)]
 pub enum Tenor {
+    /// Two weeks.
     W2,
+    /// One month.
     M1,
+    /// Three months.
     M3,
+    /// Six months.
     M6,
+    /// One year.
     Y1,
+    /// Two years.
     Y2,
+    /// Three years.
     Y3,
+    /// Five years.
     Y5,
+    /// Ten years.
     Y10,
+    /// Fifteen years.
     Y15,
+    /// Twenty years.
     Y20,
+    /// Thirty years.
     Y30,
 }
 
@@ -307,12 +357,19 @@ impl Worded for Tenor {
 /// The sub-curve of an interest rate sensitivity.
 #[derive(Clone, Copy, Debug, PartialEq, Eq, PartialOrd, Ord, Hash)]
 pub enum SubCurve {
+    /// Overnight index swaps.
     Ois,
+    /// The one-month rate.
     Libor1m,
+    /// The three-month rate.
     Libor3m,
+    /// The six-month rate.
     Libor6m,
+    /// The twelve-month rate.
     Libor12m,
+    /// The prime rate, of the US dollar.
     Prime,
+    /// The municipal rate, of the US dollar.
     Municipal,
 }
 
@@ -365,8 +422,12 @@ impl Worded for SubCurve {
 /// rates), or the one bucket of a class that has no others.
 #[derive(Clone, Copy, Debug, PartialEq, Eq, PartialOrd, Ord, Hash)]
 pub enum BucketId {
+    /// A bucket with a number, from 1.
     Number(BucketNumber),
+    /// The bucket of what fits in no other.
     Residual,
+    /// The bucket of a currency, in interest rates.
     Currency(Currency),
+    /// The one bucket of exchange rates, and of base correlations.
     Single,
 }

@@ -34,7 +34,9 @@ pub enum CrifRow {
 /// The rows of one trade. The empty name is the trade that holds the parameters of add-ons.
 #[derive(Debug, Drop)]
 pub struct TradeRows {
+    /// The name of the trade.
     pub trade: Name,
+    /// Its rows, in the order of the file.
     pub rows: Listed<CrifRow>,
 }
 

@@ -11,6 +11,7 @@ pub const MOST_BUCKETS: usize = 65;
 /// What the parameters say of a bucket in each class that has buckets.
 #[derive(Clone, Copy, Debug)]
 pub struct BucketTerms {
+    /// Which bucket of its class it is.
     pub id: Bucket,
     /// The risk weight.
     pub weight: Rate4,
@@ -28,7 +29,9 @@ pub struct BucketTerms {
 /// one name, in equity and commodities the volatility.
 #[derive(Clone, Copy, Debug)]
 pub struct ClassBucket {
+    /// What buckets of each class have.
     pub terms: BucketTerms,
+    /// The rate of its kind of class.
     pub own: Rate4,
 }
 

@@ -1,13 +1,17 @@
 /// A class of credit.
 #[derive(Clone, Copy, Debug, PartialEq, Eq)]
 pub enum CreditKind {
+    /// Credit that qualifies.
     Qualifying,
+    /// Credit that does not qualify.
     NonQualifying,
 }
 
 /// A class of names that have a price.
 #[derive(Clone, Copy, Debug, PartialEq, Eq)]
 pub enum PricedKind {
+    /// Equity.
     Equities,
+    /// Commodities.
     Commodities,
 }

@@ -42,6 +42,7 @@ pub struct BaseParams {
 /// What the parameters say of a bucket of credit.
 #[derive(Clone, Copy, Debug)]
 pub struct CreditBucket {
+    /// What buckets of each class have.
     pub terms: BucketTerms,
     /// The correlation of two factors of one name.
     pub same: Rate4,
@@ -50,6 +51,7 @@ pub struct CreditBucket {
 /// What the parameters say of a bucket of equity or of commodities.
 #[derive(Clone, Copy, Debug)]
 pub struct PricedBucket {
+    /// What buckets of each class have.
     pub terms: BucketTerms,
     /// The volatility.
     pub sigma: Rate4,

@@ -13,7 +13,9 @@ use std::marker::Model;
 /// A concentration group of currencies.
 #[derive(Debug, Drop)]
 pub struct CurrencyGroup {
+    /// The currencies of the group, as the file has them.
     pub currencies: CurrencyList,
+    /// Their thresholds.
     pub thresholds: Thresholds,
 }
 

@@ -9,15 +9,20 @@ use std::alloc::{AllocError, Global};
 /// Risk weights by the volatility of a currency.
 #[derive(Clone, Copy, Debug)]
 pub struct FxWeights {
+    /// Of a currency of regular volatility.
     pub regular: Rate4,
+    /// Of a currency of high volatility.
     pub high: Rate4,
 }
 
 /// Rates by the volatilities of two currencies: both regular, mixed, both high.
 #[derive(Clone, Copy, Debug)]
 pub struct PairRates {
+    /// Where both are of regular volatility.
     pub regular: Rate4,
+    /// Where one is of high volatility.
     pub mixed: Rate4,
+    /// Where both are of high volatility.
     pub high: Rate4,
 }
 
@@ -39,8 +44,11 @@ impl PairRates {
 /// Concentration thresholds in cents, by the concentration category of a currency.
 #[derive(Clone, Copy, Debug)]
 pub struct FxThresholds {
+    /// Of the first category.
     pub first: i64,
+    /// Of the second category.
     pub second: i64,
+    /// Of the third category.
     pub third: i64,
 }
 
@@ -64,8 +72,11 @@ impl FxThresholds {
 /// other.
 #[derive(Clone, Copy, Debug)]
 pub struct PairThresholds {
+    /// Of the first category.
     pub first: FxThresholds,
+    /// Of the second category.
     pub second: FxThresholds,
+    /// Of the third category.
     pub third: FxThresholds,
 }
 
@@ -88,6 +99,7 @@ impl PairThresholds {
 /// The parameters of sensitivities to the volatility of a currency pair.
 #[derive(Clone, Copy, Debug)]
 pub struct FxVolatilities {
+    /// Thresholds of sensitivities to the volatility of a pair.
     pub thresholds: PairThresholds,
     /// Volatilities.
     pub sigmas: PairRates,
@@ -104,6 +116,7 @@ pub struct FxVolatilities {
 pub struct FxParams {
     /// The currencies of high volatility; all others are regular.
     pub high: CurrencyList,
+    /// Risk weights of currencies.
     pub weights: FxWeights,
     /// Correlations of two currencies.
     pub rhos: PairRates,
@@ -113,6 +126,7 @@ pub struct FxParams {
     pub second: CurrencyList,
     /// Thresholds of sensitivities to a currency.
     pub thresholds: FxThresholds,
+    /// What sensitivities to volatilities need.
     pub volatilities: FxVolatilities,
 }
 

@@ -11,9 +11,13 @@ use std::alloc::{AllocError, Global};
 /// The parameters of the risk classes that have buckets.
 #[derive(Debug, Drop)]
 pub struct ClassTables {
+    /// Credit that qualifies.
     pub credit_q: CreditParams,
+    /// Credit that does not qualify.
     pub credit_nq: CreditParams,
+    /// Equity.
     pub equity: PricedParams,
+    /// Commodities.
     pub commodity: PricedParams,
 }
 
@@ -36,14 +40,19 @@ impl ClassTables {
 /// All that a file says, each value in its range.
 #[derive(Debug, Drop)]
 pub struct Tables {
+    /// The currency that margins are calculated in; exchange rates of it have no risk.
     pub calculation_currency: Currency,
     /// The base of the curvature scale, in millionths.
     pub lambda_base: Corr6,
     /// The correlations of the risk classes, in their order.
     pub psi: Matrix,
+    /// Interest rates.
     pub ir: IrParams,
+    /// Foreign exchange.
     pub fx: FxParams,
+    /// The classes that have buckets.
     pub classes: ClassTables,
+    /// Base correlations.
     pub base: BaseParams,
 }
 

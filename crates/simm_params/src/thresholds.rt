@@ -5,7 +5,9 @@ ghost use Rattle.simm_params.specs.ThresholdKinds.{threshold_key, weight_beside,
 /// The concentration thresholds of delta and of vega, in cents.
 #[derive(Clone, Copy, Debug)]
 pub struct Thresholds {
+    /// That of delta.
     pub delta: i64,
+    /// That of vega.
     pub vega: i64,
 }
 
@@ -13,7 +15,9 @@ pub struct Thresholds {
 /// for vega, whose sensitivities are weighted already.
 #[derive(Clone, Copy, Debug, PartialEq, Eq)]
 pub enum ThresholdKind {
+    /// That of delta.
     Delta,
+    /// That of vega.
     Vega,
 }
 

@@ -4,7 +4,9 @@ ghost use Rattle.toml_values.specs.Ranges.{is_within, IsWithin};
 /// The numbers from `least` to `most`, both included.
 #[derive(Clone, Copy, Debug, PartialEq, Eq)]
 pub struct Range {
+    /// The least of them.
     pub least: i64,
+    /// The greatest of them.
     pub most: i64,
 }
 

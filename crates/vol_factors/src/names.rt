@@ -16,6 +16,7 @@ use std::alloc::{AllocError, Global};
 /// What the net changes for one unit of the volatility of a name come to over its tenors.
 #[derive(Clone, Copy, Debug)]
 pub struct NameSum<'a> {
+    /// The name.
     pub name: &'a FullName,
     /// In cents, each net times what its tenor counts.
     pub sum: i128,

@@ -15,6 +15,7 @@ use std::alloc::{AllocError, Global};
 /// What the net changes for one unit of the volatility of a pair come to over its tenors.
 #[derive(Clone, Copy, Debug)]
 pub struct PairSum {
+    /// The pair.
     pub pair: CurrencyPair,
     /// In cents, each net times what its tenor counts.
     pub sum: i128,

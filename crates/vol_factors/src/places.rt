@@ -11,23 +11,31 @@ use simm_params::{CreditKind, PricedKind};
 /// The bucket of a currency in a product class.
 #[derive(Clone, Copy, Debug)]
 pub struct CurrencyAt {
+    /// The product class.
     pub product: ProductClass,
+    /// The currency.
     pub currency: Currency,
 }
 
 /// A bucket of a class of credit in a product class.
 #[derive(Clone, Copy, Debug)]
 pub struct CreditAt {
+    /// The product class.
     pub product: ProductClass,
+    /// The class.
     pub kind: CreditKind,
+    /// The bucket.
     pub bucket: Bucket,
 }
 
 /// A bucket of equity or of commodities in a product class.
 #[derive(Clone, Copy, Debug)]
 pub struct PricedAt {
+    /// The product class.
     pub product: ProductClass,
+    /// The class.
     pub kind: PricedKind,
+    /// The bucket.
     pub bucket: Bucket,
 }
 

@@ -12,7 +12,9 @@ use weighted_bucket::Rho;
 /// The parameters' correlations of the volatilities of one currency, by their places.
 #[derive(Drop)]
 pub struct VolatilityRho<'a> {
+    /// The parameters.
     pub params: &'a Params,
+    /// The volatilities.
     pub sums: &'a [VolatilitySum],
     ghost symmetric: { (i j : ℕ) → rho_at params.now sums.now i j ≡ rho_at params.now sums.now j i },
     ghost at_most_one: { (i j : ℕ) → unsigned_abs (rho_at params.now sums.now i j) ≤ 1000000 },

@@ -12,6 +12,7 @@ use std::alloc::{AllocError, Global};
 /// The net sensitivity to a volatility of a currency.
 #[derive(Clone, Copy, Debug)]
 pub struct VolatilitySum {
+    /// The volatility.
     pub volatility: Volatility,
     /// In cents, times what the tenor counts.
     pub sum: i128,

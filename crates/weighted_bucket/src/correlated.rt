@@ -14,8 +14,11 @@ use pair_sum::Correlation;
 /// The correlations of the factors of one bucket, by their places.
 #[derive(Drop)]
 pub struct Correlated<'a, R: Rho, W: Way> {
+    /// The class's table of correlations.
     pub rho: &'a R,
+    /// The factors, weighed, at the same places.
     pub factors: &'a [Weighed],
+    /// How concentrations count in a pair.
     pub way: W,
     ghost sized: { R.size rho.now ≡ length factors.now },
     ghost from_one: { All (λ factor. one ≤ℤ factor.cr.0) factors.now },
