@@ -68,8 +68,9 @@ impl LiveMargin {
         ensures book { IfOk result (λ live. live.book ≡ []) }
         ensures fresh { IfOk result (λ live. live.is_fresh ≡ true) }
     {
-        let live = LiveMargin::without_margin(alloc, params);
-        live.with_margin::<Brand>(alloc, Blank::new(1))
+        let mut live = LiveMargin::without_margin(alloc, params);
+        live.know_margin::<Brand>(alloc, Blank::new(1))?;
+        Ok(live)
     }
 
     /// Takes a batch in: each trade has just these rows afterwards. A known trade keeps its place, and the new ones go
@@ -265,19 +266,18 @@ impl LiveMargin {
         Some(rows.as_slice())
     }
 
-    // The same once its margin is known, whose steps are counted in a ledger of their own. Want of memory is the only error.
-    fn with_margin<L: Ledger>(self, alloc: Global, blank: Blank) -> Result<LiveMargin, AllocError>
+    // Works the margin out, whose steps are counted in a ledger of their own. Want of memory is the only error.
+    fn know_margin<L: Ledger>(&mut self, alloc: Global, blank: Blank) -> Result<(), AllocError>
         requires name { blank.name ≡ L.name }
         requires parts { blank.parts ≡ L.parts }
         requires some { 0 < blank.parts }
-        ensures params { IfOk result (λ live. live.params ≡ self.params) }
-        ensures book { IfOk result (λ live. live.book ≡ self.book) }
-        ensures fresh { IfOk result (λ live. live.is_fresh ≡ true) }
+        ensures params { self.new.params ≡ self.old.params }
+        ensures book { self.new.book ≡ self.old.book }
+        ensures fresh { OnOk result (self.new.is_fresh ≡ true) }
     {
-        let mut live = self;
         let mut steps = Steps::<L>::new(blank);
-        live.margin(alloc, &mut steps)?;
-        Ok(live)
+        self.margin(alloc, &mut steps)?;
+        Ok(())
     }
 
     // A live margin without trades, of which nothing is kept. It takes no memory.
