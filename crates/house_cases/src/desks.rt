@@ -195,15 +195,21 @@ fn desk(alloc: Global, failing: &[u64], wanting: &[u64]) -> Result<MemDesk, Allo
     Ok(MemDesk::new(failing.to_vec(alloc)?, wanting.to_vec(alloc)?))
 }
 
+/// Desks with these faults.
+fn desks_with(alloc: Global, faults: &[Faults]) -> Result<Vec<Box<dyn Desk>>, AllocError> {
+    let mut desks: Vec<Box<dyn Desk>> = Vec::new(alloc);
+    for (failing, wanting) in faults {
+        let made = desk(alloc, failing, wanting)?;
+        desks.push(Box::new(alloc, made)?)?;
+    }
+    Ok(desks)
+}
+
 #[test]
 fn a_desk_is_told_all_calls_or_retired(rt: HostRuntime) -> Result<(), Fail> {
     for case in &CASES {
-        let mut desks: Vec<Box<dyn Desk>> = Vec::new(rt.alloc());
+        let mut desks = desks_with(rt.alloc(), case.desks)?;
         let mut retired = Vec::new(rt.alloc());
-        for (failing, wanting) in case.desks {
-            let made = desk(rt.alloc(), failing, wanting)?;
-            desks.push(Box::new(rt.alloc(), made)?)?;
-        }
         assert!(rt; desks.len() < 5);
         let setup = Setup {
             failing: case.failing,
