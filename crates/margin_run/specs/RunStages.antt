@@ -8,18 +8,24 @@ use Rattle.call_desk.specs.declared.publishing.Published.{Published}
 use Rattle.command_files.specs.declared.status.Status.{Status}
 use Rattle.command_files.specs.declared.status.Status.TheVariants as status
 use Rattle.margin_run.specs.declared.feed_files.FeedsRun.{FeedsRun}
+use Rattle.margin_run.specs.declared.run_files.Inputs.{Inputs}
 use Rattle.margin_run.specs.declared.run_files.Outcome.{Outcome}
 use Rattle.command_files.specs.declared.fault.Fault.{Fault}
 use Rattle.margin_run.specs.declared.run_printing.Printed.{Printed}
 use Rattle.margin_run.specs.declared.run_printing.Printed.TheVariants as printed
 use Rattle.margin_run.specs.FeedFiles.{FeedsFail, AreFed}
 use Rattle.command_files.specs.Printed.{Got, GotFront}
-use Rattle.margin_run.specs.Run.{HasRun, RunCause, status_of_end}
+use Rattle.margin_run.specs.Run.{HasInputs, HasRun, RunCause, status_of_end}
 
 -- what running the feeds does
 abbrev pub FeedsEnd : FolderSeen → FolderSeen → List (List ℕ) → List Set → Result FeedsRun Fault → Type 0
 FeedsEnd old new names sets (Ok run) = AreFed names old new sets run.sets.items run.reports.items
 FeedsEnd old new names sets (Err f) = FeedsFail names old new f
+
+-- what reading both files does: what they say, or why there is nothing to run
+abbrev pub InputsEnd : List ℕ → List ℕ → List (List ℕ) → FolderSeen → FolderSeen → Result Inputs Fault → Type 0
+InputsEnd params_name terms_name feed_names old new (Ok inputs) = HasInputs params_name terms_name old new inputs.params inputs.terms
+InputsEnd params_name terms_name feed_names old new (Err f) = RunCause params_name terms_name feed_names old new f
 
 -- what the files of a run do; there are at most sixteen sets, and they keep their terms
 abbrev pub RunFilesEnd : List ℕ → List ℕ → List (List ℕ) → FolderSeen → FolderSeen → Result Outcome Fault → Type 0

@@ -4,11 +4,11 @@ ghost use Rattle.std.specs.String.{string_bytes};
 ghost use Rattle.feed_gate.specs.Sets.{AreApart};
 ghost use Rattle.command_files.specs.Files.{KeepsCounts};
 ghost use Rattle.margin_run.specs.Run.{start};
-ghost use Rattle.margin_run.specs.RunStages.{RunFilesEnd};
+ghost use Rattle.margin_run.specs.RunStages.{InputsEnd, RunFilesEnd};
 
-use crate::feed_files::run_feed_files;
+use crate::feed_files::{FeedsRun, run_feed_files};
 use command_files::{Fault, InputFile, read_param_file, read_terms_file};
-use csa_terms::Terms;
+use csa_terms::{SetTerms, Terms};
 use feed_gate::{FeedReport, Gate};
 use mh_io::Folder;
 use set_core::SetState;
@@ -36,6 +36,47 @@ pub(crate) struct Outcome {
     pub reports: Vec<FeedReport>,
 }
 
+/// What both files of a run say.
+#[derive(Drop)]
+pub(crate) struct Inputs {
+    pub params: Params,
+    pub terms: Terms,
+}
+
+/// Reads the parameter file, and then the terms file.
+fn read_inputs<'a, F: Folder>(
+    alloc: Global,
+    files: RunFiles<'a>,
+    folder: &mut F,
+) -> Result<Inputs, Fault<'a>>
+    ensures counts { KeepsCounts (F.seen folder.old) (F.seen folder.new) }
+    ensures ends { InputsEnd files.entry.params.now files.entry.terms.now (map string_bytes files.entry.feeds.now) (F.seen folder.old) (F.seen folder.new) result }
+{
+    let params = match read_param_file(alloc, folder, files.params) {
+        Ok(params) => params,
+        Err(why) => return Err(Fault::OfFile {
+            file: InputFile::Params,
+            name: files.params,
+            why,
+        }),
+    };
+    match read_terms_file(alloc, folder, files.terms) {
+        Ok(terms) => Ok(Inputs { params, terms }),
+        Err(why) => Err(Fault::OfFile {
+            file: InputFile::Terms,
+            name: files.terms,
+            why,
+        }),
+    }
+}
+
+/// A set without calls.
+fn make_set(alloc: Global, params: &Params, agreement: &SetTerms) -> Result<SetState, AllocError>
+    ensures { IfOk result (λ set. set ≡ start params.now agreement.now) }
+{
+    SetState::new(alloc, params.copy(alloc)?, agreement.copy(alloc)?)
+}
+
 /// A set for each of the terms, without calls.
 fn make_sets(alloc: Global, params: &Params, terms: &Terms) -> Result<Vec<SetState>, AllocError>
     ensures sets { IfOk result (λ sets. sets.items ≡ map (start params.now) terms.now) }
@@ -43,8 +84,7 @@ fn make_sets(alloc: Global, params: &Params, terms: &Terms) -> Result<Vec<SetSta
 {
     let mut sets = Vec::new(alloc);
     for agreement in terms.sets() {
-        let set = SetState::new(alloc, params.copy(alloc)?, agreement.copy(alloc)?)?;
-        sets.push(set)?;
+        sets.push(make_set(alloc, params, agreement)?)?;
     }
     Ok(sets)
 }
@@ -61,29 +101,17 @@ pub(crate) fn run_files<'a, R: Threads + Wait + Sync, F: Folder, G: Gate>(
     ensures counts { KeepsCounts (F.seen folder.old) (F.seen folder.new) }
     ensures ends { RunFilesEnd files.entry.params.now files.entry.terms.now (map string_bytes files.entry.feeds.now) (F.seen folder.old) (F.seen folder.new) result }
 {
-    let values = match read_param_file(alloc, folder, files.params) {
-        Ok(values) => values,
-        Err(why) => return Err(Fault::OfFile {
-            file: InputFile::Params,
-            name: files.params,
-            why,
-        }),
-    };
-    let agreements = match read_terms_file(alloc, folder, files.terms) {
-        Ok(agreements) => agreements,
-        Err(why) => return Err(Fault::OfFile {
-            file: InputFile::Terms,
-            name: files.terms,
-            why,
-        }),
-    };
-    let Ok(sets) = make_sets(alloc, &values, &agreements) else {
+    let Inputs { params, terms } = read_inputs(alloc, files, folder)?;
+    let sets = make_sets(alloc, &params, &terms);
+    // each set has a copy
+    drop(params);
+    let Ok(sets) = sets else {
         return Err(Fault::Memory);
     };
-    let run = run_feed_files(rt, alloc, folder, files.feeds, sets, gate)?;
+    let FeedsRun { sets, reports } = run_feed_files(rt, alloc, folder, files.feeds, sets, gate)?;
     Ok(Outcome {
-        terms: agreements,
-        sets: run.sets,
-        reports: run.reports,
+        terms,
+        sets,
+        reports,
     })
 }
