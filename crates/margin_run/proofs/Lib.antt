@@ -4,5 +4,6 @@ pub mod LongLines
 pub mod FeedStops
 pub mod DeskLemmas
 pub mod NoticeLemmas
+pub mod PrintingLemmas
 pub mod RunEndLemmas
 pub mod RunComplete

@@ -56,10 +56,14 @@ abbrev pub feeds_text : ℕ → List (List ℕ) → List FeedReport → List ℕ
 feeds_text from names [] = []
 feeds_text from names (r ∷ reports) = feed_text from names r.done r.refused r.end ++ feeds_text (from + 1) names reports
 
+-- the printed journal of a set
+abbrev pub journal_of : Set → List ℕ
+journal_of set = journal_text set.terms.name set.journal
+
 -- all that is printed: the sets' journals in the order of the terms, and then what became of the feeds in the order of the words
 abbrev pub run_text : List Set → List FeedReport → List ℕ
 run_text sets reports =
-    flat_map (λ s. journal_text s.terms.name s.journal) sets
+    flat_map journal_of sets
     ++ feeds_text 0 (map (λ s. s.terms.name) sets) reports
 
 -- how the first feed ended that didn't end whole, or that all did

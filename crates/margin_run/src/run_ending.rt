@@ -13,6 +13,7 @@ use command_files::Status;
 use feed_gate::{FeedEnd, FeedReport};
 use mh_io::Sink;
 use std::alloc::Global;
+use std::thread::Threads;
 
 /// The status of a feed's end.
 fn status_of_end(end: FeedEnd) -> Status
@@ -64,7 +65,8 @@ fn status_at_end(end: FeedEnd, printed: Printed, published: Published) -> Status
 
 /// Prints a run, tells each desk the calls that it made, and answers its status. Where the sink fails the desks are told all
 /// the same; where there is no memory for the text or the notices none is.
-pub(crate) fn end_run<K: Sink>(
+pub(crate) fn end_run<R: Threads + Sync, K: Sink>(
+    rt: &R,
     alloc: Global,
     out: &mut K,
     desks: &mut Vec<Box<dyn Desk>>,
@@ -79,7 +81,7 @@ pub(crate) fn end_run<K: Sink>(
     ensures leaves { RunLeaves run.now.sets.items run.now.reports.items (K.seen out.old) (K.seen out.new)
         (desks_of (λ desk. (Desk-box desk).seen desk.value) desks.old.items desks.new.items retired.old.items retired.new.items) result }
 {
-    let Ok(printed) = print_run(alloc, out, run) else {
+    let Ok(printed) = print_run(rt, alloc, out, run) else {
         return Status::Memory;
     };
     match tell_desks(alloc, desks, retired, &run.sets) {

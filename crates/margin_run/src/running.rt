@@ -46,7 +46,7 @@ pub fn run<R: Threads + Wait + Sync, F: Folder, K: Sink, G: Gate>(
         (desks_of (λ desk. (Desk-box desk).seen desk.value) desks.old.items desks.new.items retired.old.items retired.new.items) → EndsWell result }
 {
     match run_files(rt, alloc, files, folder, gate) {
-        Ok(run) => end_run(alloc, out, desks, retired, &run),
+        Ok(run) => end_run(rt, alloc, out, desks, retired, &run),
         Err(fault) => end_at_fault(out, &fault),
     }
 }
