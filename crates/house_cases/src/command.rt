@@ -22,6 +22,22 @@ fn words_of(alloc: Global, line: &str) -> Result<Vec<String>, AllocError> {
     Ok(words)
 }
 
+/// Runs a command. The proofs of the tests have no use for what the house promises, so it ends here.
+fn run_words<R: Threads + Wait + Sync, F: Folder, G: Gate>(
+    rt: &R,
+    alloc: Global,
+    words: &[String],
+    folder: &mut F,
+    out: &mut MemSink,
+    desks: &mut Vec<Box<dyn Desk>>,
+    retired: &mut Vec<Box<dyn Desk>>,
+    gate: &G,
+) -> Status
+    requires { vec_len desks.old < 2 ^ 32 }
+{
+    margin_house(rt, alloc, words, folder, out, desks, retired, gate)
+}
+
 /// Runs the command of a line over a folder, into a sink, with desks and a gate. The only error is want of memory.
 pub fn run_line<R: Threads + Wait + Sync, F: Folder, G: Gate>(
     rt: &R,
@@ -36,16 +52,7 @@ pub fn run_line<R: Threads + Wait + Sync, F: Folder, G: Gate>(
     requires { vec_len desks.old < 2 ^ 32 }
 {
     let words = words_of(alloc, line)?;
-    Ok(margin_house(
-        rt,
-        alloc,
-        words.as_slice(),
-        folder,
-        out,
-        desks,
-        retired,
-        gate,
-    ))
+    Ok(run_words(rt, alloc, &words, folder, out, desks, retired, gate))
 }
 
 /// Adds the lines of the notices that a desk was told.

@@ -1,10 +1,13 @@
 use crate::command::push_told;
-use crate::memory_house::{Failing, Setup, WELL, folder, run_with_desks};
+use crate::memory_house::{Failing, Outcome, Setup, WELL, folder, run_with_desks};
 use call_desk::{Desk, MemDesk};
 use margin_top::Status;
 use mh_units::Text;
 use std::alloc::{AllocError, Global};
+use std::process::Abort;
+use std::sync::Wait;
 use std::test::Fail;
+use std::thread::Threads;
 
 const CALLS: &str = "run params terms calls";
 
@@ -205,43 +208,55 @@ fn desks_with(alloc: Global, faults: &[Faults]) -> Result<Vec<Box<dyn Desk>>, Al
     Ok(desks)
 }
 
+/// Runs the command of a case over its desks.
+fn run_case<R: Threads + Wait + Abort + Sync>(
+    rt: &R,
+    alloc: Global,
+    case: &Case,
+    desks: &mut Vec<Box<dyn Desk>>,
+    retired: &mut Vec<Box<dyn Desk>>,
+) -> Result<Outcome, AllocError> {
+    let setup = Setup {
+        failing: case.failing,
+        ..WELL
+    };
+    assert!(rt; desks.len() < 5);
+    let mut folder = folder(alloc, setup)?;
+    run_with_desks(rt, alloc, case.line, &mut folder, setup, desks, retired)
+}
+
+fn has_ended(case: &Case, outcome: &Outcome) -> bool {
+    outcome.status == case.status && outcome.text.ends_with(case.end.as_bytes())
+}
+
+fn have_been_told(
+    alloc: Global,
+    case: &Case,
+    desks: &[Box<dyn Desk>],
+    retired: &[Box<dyn Desk>],
+) -> Result<bool, AllocError> {
+    Ok(were_told(alloc, desks, case.staying)? && were_told(alloc, retired, case.retired)?)
+}
+
+/// Whether the command of a case ends as it says, and its desks are told so.
+fn is_so<R: Threads + Wait + Abort + Sync>(
+    rt: &R,
+    alloc: Global,
+    case: &Case,
+) -> Result<bool, AllocError> {
+    let mut desks = desks_with(alloc, case.desks)?;
+    let mut retired = Vec::new(alloc);
+    let outcome = run_case(rt, alloc, case, &mut desks, &mut retired);
+    let told = have_been_told(alloc, case, &desks, &retired);
+    drop(desks);
+    drop(retired);
+    Ok(has_ended(case, &outcome?) && told?)
+}
+
 #[test]
 fn a_desk_is_told_all_calls_or_retired(rt: HostRuntime) -> Result<(), Fail> {
-    for case in &CASES {
-        let mut desks = desks_with(rt.alloc(), case.desks)?;
-        let mut retired = Vec::new(rt.alloc());
-        assert!(rt; desks.len() < 5);
-        let setup = Setup {
-            failing: case.failing,
-            ..WELL
-        };
-        let mut folder = folder(rt.alloc(), setup)?;
-        let outcome = run_with_desks(
-            &rt,
-            rt.alloc(),
-            case.line,
-            &mut folder,
-            setup,
-            &mut desks,
-            &mut retired,
-        )?;
-        assert!(rt;
-            outcome.status == case.status,
-            "{} {:?}",
-            case.line,
-            outcome.status
-        );
-        assert!(rt;
-            outcome.text.ends_with(case.end.as_bytes()),
-            "{}",
-            case.line
-        );
-        assert!(rt;
-            were_told(rt.alloc(), &desks, case.staying)?
-                && were_told(rt.alloc(), &retired, case.retired)?,
-            "{}",
-            case.line
-        );
+    for (place, case) in CASES.iter().enumerate() {
+        assert!(rt; is_so(&rt, rt.alloc(), case)?, "{place}: {}", case.line);
     }
     Ok(())
 }

@@ -22,7 +22,9 @@ PRODUCT\tRatesFX\t7400.00\n\
 CLASS\tRatesFX\tFX\t7400.00\n";
 
 /// A command, what fails in it, its status, and its text in two parts.
-const FAILING: [(&str, Failing, Status, &str, &str); 15] = [
+type Fault = (&'static str, Failing, Status, &'static str, &'static str);
+
+const FAILING: [Fault; 15] = [
     (
         CALC,
         Failing::Find(1),
@@ -131,17 +133,37 @@ const FAILING: [(&str, Failing, Status, &str, &str); 15] = [
     ),
 ];
 
+/// Whether a command in which this fails ends so.
+fn ends_at_fault<R: Threads + Wait + Sync>(
+    rt: &R,
+    alloc: Global,
+    fault: &Fault,
+) -> Result<bool, AllocError> {
+    let (line, failing, status, front, end) = fault;
+    let setup = Setup {
+        failing: *failing,
+        ..WELL
+    };
+    Ok(run(rt, alloc, line, setup)?.is(*status, front, end))
+}
+
 #[test]
 fn a_find_or_a_read_that_fails_has_its_line(rt: HostRuntime) -> Result<(), Fail> {
-    for (line, failing, status, front, end) in FAILING {
-        let outcome = run(&rt, rt.alloc(), line, Setup { failing, ..WELL })?;
-        assert!(rt; outcome.is(status, front, end), "{line} {failing:?}");
+    for fault in &FAILING {
+        assert!(rt;
+            ends_at_fault(&rt, rt.alloc(), fault)?,
+            "{} {:?}",
+            fault.0,
+            fault.1
+        );
     }
     Ok(())
 }
 
 /// A command, its status and its text in two parts.
-const WHOLE: [(&str, Status, &str, &str); 4] = [
+type Command = (&'static str, Status, &'static str, &'static str);
+
+const WHOLE: [Command; 4] = [
     (CALC, Status::Done, MARGIN, ""),
     (RUN, Status::Done, JOURNAL, "FEED\t0\t2\t0\tEND\n"),
     (RUN_CUT, Status::Feed, JOURNAL, "FEED\t0\t2\t0\tCUT\t6\n"),
@@ -156,20 +178,57 @@ const WHOLE: [(&str, Status, &str, &str); 4] = [
 /// How many bytes a file gives and the sink takes at once.
 const PIECES: [(usize, usize); 4] = [(1, 1), (2, 7), (7, 2), (65_536, 1)];
 
+/// Whether a command ends so where its files give so many bytes at once, and the sink takes so many.
+fn is_whole<R: Threads + Wait + Sync>(
+    rt: &R,
+    alloc: Global,
+    command: &Command,
+    pieces: (usize, usize),
+) -> Result<bool, AllocError> {
+    let (line, status, front, end) = command;
+    let (most, sink_most) = pieces;
+    let setup = Setup {
+        most,
+        sink_most,
+        ..WELL
+    };
+    Ok(run(rt, alloc, line, setup)?.is(*status, front, end))
+}
+
 #[test]
 fn pieces_change_nothing(rt: HostRuntime) -> Result<(), Fail> {
-    for (most, sink_most) in PIECES {
-        for (line, status, front, end) in WHOLE {
-            let setup = Setup {
-                most,
-                sink_most,
-                ..WELL
-            };
-            let outcome = run(&rt, rt.alloc(), line, setup)?;
-            assert!(rt; outcome.is(status, front, end), "{line} {most}");
+    for pieces in &PIECES {
+        for command in &WHOLE {
+            assert!(rt;
+                is_whole(&rt, rt.alloc(), command, *pieces)?,
+                "{} {pieces:?}",
+                command.0
+            );
         }
     }
     Ok(())
+}
+
+/// What is left of a command whose sink takes a byte at a time, and fails at this of its calls.
+fn cut_at<R: Threads + Wait + Sync>(
+    rt: &R,
+    alloc: Global,
+    line: &str,
+    call: u64,
+) -> Result<Outcome, AllocError> {
+    let setup = Setup {
+        sink_most: 1,
+        failing: Failing::Put(call),
+        ..WELL
+    };
+    run(rt, alloc, line, setup)
+}
+
+/// Whether so many bytes of the text came out.
+fn is_front(outcome: &Outcome, status: Status, text: &[u8], bytes: usize) -> bool {
+    outcome.status == status
+        && outcome.text.len() == bytes
+        && text.starts_with(outcome.text.as_slice())
 }
 
 /// Whether a command that ends so leaves a front of its text in a sink that takes a byte at a time and fails at each of
@@ -179,65 +238,56 @@ fn leaves_fronts<R: Threads + Wait + Sync>(
     alloc: Global,
     line: &str,
     status: Status,
-    text: &str,
+    text: &[u8],
 ) -> Result<bool, AllocError> {
-    for (put, _) in text.bytes().enumerate() {
-        let failing = Failing::Put(put as u64 + 1);
-        let outcome = run(
-            rt,
-            alloc,
-            line,
-            Setup {
-                sink_most: 1,
-                failing,
-                ..WELL
-            },
-        )?;
-        let is_front = outcome.text.len() == put
-            && text.as_bytes().starts_with(outcome.text.as_slice());
-        if outcome.status != status || !is_front {
+    for bytes in 0..text.len() {
+        let outcome = cut_at(rt, alloc, line, bytes as u64 + 1)?;
+        if !is_front(&outcome, status, text, bytes) {
             return Ok(false);
         }
     }
     Ok(true)
 }
 
-// A fault's status stays, and so does that of a feed that isn't whole.
+/// The status where the sink fails: a fault's stays, and so does that of a feed that isn't whole.
+fn unwritten(status: Status) -> Status {
+    match status {
+        Status::Done => Status::Write,
+        _ => status,
+    }
+}
+
 #[test]
 fn a_sink_that_fails_holds_a_front(rt: HostRuntime) -> Result<(), Fail> {
-    for (line, whole, front, end) in WHOLE {
-        let status = if whole == Status::Done {
-            Status::Write
-        } else {
-            whole
-        };
+    for (line, status, front, end) in &WHOLE {
         let text = format!(in rt.alloc(); "{front}{end}")?;
+        let status = unwritten(*status);
         assert!(rt;
-            leaves_fronts(&rt, rt.alloc(), line, status, text.as_str())?,
+            leaves_fronts(&rt, rt.alloc(), line, status, text.as_bytes())?,
             "{line}"
         );
     }
     Ok(())
 }
 
+/// What is left of a command whose sink takes nothing.
+fn cut_at_once<R: Threads + Wait + Sync>(
+    rt: &R,
+    alloc: Global,
+    line: &str,
+) -> Result<Outcome, AllocError> {
+    let setup = Setup {
+        sink_most: 0,
+        ..WELL
+    };
+    run(rt, alloc, line, setup)
+}
+
 #[test]
 fn a_sink_that_takes_nothing_holds_nothing(rt: HostRuntime) -> Result<(), Fail> {
-    for (line, whole, _, _) in WHOLE {
-        let status = if whole == Status::Done {
-            Status::Write
-        } else {
-            whole
-        };
-        let outcome = run(
-            &rt,
-            rt.alloc(),
-            line,
-            Setup {
-                sink_most: 0,
-                ..WELL
-            },
-        )?;
-        assert!(rt; outcome.is(status, "", ""), "{line}");
+    for (line, status, _, _) in &WHOLE {
+        let outcome = cut_at_once(&rt, rt.alloc(), line)?;
+        assert!(rt; outcome.is(unwritten(*status), "", ""), "{line}");
     }
     Ok(())
 }

@@ -22,9 +22,10 @@ mod sizes;
 use anyhow::{Context, Result};
 use call_desk::{Desk, MemDesk};
 use command::{push_told, run_line};
-use margin_top::NoGate;
+use margin_top::{NoGate, Status};
 use mh_io::{MemSink, RealFolder};
 use mh_units::Text;
+use std::alloc::{AllocError, Global};
 use std::fs;
 use std::io::{self, BufWriter, Write};
 use std::sync::Wait;
@@ -32,6 +33,28 @@ use std::thread::Threads;
 
 /// The bytes that a command may print, above what any of the cases prints.
 const ROOM: usize = 1 << 20;
+
+/// The lines of the notices that desks were told.
+fn told_to(alloc: Global, desks: &[Box<dyn Desk>]) -> Result<Text, AllocError> {
+    let mut notices = Text::new(alloc);
+    for desk in desks {
+        push_told(&mut notices, desk)?;
+    }
+    Ok(notices)
+}
+
+/// Writes what came of a command.
+fn write_case<W: Write>(
+    out: &mut W,
+    line: &str,
+    status: Status,
+    text: &[u8],
+    notices: &[u8],
+) -> io::Result<()> {
+    write!(out, "== {line}\nstatus {}\n", status.code())?;
+    out.write_all(text)?;
+    out.write_all(notices)
+}
 
 /// Runs the words by these threads, and writes them with their status, their text and their notices.
 fn run_case<R: Threads + Wait + Sync, W: Write>(
@@ -57,13 +80,8 @@ fn run_case<R: Threads + Wait + Sync, W: Write>(
         &mut retired,
         &NoGate,
     )?;
-    let mut notices = Text::new(alloc);
-    for desk in &desks {
-        push_told(&mut notices, desk)?;
-    }
-    write!(out, "== {line}\nstatus {}\n", status.code())?;
-    out.write_all(text.bytes())?;
-    out.write_all(notices.as_slice())?;
+    let notices = told_to(alloc, &desks)?;
+    write_case(out, line, status, text.bytes(), notices.as_slice())?;
     Ok(())
 }
 

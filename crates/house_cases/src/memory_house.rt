@@ -224,12 +224,34 @@ fn puts_that_fail(alloc: Global, failing: Failing) -> Result<Vec<u64>, AllocErro
 /// A folder with the files.
 pub fn folder(alloc: Global, setup: Setup) -> Result<MemFolder, AllocError> {
     let mut folder = MemFolder::new(finds_that_fail(alloc, setup.failing)?);
-    for (name, text) in FILES {
+    for (name, text) in &FILES {
         let bytes = Bytes::from_slice(alloc, text.as_bytes())?;
         let failing = takes_that_fail(alloc, setup.failing, name)?;
         folder.add(alloc, name, bytes, setup.most.max(1), failing)?;
     }
     Ok(folder)
+}
+
+/// Adds a file that gives up to 65,536 bytes at once, and fails at these of its calls.
+pub fn add_file(
+    alloc: Global,
+    folder: &mut MemFolder,
+    name: &str,
+    bytes: Bytes,
+    failing: Vec<u64>,
+) -> Result<(), AllocError> {
+    folder.add(alloc, name, bytes, 65_536, failing)
+}
+
+/// Adds a file that gives up to 65,536 bytes at once.
+pub fn add_text(
+    alloc: Global,
+    folder: &mut MemFolder,
+    name: &str,
+    text: &str,
+) -> Result<(), AllocError> {
+    let bytes = Bytes::from_slice(alloc, text.as_bytes())?;
+    add_file(alloc, folder, name, bytes, Vec::new(alloc))
 }
 
 /// Runs the words of a line over a folder, with desks.

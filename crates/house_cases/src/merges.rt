@@ -1,7 +1,6 @@
 //! Two feeds on one set, each of which submits a trade and asks: their four calls come in one of six orders.
-use crate::memory_house::{Outcome, WELL, folder, run_through};
+use crate::memory_house::{Outcome, WELL, add_text, folder, run_through};
 use margin_top::{Gate, NoGate, Status};
-use mh_units::Bytes;
 use std::alloc::{AllocError, Global};
 use std::sync::Wait;
 use std::sync::atomic::{AtomicBool, AtomicUsize, Ordering};
@@ -136,9 +135,8 @@ fn run_both<R: Threads + Wait + Sync, G: Gate>(
     gate: &G,
 ) -> Result<Outcome, AllocError> {
     let mut folder = folder(alloc, WELL)?;
-    for (name, text) in FEEDS {
-        let bytes = Bytes::from_slice(alloc, text.as_bytes())?;
-        folder.add(alloc, name, bytes, 65_536, Vec::new(alloc))?;
+    for (name, text) in &FEEDS {
+        add_text(alloc, &mut folder, name, text)?;
     }
     run_through(
         rt,
@@ -191,13 +189,18 @@ impl Gate for InOrder {
     }
 }
 
+/// Whether a run stood in this order.
+fn is_in_order(alloc: Global, outcome: &Outcome, calls: &[Call; 4]) -> Result<bool, AllocError> {
+    let text = text_of(alloc, calls)?;
+    Ok(outcome.is(Status::Done, text.as_str(), ""))
+}
+
 #[test]
 fn each_order_of_two_feeds_has_its_answers(rt: HostRuntime) -> Result<(), Fail> {
     for calls in &MERGES {
         let gate = InOrder::new(calls);
         let outcome = run_both(&rt, rt.alloc(), &gate)?;
-        let text = text_of(rt.alloc(), calls)?;
-        assert!(rt; outcome.is(Status::Done, text.as_str(), ""), "{calls:?}");
+        assert!(rt; is_in_order(rt.alloc(), &outcome, calls)?, "{calls:?}");
         assert!(rt; !gate.in_vain.load(Ordering::SeqCst), "{calls:?}");
     }
     Ok(())
@@ -208,8 +211,7 @@ fn two_feeds_stand_in_one_of_six_orders(rt: HostRuntime) -> Result<(), Fail> {
     let outcome = run_both(&rt, rt.alloc(), &NoGate)?;
     let mut found = 0u32;
     for calls in &MERGES {
-        let text = text_of(rt.alloc(), calls)?;
-        if outcome.is(Status::Done, text.as_str(), "") {
+        if is_in_order(rt.alloc(), &outcome, calls)? {
             found = found.saturating_add(1);
         }
     }

@@ -1,4 +1,4 @@
-use crate::memory_house::{Outcome, WELL, folder, run_over};
+use crate::memory_house::{Outcome, WELL, add_file, folder, run_over};
 use margin_top::Status;
 use mh_units::Bytes;
 use std::alloc::{AllocError, Global};
@@ -19,7 +19,7 @@ fn run_with<R: Threads + Wait + Sync>(
     bytes: Bytes,
 ) -> Result<Outcome, AllocError> {
     let mut folder = folder(alloc, WELL)?;
-    folder.add(alloc, name, bytes, 65_536, Vec::new(alloc))?;
+    add_file(alloc, &mut folder, name, bytes, Vec::new(alloc))?;
     run_over(rt, alloc, line, &mut folder, WELL)
 }
 
@@ -77,18 +77,18 @@ const LONG: [(&str, &str, Status, &str, Status, &str); 4] = [
 
 #[test]
 fn a_file_may_have_as_many_bytes(rt: HostRuntime) -> Result<(), Fail> {
-    for (name, line, status, text, _, _) in LONG {
+    for (name, line, status, text, _, _) in &LONG {
         let outcome = run_with(&rt, rt.alloc(), line, name, comments(rt.alloc(), "")?)?;
-        assert!(rt; outcome.is(status, text, ""), "{name}");
+        assert!(rt; outcome.is(*status, text, ""), "{name}");
     }
     Ok(())
 }
 
 #[test]
 fn a_file_with_a_byte_too_many_is_too_long(rt: HostRuntime) -> Result<(), Fail> {
-    for (name, line, _, _, status, text) in LONG {
+    for (name, line, _, _, status, text) in &LONG {
         let outcome = run_with(&rt, rt.alloc(), line, name, comments(rt.alloc(), "\n")?)?;
-        assert!(rt; outcome.is(status, text, ""), "{name}");
+        assert!(rt; outcome.is(*status, text, ""), "{name}");
     }
     Ok(())
 }
@@ -106,10 +106,10 @@ const ROWS: [(u32, Status, &str); 2] = [
 
 #[test]
 fn a_file_with_a_row_too_many_is_refused(rt: HostRuntime) -> Result<(), Fail> {
-    for (count, status, text) in ROWS {
-        let bytes = repeated(rt.alloc(), HEADER, ROW, count)?;
+    for (count, status, text) in &ROWS {
+        let bytes = repeated(rt.alloc(), HEADER, ROW, *count)?;
         let outcome = run_with(&rt, rt.alloc(), CALC, "crif", bytes)?;
-        assert!(rt; outcome.is(status, text, ""), "{count}");
+        assert!(rt; outcome.is(*status, text, ""), "{count}");
     }
     Ok(())
 }
@@ -167,7 +167,7 @@ ROW\tRatesFX\tRisk_FX\tUSD\t\t\t\t\t1.00\nFEED\t0\t3\t0\tEND\n",
 
 #[test]
 fn a_row_too_many_is_refused(rt: HostRuntime) -> Result<(), Fail> {
-    for (trades, end) in BLOCKS {
+    for (trades, end) in &BLOCKS {
         let feed = blocks(rt.alloc(), trades)?;
         assert!(rt; ends(&rt, rt.alloc(), feed, end)?, "{trades}");
     }
