@@ -63,7 +63,7 @@ const ORDERS: [([Feed; 6], u32, u32, Status); 2] = [
 ];
 
 /// The feeds that every read gives whole.
-const TEXTS: [(&str, &str); 3] = [
+static TEXTS: [(&str, &str); 3] = [
     ("cut_at_once", "CRIF\tALPHA\n"),
     (
         "cut_late",

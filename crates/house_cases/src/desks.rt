@@ -60,7 +60,7 @@ const WELL_CASE: Case = Case {
     retired: &[],
 };
 
-const CASES: [Case; 16] = [
+static CASES: [Case; 16] = [
     WELL_CASE,
     Case {
         desks: &[SOUND],

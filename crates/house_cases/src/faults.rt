@@ -24,7 +24,7 @@ CLASS\tRatesFX\tFX\t7400.00\n";
 /// A command, what fails in it, its status, and its text in two parts.
 type Fault = (&'static str, Failing, Status, &'static str, &'static str);
 
-const FAILING: [Fault; 15] = [
+static FAILING: [Fault; 15] = [
     (
         CALC,
         Failing::Find(1),
@@ -163,7 +163,7 @@ fn a_find_or_a_read_that_fails_has_its_line(rt: HostRuntime) -> Result<(), Fail>
 /// A command, its status and its text in two parts.
 type Command = (&'static str, Status, &'static str, &'static str);
 
-const WHOLE: [Command; 4] = [
+static WHOLE: [Command; 4] = [
     (CALC, Status::Done, MARGIN, ""),
     (RUN, Status::Done, JOURNAL, "FEED\t0\t2\t0\tEND\n"),
     (RUN_CUT, Status::Feed, JOURNAL, "FEED\t0\t2\t0\tCUT\t6\n"),
@@ -176,7 +176,7 @@ const WHOLE: [Command; 4] = [
 ];
 
 /// How many bytes a file gives and the sink takes at once.
-const PIECES: [(usize, usize); 4] = [(1, 1), (2, 7), (7, 2), (65_536, 1)];
+static PIECES: [(usize, usize); 4] = [(1, 1), (2, 7), (7, 2), (65_536, 1)];
 
 /// Whether a command ends so where its files give so many bytes at once, and the sink takes so many.
 fn is_whole<R: Threads + Wait + Sync>(

@@ -142,7 +142,7 @@ CLOSE\tALPHA\t1\n\
 CALL\tALPHA\t2024-03-01T13:01\n\
 CRIF\tALPHA\n";
 
-const FILES: [(&str, &str); 7] = [
+static FILES: [(&str, &str); 7] = [
     ("params", PARAMS),
     ("terms", TERMS),
     ("crif", CRIF),

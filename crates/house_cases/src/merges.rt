@@ -12,7 +12,7 @@ use std::thread::Threads;
 const TURNS: u32 = 1_000_000_000;
 
 /// A trade of feed 0 and a question, and the same of feed 1.
-const FEEDS: [(&str, &str); 2] = [
+static FEEDS: [(&str, &str); 2] = [
     (
         "euros",
         "CRIF\tALPHA\n\
@@ -75,7 +75,7 @@ const POUNDS: &str = "3700.00";
 const BOTH: &str = "6408.59";
 
 /// The orders that keep each feed's own.
-const MERGES: [[Call; 4]; 6] = [
+static MERGES: [[Call; 4]; 6] = [
     [
         Call::Euros,
         Call::Ask(0, EUROS),

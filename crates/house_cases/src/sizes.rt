@@ -40,7 +40,7 @@ pub fn comments(alloc: Global, front: &str) -> Result<Bytes, AllocError> {
 }
 
 /// The file that is long, its command, and what comes where it is at the limit and behind it.
-const LONG: [(&str, &str, Status, &str, Status, &str); 4] = [
+static LONG: [(&str, &str, Status, &str, Status, &str); 4] = [
     (
         "params",
         CALC,
@@ -99,7 +99,7 @@ const HEADER: &str =
 const ROW: &[u8] = b"T,FX,Risk_FX,USD,,,,,,1\n";
 
 /// How many rows there are, and what comes.
-const ROWS: [(u32, Status, &str); 2] = [
+static ROWS: [(u32, Status, &str); 2] = [
     (100_000, Status::Done, "MARGIN\t0.00\n"),
     (100_001, Status::Terms, "FAULT\tCRIF\t4\n"),
 ];
@@ -151,7 +151,7 @@ fn ends<R: Threads + Wait + Sync>(
 }
 
 /// The trades of a feed's blocks, and the end of what is printed where one row more comes.
-const BLOCKS: [(&str, &str); 2] = [
+static BLOCKS: [(&str, &str); 2] = [
     // A book has at most 200,000 rows.
     (
         "TU",
