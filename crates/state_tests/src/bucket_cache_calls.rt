@@ -35,7 +35,7 @@ fn has_amount(live: &LiveMargin, name: &Name, amount: i64) -> bool {
 }
 
 /// Trades that come, each with its amount, and the margin and the count of trades then. EUR weighs 7.4.
-const SUBMITS: [(&str, &str, i128, u32); 3] = [
+static SUBMITS: [(&str, &str, i128, u32); 3] = [
     ("T1", "1000", 740_000, 1),
     ("T2", "-500", 370_000, 2),
     ("T1", "2000", 1_110_000, 2),

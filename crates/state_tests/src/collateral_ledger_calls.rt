@@ -16,7 +16,7 @@ enum Step {
 
 /// Each step, why it is refused, and what is booked afterwards. CASH has no haircut, BOND 0.055, STOCK 0.95, and
 /// another currency 0.08 more.
-const STEPS: [(Step, Option<LedgerFault>, i128); 13] = [
+static STEPS: [(Step, Option<LedgerFault>, i128); 13] = [
     (
         Step::Put("L1", "CASH", 100_000, LotCurrency::Other),
         None,

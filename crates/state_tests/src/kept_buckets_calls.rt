@@ -8,7 +8,7 @@ use std::process::Abort;
 /// Batches of interest rates, one after another: how many values of buckets are not kept then, whether that of the euro is, and
 /// the margin in cents. 40,000,000.00 and 35,000,000.00 weighted at a correlation of 0.5; then the pound is four times its
 /// threshold, and concentrated; then it is as before.
-const BATCHES: [(&str, u32, bool, i128); 3] = [
+static BATCHES: [(&str, u32, bool, i128); 3] = [
     (
         "A,RatesFX,Risk_IRCurve,EUR,,10y,OIS,,,800000\nB,RatesFX,Risk_IRCurve,GBP,,10y,OIS,,,700000\n",
         2,

@@ -19,7 +19,7 @@ const VOLATILITY: &[Measure] = &[Measure::Vega, Measure::Curvature];
 
 const BASE_CORRELATION: &[Measure] = &[Measure::BaseCorr];
 
-pub const PLACES: [Place; 13] = [
+pub static PLACES: [Place; 13] = [
     Place {
         product: ProductClass::RatesFX,
         class: RiskClass::IR,

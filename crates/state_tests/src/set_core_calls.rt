@@ -50,7 +50,7 @@ fn is_text(rt: &(impl Abort + AllocGlobal), reply: &Reply, text: &str) -> bool {
 }
 
 /// Each step, and its reply in printed text.
-const STEPS: [(Step, &str); 5] = [
+static STEPS: [(Step, &str); 5] = [
     (Step::Submit("EUR", "1000"), "OK"),
     (Step::Ask, "MARGIN\t7400.00"),
     (Step::Withdraw("T9"), "REFUSED\t1\t1"),
@@ -97,7 +97,7 @@ fn a_set_has_its_journal(rt: HostRuntime) {
 }
 
 /// Steps whose replies leave this many values of buckets that are not kept, and whether the margin is known then.
-const KEPT: [(Step, u32, bool); 7] = [
+static KEPT: [(Step, u32, bool); 7] = [
     (Step::Submit("EUR", "1000"), 1, false),
     (Step::Withdraw("T9"), 1, false),
     (Step::Ask, 0, true),

@@ -4,7 +4,7 @@ use simm_kinds::Currency;
 use simm_params::{ConcentrationCategory, Params, VolatilityCategory};
 
 /// A currency, its two categories, its weight in ten-thousandths and its threshold in cents.
-const CURRENCIES: [(&str, VolatilityCategory, ConcentrationCategory, i64, i64); 5] = [
+static CURRENCIES: [(&str, VolatilityCategory, ConcentrationCategory, i64, i64); 5] = [
     (
         "EUR",
         VolatilityCategory::Regular,
