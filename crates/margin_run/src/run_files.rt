@@ -74,7 +74,7 @@ fn read_inputs<'a, F: Folder>(
 fn make_set(alloc: Global, params: &Params, agreement: &SetTerms) -> Result<SetState, AllocError>
     ensures { IfOk result (λ set. set ≡ start params.now agreement.now) }
 {
-    SetState::new(alloc, params.copy(alloc)?, agreement.copy(alloc)?)
+    SetState::new(alloc, params.share()?, agreement.copy(alloc)?)
 }
 
 /// A set for each of the terms, without calls.
@@ -103,7 +103,7 @@ pub(crate) fn run_files<'a, R: Threads + Wait + Sync, F: Folder, G: Gate>(
 {
     let Inputs { params, terms } = read_inputs(alloc, files, folder)?;
     let sets = make_sets(alloc, &params, &terms);
-    // each set has a copy
+    // the sets hold them
     drop(params);
     let Ok(sets) = sets else {
         return Err(Fault::Memory);

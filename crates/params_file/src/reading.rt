@@ -18,7 +18,7 @@ fn read_table(alloc: Global, root: &Table) -> Result<Params, ParamFault>
     let tables = read_tables(alloc, root)?;
     check_symmetry(alloc, &tables)?;
     check_thickness(alloc, &tables)?;
-    Ok(Params::new(tables))
+    Ok(Params::new(alloc, tables)?)
 }
 
 #[tactic(auto, unfolding(crate::specs::Grammar::params_read))]

@@ -137,14 +137,4 @@ impl Buckets {
     {
         self.buckets.as_slice()
     }
-
-    /// The same buckets once more. The only error is want of memory.
-    pub fn copy(&self, alloc: Global) -> Result<Buckets, AllocError>
-        ensures { IfOk result (λ b. b ≡ self.now) }
-    {
-        Ok(Buckets {
-            buckets: Vec::from_slice(alloc, &self.buckets)?,
-            index: self.index,
-        })
-    }
 }

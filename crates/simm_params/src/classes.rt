@@ -1,4 +1,4 @@
-ghost use Rattle.std.specs.Prelude.{◌≡◌, ◌<◌, length, slice_index_or, option_map, IfOk};
+ghost use Rattle.std.specs.Prelude.{◌≡◌, ◌<◌, length, slice_index_or, option_map};
 ghost use Rattle.simm_params.specs.BucketView.{bucket_view};
 ghost use Rattle.simm_params.specs.Classes.{credit_bucket, priced_bucket};
 ghost use Rattle.simm_params.specs.ListedBuckets.{credit_bucket_view, priced_bucket_view};
@@ -8,7 +8,6 @@ use crate::buckets::Buckets;
 use crate::matrix::Matrix;
 use mh_units::Rate4;
 use simm_kinds::Bucket;
-use std::alloc::{AllocError, Global};
 
 /// The parameters of a class of credit.
 #[derive(Debug, Drop)]
@@ -117,16 +116,6 @@ impl CreditParams {
     {
         self.buckets.place(id)
     }
-
-    /// The same parameters once more. The only error is want of memory.
-    pub fn copy(&self, alloc: Global) -> Result<CreditParams, AllocError>
-        ensures { IfOk result (λ c. credit_view c ≡ credit_view self.now) }
-    {
-        Ok(CreditParams {
-            buckets: self.buckets.copy(alloc)?,
-            gamma: self.gamma.copy(alloc)?,
-        })
-    }
 }
 
 impl PricedParams {
@@ -170,16 +159,5 @@ impl PricedParams {
         ensures { result ≡ listed_place (listed_priced (priced_view self.now)) id }
     {
         self.buckets.place(id)
-    }
-
-    /// The same parameters once more. The only error is want of memory.
-    pub fn copy(&self, alloc: Global) -> Result<PricedParams, AllocError>
-        ensures { IfOk result (λ c. priced_view c ≡ priced_view self.now) }
-    {
-        Ok(PricedParams {
-            buckets: self.buckets.copy(alloc)?,
-            hvr: self.hvr,
-            gamma: self.gamma.copy(alloc)?,
-        })
     }
 }

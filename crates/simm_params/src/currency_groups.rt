@@ -19,18 +19,6 @@ pub struct CurrencyGroup {
     pub thresholds: Thresholds,
 }
 
-impl CurrencyGroup {
-    /// The same group once more. The only error is want of memory.
-    pub fn copy(&self, alloc: Global) -> Result<CurrencyGroup, AllocError>
-        ensures { IfOk result (λ g. group_view g ≡ group_view self.now) }
-    {
-        Ok(CurrencyGroup {
-            currencies: self.currencies.copy(alloc)?,
-            thresholds: self.thresholds,
-        })
-    }
-}
-
 /// The concentration groups of currencies, in the order of the file, which contracts see as just that list. The thresholds
 /// of a currency are looked up in a tree.
 #[derive(Debug, Drop)]
@@ -79,16 +67,6 @@ impl CurrencyGroups {
     {
         self.groups.as_slice()
     }
-
-    /// The same groups once more. The only error is want of memory.
-    pub fn copy(&self, alloc: Global) -> Result<CurrencyGroups, AllocError>
-        ensures { IfOk result (λ g. g ≡ self.now) }
-    {
-        Ok(CurrencyGroups {
-            groups: copy_groups(alloc, self.groups())?,
-            by_currency: self.by_currency.clone()?,
-        })
-    }
 }
 
 /// Keeps the thresholds of a group at each of its currencies.
@@ -117,14 +95,4 @@ fn by_currency(
         keep_group(&mut by_currency, group)?;
     }
     Ok(by_currency)
-}
-
-fn copy_groups(alloc: Global, groups: &[CurrencyGroup]) -> Result<Vec<CurrencyGroup>, AllocError>
-    ensures { IfOk result (λ copy. map group_view copy.items ≡ map group_view groups.now) }
-{
-    let mut copy = Vec::with_capacity(alloc, groups.len())?;
-    for group in groups {
-        copy.push(group.copy(alloc)?)?;
-    }
-    Ok(copy)
 }

@@ -84,14 +84,4 @@ impl CurrencyList {
     {
         self.listed.as_slice()
     }
-
-    /// The same currencies once more. The only error is want of memory.
-    pub fn copy(&self, alloc: Global) -> Result<CurrencyList, AllocError>
-        ensures { IfOk result (λ l. l ≡ self.now) }
-    {
-        Ok(CurrencyList {
-            listed: Vec::from_slice(alloc, &self.listed)?,
-            different: self.different.clone()?,
-        })
-    }
 }

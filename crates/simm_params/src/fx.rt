@@ -1,10 +1,9 @@
-ghost use Rattle.std.specs.Prelude.{◌≡◌, slice_index_or, pos, IfOk};
+ghost use Rattle.std.specs.Prelude.{◌≡◌, slice_index_or, pos};
 ghost use Rattle.simm_params.specs.FxLookups.{pair_rate, category_place};
 
 use crate::category::{ConcentrationCategory, VolatilityCategory};
 use crate::currency_list::CurrencyList;
 use mh_units::Rate4;
-use std::alloc::{AllocError, Global};
 
 /// Risk weights by the volatility of a currency.
 #[derive(Clone, Copy, Debug)]
@@ -153,20 +152,5 @@ impl FxParams {
         ensures { result ≡ pair_threshold (fx_view self.now) a b }
     {
         self.volatilities.thresholds.of(a, b)
-    }
-
-    /// The same parameters once more. The only error is want of memory.
-    pub fn copy(&self, alloc: Global) -> Result<FxParams, AllocError>
-        ensures { IfOk result (λ fx. fx_view fx ≡ fx_view self.now) }
-    {
-        Ok(FxParams {
-            high: self.high.copy(alloc)?,
-            weights: self.weights,
-            rhos: self.rhos,
-            first: self.first.copy(alloc)?,
-            second: self.second.copy(alloc)?,
-            thresholds: self.thresholds,
-            volatilities: self.volatilities,
-        })
     }
 }

@@ -1,12 +1,9 @@
-ghost use Rattle.std.specs.Prelude.{◌≡◌, IfOk};
-
 use crate::currency_groups::CurrencyGroups;
 use crate::currency_list::CurrencyList;
 use crate::matrix::Matrix;
 use crate::rates::Rates;
 use crate::thresholds::Thresholds;
 use mh_units::Rate4;
-use std::alloc::{AllocError, Global};
 
 /// Risk weights of a curve by tenor, by the volatility of its currency.
 #[derive(Debug, Drop)]
@@ -17,21 +14,6 @@ pub struct CurveWeights {
     pub low: Rates,
     /// Of a currency of high volatility.
     pub high: Rates,
-}
-
-impl CurveWeights {
-    ghost use Rattle.simm_params.specs.IrView.{curves_view};
-
-    /// The same weights once more. The only error is want of memory.
-    pub fn copy(&self, alloc: Global) -> Result<CurveWeights, AllocError>
-        ensures { IfOk result (λ w. curves_view w ≡ curves_view self.now) }
-    {
-        Ok(CurveWeights {
-            regular: self.regular.copy(alloc)?,
-            low: self.low.copy(alloc)?,
-            high: self.high.copy(alloc)?,
-        })
-    }
 }
 
 /// Risk weights of inflation and of cross-currency basis.
@@ -86,25 +68,4 @@ pub struct IrParams {
     pub other: Thresholds,
     /// The concentration groups of currencies.
     pub groups: CurrencyGroups,
-}
-
-impl IrParams {
-    ghost use Rattle.simm_params.specs.IrView.{ir_view};
-
-    /// The same parameters once more. The only error is want of memory.
-    pub fn copy(&self, alloc: Global) -> Result<IrParams, AllocError>
-        ensures { IfOk result (λ ir. ir_view ir ≡ ir_view self.now) }
-    {
-        Ok(IrParams {
-            low: self.low.copy(alloc)?,
-            regular: self.regular.copy(alloc)?,
-            curves: self.curves.copy(alloc)?,
-            weights: self.weights,
-            tenor_rhos: self.tenor_rhos.copy(alloc)?,
-            rhos: self.rhos,
-            volatility: self.volatility,
-            other: self.other,
-            groups: self.groups.copy(alloc)?,
-        })
-    }
 }

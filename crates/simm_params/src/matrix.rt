@@ -1,11 +1,10 @@
-ghost use Rattle.std.specs.Prelude.{◌≡◌, ◌<◌, length, IfOk};
+ghost use Rattle.std.specs.Prelude.{◌≡◌, ◌<◌, length};
 ghost use Rattle.simm_rules.specs.Lookups.{at_row};
 ghost use Rattle.simm_params.specs.Matrix.{entry};
 ghost use Rattle.simm_params.specs.Square.{IsSquare};
 
 use crate::rates::Rates;
 use mh_units::Rate4;
-use std::alloc::{AllocError, Global};
 use std::marker::Model;
 
 /// A square matrix of rates, which contracts see as the list of its rows of ten-thousandths.
@@ -59,22 +58,4 @@ impl Matrix {
             None => Rate4(0),
         }
     }
-
-    /// The same matrix once more. The only error is want of memory.
-    pub fn copy(&self, alloc: Global) -> Result<Matrix, AllocError>
-        ensures { IfOk result (λ m. m ≡ self.now) }
-    {
-        let rows = copy_rows(alloc, self.rows.as_slice())?;
-        Ok(Matrix { rows })
-    }
-}
-
-fn copy_rows(alloc: Global, rows: &[Rates]) -> Result<Vec<Rates>, AllocError>
-    ensures { IfOk result (λ copy. copy.items ≡ rows.now) }
-{
-    let mut copy = Vec::with_capacity(alloc, rows.len())?;
-    for row in rows {
-        copy.push(row.copy(alloc)?)?;
-    }
-    Ok(copy)
 }

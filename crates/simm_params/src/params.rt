@@ -19,12 +19,14 @@ use mh_units::{Corr6, Rate4};
 use simm_kinds::{Currency, RiskClass};
 use std::alloc::{AllocError, Global};
 use std::marker::Model;
+use std::sync::Arc;
 
 /// The parameters of the margin rule. Rates are in ten-thousandths and thresholds in cents, each in its range; each matrix
-/// is symmetric, and no threshold is too thin beside a weight. Contracts see the plain record of the rule.
+/// is symmetric, and no threshold is too thin beside a weight. They stand once for all that hold them. Contracts see the plain
+/// record of the rule.
 #[derive(Debug, Drop)]
 pub struct Params {
-    tables: Tables,
+    tables: Arc<Tables, Global>,
 }
 
 impl Model for Params {
@@ -32,21 +34,23 @@ impl Model for Params {
 
     ghost Value = { ParamsValue };
 
+    ghost use Rattle.std.specs.Arc.{arc_value};
     ghost use Rattle.simm_params.specs.TablesView.{tables_view};
     ghost use Rattle.simm_params.specs.Facts.{IsParams};
 
-    ghost view = { λ p. tables_view p.tables };
+    ghost view = { λ p. tables_view (arc_value p.tables) };
 
-    ghost invariant = { λ p. IsParams (tables_view p.tables) };
+    ghost invariant = { λ p. IsParams (tables_view (arc_value p.tables)) };
 }
 
 impl Params {
-    /// The parameters of a file that passed its tests.
-    pub fn new(tables: Tables) -> Params
+    /// The parameters of a file that passed its tests. The only error is want of memory.
+    pub fn new(alloc: Global, tables: Tables) -> Result<Params, AllocError>
         requires { IsParams (tables_view tables) }
-        ensures { result ≡ tables_view tables }
+        ensures { IfOk result (λ p. p ≡ tables_view tables) }
     {
-        Params { tables }
+        let tables = Arc::new(alloc, tables)?;
+        Ok(Params { tables })
     }
 
     /// What each parameter set keeps, and what follows at every currency. It does nothing.
@@ -57,13 +61,12 @@ impl Params {
         let _tables = &self.tables;
     }
 
-    /// Equal parameters once more. The only error is want of memory.
-    pub fn copy(&self, alloc: Global) -> Result<Params, AllocError>
+    /// The same parameters for one more holder. It takes no memory. The only error comes at 2^63 holders.
+    pub fn share(&self) -> Result<Params, AllocError>
         ensures { IfOk result (λ p. p ≡ self.now) }
     {
-        Ok(Params {
-            tables: self.tables.copy(alloc)?,
-        })
+        let tables = Arc::try_clone(&self.tables)?;
+        Ok(Params { tables })
     }
 
     /// Whether this is the calculation currency.
@@ -137,9 +140,10 @@ impl Params {
     pub fn fx_weight(&self, category: VolatilityCategory) -> Rate4
         ensures { result.0 ≡ category_weight self.now category }
     {
+        let weights = &self.tables.fx.weights;
         match category {
-            VolatilityCategory::Regular => self.tables.fx.weights.regular,
-            VolatilityCategory::High => self.tables.fx.weights.high,
+            VolatilityCategory::Regular => weights.regular,
+            VolatilityCategory::High => weights.high,
         }
     }
 
@@ -148,14 +152,11 @@ impl Params {
         ensures value { result.0 ≡ category_rho self.now a b }
         ensures size { unsigned_abs result.0 ≤ 10000 }
     {
+        let rhos = &self.tables.fx.rhos;
         match (a, b) {
-            (VolatilityCategory::High, VolatilityCategory::High) => self.tables.fx.rhos.high,
-            (VolatilityCategory::Regular, VolatilityCategory::Regular) => self
-                .tables
-                .fx
-                .rhos
-                .regular,
-            _ => self.tables.fx.rhos.mixed,
+            (VolatilityCategory::High, VolatilityCategory::High) => rhos.high,
+            (VolatilityCategory::Regular, VolatilityCategory::Regular) => rhos.regular,
+            _ => rhos.mixed,
         }
     }
 
@@ -171,10 +172,11 @@ impl Params {
     pub fn fx_threshold(&self, category: ConcentrationCategory) -> i64
         ensures { result ≡ category_threshold self.now category }
     {
+        let thresholds = &self.tables.fx.thresholds;
         match category {
-            ConcentrationCategory::First => self.tables.fx.thresholds.first,
-            ConcentrationCategory::Second => self.tables.fx.thresholds.second,
-            ConcentrationCategory::Third => self.tables.fx.thresholds.third,
+            ConcentrationCategory::First => thresholds.first,
+            ConcentrationCategory::Second => thresholds.second,
+            ConcentrationCategory::Third => thresholds.third,
         }
     }
 }

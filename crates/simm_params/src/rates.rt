@@ -76,15 +76,6 @@ impl Rates {
         }
         least
     }
-
-    /// The same rates once more. The only error is want of memory.
-    pub fn copy(&self, alloc: Global) -> Result<Rates, AllocError>
-        ensures { IfOk result (λ r. r ≡ self.now) }
-    {
-        Ok(Rates {
-            rates: Vec::from_slice(alloc, &self.rates)?,
-        })
-    }
 }
 
 fn lesser(a: Rate4, b: Rate4) -> Rate4

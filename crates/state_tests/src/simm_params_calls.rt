@@ -71,7 +71,7 @@ fn a_currency_has_the_weight_and_threshold_of_its_categories(rt: HostRuntime) {
 #[test]
 fn the_calculation_currency_is_known(rt: HostRuntime) {
     let first = params(&rt);
-    let params = first.copy(rt.alloc()).ok().expect(&rt, "memory");
+    let params = first.share().ok().expect(&rt, "memory");
     drop(first);
     for (text, is_own) in [("USD", true), ("EUR", false)] {
         let currency = currency(&rt, text);

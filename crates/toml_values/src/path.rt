@@ -5,7 +5,7 @@ use mh_units::Text;
 use std::alloc::{AllocError, Global};
 
 /// A part of a path. A path is all parts from the root of the file to a value.
-#[derive(Clone, Copy, Debug)]
+#[derive(Clone, Copy)]
 pub enum Part<'a> {
     /// A key of a table.
     Key(&'a str),

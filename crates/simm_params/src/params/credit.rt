@@ -20,9 +20,10 @@ impl Params {
         ensures value { credit_view result.now ≡ credit_params self.now (credit_class kind) }
         ensures weighed { AreWeighedCredit (credit_view result.now) }
     {
+        let classes = &self.tables.classes;
         match kind {
-            CreditKind::Qualifying => &self.tables.classes.credit_q,
-            CreditKind::NonQualifying => &self.tables.classes.credit_nq,
+            CreditKind::Qualifying => &classes.credit_q,
+            CreditKind::NonQualifying => &classes.credit_nq,
         }
     }
 

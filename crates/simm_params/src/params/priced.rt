@@ -21,9 +21,10 @@ impl Params {
         ensures value { priced_view result.now ≡ priced_params self.now (priced_class kind) }
         ensures weighed { AreWeighedPriced (priced_view result.now) }
     {
+        let classes = &self.tables.classes;
         match kind {
-            PricedKind::Equities => &self.tables.classes.equity,
-            PricedKind::Commodities => &self.tables.classes.commodity,
+            PricedKind::Equities => &classes.equity,
+            PricedKind::Commodities => &classes.commodity,
         }
     }
 

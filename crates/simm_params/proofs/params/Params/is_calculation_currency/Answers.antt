@@ -4,5 +4,5 @@ use Rattle.simm_params.proofs.params.Params.is_calculation_currency.Goals as goa
 
 pub returns : goal.returns
 returns c =
-    let tested = rw (c.letters.ensures.value, c.letters-2.ensures.value) at c.eq.ensures in
-    rw (← c.self.view_is) (tested ∙ sym (is_eq-slice_cmp c.args.currency.now c.self.inside.tables.calculation_currency))
+    let tested = rw (c.letters.ensures.value, c.letters-2.ensures.value, c.deref.ensures) at c.eq.ensures in
+    rw (← c.self.view_is) (tested ∙ sym (is_eq-slice_cmp c.args.currency.now c.self.inside.tables.value.calculation_currency))
