@@ -20,7 +20,7 @@ use std::alloc::{AllocError, Global};
 use std::sync::ledger::Ledger;
 
 /// The values of the buckets of a class on the side of volatility, bucket by bucket in order.
-#[derive(Debug, Drop)]
+#[derive(Drop)]
 pub struct VolatilityParts {
     /// The vega value of each bucket.
     pub vegas: Vec<(BucketId, BucketMargin)>,

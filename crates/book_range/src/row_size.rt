@@ -14,7 +14,7 @@ use simm_kinds::{CrifRow, FactorKey};
 use simm_params::Params;
 
 /// What a sensitivity weighs, and on which side.
-#[derive(Clone, Copy, Debug, PartialEq, Eq)]
+#[derive(Clone, Copy)]
 pub struct RowSize {
     /// The side of its factor.
     pub at: SideAt,

@@ -14,7 +14,7 @@ use simm_kinds::{CrifRow, ProductClass, RiskClass};
 use simm_params::Params;
 
 /// The gross sizes of the sides of a risk class, in ten-thousandths of a cent.
-#[derive(Clone, Copy, Debug, PartialEq, Eq)]
+#[derive(Clone, Copy)]
 pub struct SideSizes {
     /// Of delta, with base correlation.
     pub delta: i128,
@@ -49,7 +49,7 @@ impl SideSizes {
 }
 
 /// The gross sizes of the risk classes in one product class.
-#[derive(Clone, Copy, Debug, PartialEq, Eq)]
+#[derive(Clone, Copy)]
 pub struct ClassSizes {
     /// Of interest rates.
     pub ir: SideSizes,
@@ -106,7 +106,7 @@ impl ClassSizes {
 /// The gross sizes of a book: of each side of each risk class in each product class, the sum of the sizes of its amounts, each
 /// times its weight, in ten-thousandths of a cent. They do not net, and are kept as rows come and go at the cost of a look-up
 /// a row. They take no memory.
-#[derive(Clone, Copy, Debug, PartialEq, Eq)]
+#[derive(Clone, Copy)]
 pub struct GrossSizes {
     /// Of rates and foreign exchange.
     pub rates_fx: ClassSizes,

@@ -13,7 +13,7 @@ use simm_params::{CreditKind, Params, PricedKind};
 
 /// How the factors of a place weigh, in ten-thousandths: by risk weights, or on the side of volatilities by these, of which
 /// those of rates and of credit weigh 1.
-#[derive(Clone, Copy, Debug)]
+#[derive(Clone, Copy)]
 pub enum Weighing {
     /// All alike, as their bucket says.
     Alike(Rate4),

@@ -6,7 +6,7 @@ use simm_rules::RangeFault;
 use std::alloc::AllocError;
 
 /// Why a batch is not accepted.
-#[derive(Clone, Copy, Debug, PartialEq, Eq)]
+#[derive(Clone, Copy)]
 pub enum SubmitFault {
     /// The parameter file doesn't list the bucket of this row, which is the first such row of the batch.
     BucketUnknown {
@@ -30,7 +30,7 @@ impl From<AllocError> for SubmitFault {
 }
 
 /// Why a withdrawal is not accepted.
-#[derive(Clone, Copy, Debug, PartialEq, Eq)]
+#[derive(Clone, Copy, PartialEq, Eq)]
 pub enum WithdrawFault {
     /// The name at this place, from 1, is the first that is not current.
     UnknownTrade {

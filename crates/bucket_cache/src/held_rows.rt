@@ -51,7 +51,7 @@ pub fn hold_trades(alloc: Global, batch: &Batch) -> Result<Vec<HeldTrade>, Alloc
     let trades = batch.trades();
     let mut held = Vec::with_capacity(alloc, trades.len())?;
     for (index, trade) in trades.iter().enumerate() {
-        let batch = batch.share(alloc)?;
+        let batch = batch.share()?;
         let rows = HeldRows { batch, index };
         let trade = trade.trade.copy(alloc)?;
         held.push(HeldTrade { trade, rows })?;

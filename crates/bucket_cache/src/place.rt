@@ -1,5 +1,5 @@
 /// Where a row stands in a batch.
-#[derive(Clone, Copy, Debug, PartialEq, Eq)]
+#[derive(Clone, Copy)]
 pub struct RowPlace {
     /// Its trade's place in the batch, from 1.
     pub trade: u32,

@@ -1,5 +1,5 @@
 /// Why a desk did not take a notice.
-#[derive(Clone, Copy, Debug, PartialEq, Eq)]
+#[derive(Clone, Copy, PartialEq, Eq)]
 pub enum DeskFault {
     /// The desk failed.
     Failed,

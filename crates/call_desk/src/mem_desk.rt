@@ -10,7 +10,7 @@ use std::marker::Model;
 
 /// A desk over memory, for tests: it keeps the notices that it was told, and fails or finds no memory at the calls that it was
 /// told to.
-#[derive(Debug, Drop)]
+#[derive(Drop)]
 pub struct MemDesk {
     told: Vec<Notice>,
     failing: Vec<u64>,

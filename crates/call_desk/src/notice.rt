@@ -9,7 +9,7 @@ use std::alloc::{AllocError, Global};
 
 /// A call that was made, as a desk is told of it.
 /// (ISDA 2016 Credit Support Annex for Initial Margin: demands for a Delivery Amount or a Return Amount.)
-#[derive(Debug, PartialEq, Eq, Drop)]
+#[derive(Drop)]
 pub struct Notice {
     /// The netting set.
     pub set: Name,

@@ -10,7 +10,7 @@ use std::alloc::AllocError;
 use std::mem;
 
 /// What came of the notices.
-#[derive(Clone, Copy, Debug, PartialEq, Eq)]
+#[derive(Clone, Copy, PartialEq, Eq)]
 pub struct Published {
     /// How many notices were taken, over all desks.
     pub told: u64,

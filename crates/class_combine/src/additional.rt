@@ -12,7 +12,7 @@ use mh_units::Cents;
 use simm_kinds::CrifRow;
 
 /// The additional margins of a book.
-#[derive(Clone, Copy, Debug, PartialEq, Eq)]
+#[derive(Clone, Copy)]
 pub struct AddOns {
     /// Of fixed amounts.
     pub fixed: Cents,

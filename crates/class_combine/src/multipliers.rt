@@ -11,7 +11,7 @@ use mh_units::{Cents, Rate4, div_up};
 use simm_kinds::{CrifRow, ProductClass};
 
 /// The margins of the product classes.
-#[derive(Clone, Copy, Debug, PartialEq, Eq)]
+#[derive(Clone, Copy)]
 pub struct ProductAmounts {
     /// Of rates and foreign exchange.
     pub rates_fx: Cents,

@@ -4,7 +4,7 @@ ghost use Rattle.class_combine.specs.Summed.{CanGrow, CanShrink, IsSmall, first,
 use mh_units::Cents;
 
 /// What the notionals of one qualifier come to.
-#[derive(Clone, Copy, Debug, PartialEq, Eq)]
+#[derive(Clone, Copy)]
 pub struct NotionalSum {
     /// The sum of the sizes of their amounts, in cents.
     pub size: i128,

@@ -10,7 +10,7 @@ use simm_params::Params;
 use simm_rules::{Breakdown, ClassMargins, ProductMargin};
 
 /// The margins of the risk classes in each product class.
-#[derive(Clone, Copy, Debug, PartialEq, Eq)]
+#[derive(Clone, Copy)]
 pub struct ProductClasses {
     /// In rates and foreign exchange.
     pub rates_fx: ClassMargins,

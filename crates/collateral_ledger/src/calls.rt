@@ -12,7 +12,7 @@ use std::marker::Model;
 
 /// The calls that are outstanding, each found by its number, how many were ever added, and what is booked for the
 /// outstanding ones together.
-#[derive(Debug, Drop)]
+#[derive(Drop)]
 pub struct Calls {
     outstanding: BTreeMap<u32, OpenCall>,
     added: u32,

@@ -4,7 +4,7 @@ ghost use Rattle.collateral_ledger.specs.Refusals.{ledger_fault_number};
 use std::alloc::AllocError;
 
 /// Why the ledger isn't changed.
-#[derive(Clone, Copy, Debug, PartialEq, Eq)]
+#[derive(Clone, Copy, PartialEq, Eq)]
 pub enum LedgerFault {
     /// A lot of this name is there.
     LotKnown,

@@ -6,7 +6,7 @@ use csa_terms::Flow;
 use std::marker::Model;
 
 /// A call that is outstanding, without its number: which way it flows, and its amount, 1 to 10^18 cents.
-#[derive(Debug, Drop)]
+#[derive(Drop)]
 pub struct OpenCall {
     flow: Flow,
     amount: i64,

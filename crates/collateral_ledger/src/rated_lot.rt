@@ -9,7 +9,7 @@ use std::marker::Model;
 
 /// A lot of collateral without its name: its place in the order in which lots were put, its value in cents, and what
 /// counts of each dollar of it.
-#[derive(Debug, Drop)]
+#[derive(Drop)]
 pub struct RatedLot {
     place: u64,
     value: i64,

@@ -6,7 +6,7 @@ use mh_units::Text;
 use std::alloc::AllocError;
 
 /// Which file of a command.
-#[derive(Clone, Copy, Debug)]
+#[derive(Clone, Copy)]
 pub enum InputFile {
     /// The parameter file.
     Params,
@@ -35,7 +35,7 @@ impl InputFile {
 }
 
 /// Why a file gave nothing.
-#[derive(Debug, Drop)]
+#[derive(Drop)]
 pub enum FileFault {
     /// It isn't there or can't be opened.
     Missing,
@@ -90,7 +90,7 @@ impl From<AllocError> for FileFault {
 }
 
 /// Why a command ended before its work.
-#[derive(Debug, Drop)]
+#[derive(Drop)]
 pub enum Fault<'a> {
     /// A file of the command gave nothing.
     OfFile {

@@ -1,5 +1,5 @@
 /// The one line of a command that ended with a fault.
-#[derive(Clone, Copy, Debug)]
+#[derive(Clone, Copy)]
 pub enum FaultLine<'a> {
     /// The whole line; for want of memory there is none.
     Whole(&'a [u8]),

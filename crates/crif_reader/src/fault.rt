@@ -6,7 +6,7 @@ use mh_units::NumeralFault;
 use std::alloc::{AllocError, AllocFailed};
 
 /// Why a record gives no row, in the order of the tests.
-#[derive(Clone, Copy, Debug, PartialEq, Eq)]
+#[derive(Clone, Copy, PartialEq, Eq)]
 pub enum RowFault {
     /// It has more fields than the header.
     FieldCount,
@@ -58,7 +58,7 @@ impl RowFault {
 
 /// Why the bytes of a CRIF file give no batch: the first fault in reading order. Records are counted from 1, and the header is
 /// the first.
-#[derive(Clone, Copy, Debug, PartialEq, Eq)]
+#[derive(Clone, Copy, PartialEq, Eq)]
 pub enum CrifFault {
     /// There is no record at all.
     NoHeader,

@@ -23,7 +23,7 @@ use std::alloc::Global;
 const TOO_MANY: u32 = 100_002;
 
 /// What a CRIF file has: its rows, and how many records were passed over, being present values or of the schedule.
-#[derive(Debug, Drop)]
+#[derive(Drop)]
 pub struct ReadBatch {
     /// The rows, by trade.
     pub batch: Batch,

@@ -2,7 +2,7 @@ use crate::RowFault;
 use std::alloc::AllocError;
 
 /// Why the reading of a record stops: its fault, or want of memory.
-#[derive(Clone, Copy, Debug)]
+#[derive(Clone, Copy)]
 pub enum RowStop {
     /// The record's fault.
     Fault(RowFault),

@@ -7,7 +7,7 @@ use crate::moment::Moment;
 use crate::set_terms::SetTerms;
 
 /// A demand's day, counted from 1970-01-01, is not in the years 1 to 9000.
-#[derive(Clone, Copy, Debug, PartialEq, Eq)]
+#[derive(Clone, Copy, PartialEq, Eq)]
 pub struct DayRange {
     /// The demand's day.
     pub day: i32,

@@ -8,7 +8,7 @@ use toml_values::ValueFault;
 
 /// Why a terms file was not taken: the first test that fails. A path is the keys joined by points, sets and places
 /// counted from 1, as `set.2.rounding`, `set.2.haircuts.CASH-USD` or `set.2.holidays.3`.
-#[derive(Debug, Drop)]
+#[derive(Drop)]
 pub enum TermsFault {
     /// The file is not UTF-8 text of a TOML document.
     Toml,

@@ -23,7 +23,7 @@ use toml_values::{Part, ValueFault, entry_count, rate};
 const MOST: usize = 256;
 
 /// An entry of a set's haircuts.
-#[derive(Debug, Drop)]
+#[derive(Drop)]
 struct Entry {
     class: Name,
     rate: Rate4,

@@ -12,7 +12,7 @@ use std::marker::Model;
 
 /// The haircuts of collateral by its class, in ten-thousandths of the value: at most 256, each from 0 to 1. Contracts
 /// see their list in the order of the classes.
-#[derive(Debug, Drop)]
+#[derive(Drop)]
 pub struct HaircutTable {
     rates: BTreeMap<Name, Rate4>,
 }

@@ -9,7 +9,7 @@ use std::marker::Model;
 
 /// Holidays as days counted from 1970-01-01: at most 4,096, each from 0001-01-01 to 9999-12-31. Contracts see just
 /// their list, in which each stands once and in order.
-#[derive(Debug, Drop)]
+#[derive(Drop)]
 pub struct HolidayList {
     days: BTreeSet<i32>,
 }

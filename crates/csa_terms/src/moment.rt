@@ -5,7 +5,7 @@ use crate::date::{date_in, minute_in};
 use std::marker::Model;
 
 /// The local time of a demand: a day, counted from 1970-01-01, and a minute of it, from 0 at midnight to 1,439.
-#[derive(Clone, Copy, Debug, PartialEq, Eq)]
+#[derive(Clone, Copy)]
 pub struct Moment {
     day: i32,
     minute: u16,

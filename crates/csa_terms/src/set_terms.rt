@@ -10,7 +10,7 @@ use std::alloc::{AllocError, Global};
 use std::marker::Model;
 
 /// The amounts of an agreement, in cents.
-#[derive(Clone, Copy, Debug)]
+#[derive(Clone, Copy)]
 pub struct Amounts {
     /// What stays uncovered: 0 to 10^15.
     pub threshold: Cents,
@@ -24,7 +24,7 @@ pub struct Amounts {
 
 /// The terms of one netting set's agreement. Each value is in its range, and the haircuts are of different classes.
 /// Contracts see the plain record.
-#[derive(Debug, Drop)]
+#[derive(Drop)]
 pub struct SetTerms {
     name: Name,
     amounts: Amounts,

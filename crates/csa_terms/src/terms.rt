@@ -6,7 +6,7 @@ use std::marker::Model;
 
 /// The terms of the netting sets of a file, in its order: one to sixteen, of different names. Contracts see just their
 /// list.
-#[derive(Debug, Drop)]
+#[derive(Drop)]
 pub struct Terms {
     sets: Vec<SetTerms>,
 }

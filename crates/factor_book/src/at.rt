@@ -2,7 +2,7 @@ use crate::place::BookSide;
 use simm_kinds::{BucketId, ProductClass, RiskClass};
 
 /// One bucket of one risk class in one product class.
-#[derive(Clone, Copy, Debug, PartialEq, Eq)]
+#[derive(Clone, Copy)]
 pub struct BucketAt {
     /// The product class.
     pub product: ProductClass,
@@ -13,7 +13,7 @@ pub struct BucketAt {
 }
 
 /// One risk class in one product class.
-#[derive(Clone, Copy, Debug, PartialEq, Eq)]
+#[derive(Clone, Copy)]
 pub struct ClassAt {
     /// The product class.
     pub product: ProductClass,
@@ -22,7 +22,7 @@ pub struct ClassAt {
 }
 
 /// One side of one risk class in one product class.
-#[derive(Clone, Copy, Debug, PartialEq, Eq)]
+#[derive(Clone, Copy)]
 pub struct SideAt {
     /// The product class.
     pub product: ProductClass,

@@ -4,7 +4,7 @@ ghost use Rattle.factor_book.specs.Holdings.{CanGrow, CanShrink, IsSmall, first,
 use mh_units::Cents;
 
 /// What the sensitivities of one key come to.
-#[derive(Clone, Copy, Debug, PartialEq, Eq)]
+#[derive(Clone, Copy)]
 pub struct Holding {
     /// The sum of their amounts, in cents.
     pub net: i128,

@@ -4,7 +4,7 @@ ghost use Rattle.factor_book.specs.Place.{book_side, place_of};
 use simm_kinds::{BucketId, FactorKey, ProductClass, RiskClass, Side};
 
 /// A side of a risk class, whose sensitivities are counted and sized together.
-#[derive(Clone, Copy, Debug, PartialEq, Eq, PartialOrd, Ord)]
+#[derive(Clone, Copy, PartialEq, Eq, PartialOrd, Ord)]
 pub enum BookSide {
     /// Delta, with base correlation.
     Delta,
@@ -26,7 +26,7 @@ impl BookSide {
 
 /// Where a factor stands in a book: the factors of one product class, risk class, side and bucket stand together. Places
 /// are ordered by these parts. Base correlations stand in the bucket `Single` of the delta side of `CreditQ`.
-#[derive(Clone, Copy, Debug, PartialEq, Eq, PartialOrd, Ord)]
+#[derive(Clone, Copy, PartialEq, Eq, PartialOrd, Ord)]
 pub struct Place {
     /// The product class.
     pub product: ProductClass,

@@ -7,7 +7,7 @@ use simm_kinds::Listed;
 use std::alloc::Global;
 
 /// A message that made no call. `line` is the number of its first line, from 1.
-#[derive(Clone, Copy, Debug, PartialEq, Eq)]
+#[derive(Clone, Copy)]
 pub enum RefusedMessage {
     /// It is no message.
     BadLine {
@@ -47,7 +47,7 @@ impl RefusedMessage {
 }
 
 /// How a feed ended. Lines are counted from 1.
-#[derive(Clone, Copy, Debug, PartialEq, Eq)]
+#[derive(Clone, Copy, PartialEq, Eq)]
 pub enum FeedEnd {
     /// All of it was read.
     End,
@@ -64,7 +64,7 @@ pub enum FeedEnd {
 }
 
 /// What became of a feed's messages.
-#[derive(Debug, Drop)]
+#[derive(Drop)]
 pub struct FeedReport {
     /// How many of them stand in a journal.
     pub done: u32,

@@ -2,7 +2,7 @@ ghost use Rattle.std.specs.Prelude.{◌≡◌};
 ghost use Rattle.feed_reader.specs.Fault.{feed_fault_number};
 
 /// Why a call for the next message gave none.
-#[derive(Clone, Copy, Debug, PartialEq, Eq)]
+#[derive(Clone, Copy)]
 pub enum FeedFault {
     /// This line outside a block is no message. The next call reads on with the next line.
     BadLine { line: u32 },

@@ -18,7 +18,7 @@ use std::alloc::Global;
 const TAB: u8 = b'\t';
 
 /// The fields of a line that are still to be read.
-#[derive(Debug, Drop)]
+#[derive(Drop)]
 pub(crate) struct Fields<'a> {
     /// With tabs between; `None` behind the last one.
     rest: Option<&'a [u8]>,

@@ -3,7 +3,7 @@ use mh_units::Bytes;
 use simm_kinds::{Listed, Name};
 
 /// A message of a feed. Names are not empty, amounts are in cents. Its fields stand in a line with tabs between.
-#[derive(Debug, Drop)]
+#[derive(Drop)]
 pub enum Message {
     /// `CRIF` and the set, then lines, then `END`: `block` has the lines between, each with LF.
     Crif {
@@ -51,7 +51,7 @@ pub enum Message {
 }
 
 /// A message, with the number of its first line.
-#[derive(Debug, Drop)]
+#[derive(Drop)]
 pub struct Fed {
     /// The number of its first line, from 1.
     pub line: u32,
@@ -60,7 +60,7 @@ pub struct Fed {
 }
 
 /// What a line outside a block is, where it isn't passed over.
-#[derive(Debug, Drop)]
+#[derive(Drop)]
 pub(crate) enum Meaning {
     /// A block of this set begins.
     Opens { set: Name },

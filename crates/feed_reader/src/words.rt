@@ -4,7 +4,7 @@ ghost use Rattle.feed_reader.specs.Line.{is_passed_over, is_end};
 ghost use Rattle.feed_reader.specs.Words.{word_text, word_of};
 
 /// The first field of a message, which says what the others are.
-#[derive(Clone, Copy, Debug, PartialEq, Eq)]
+#[derive(Clone, Copy)]
 pub(crate) enum Word {
     Crif,
     Withdraw,

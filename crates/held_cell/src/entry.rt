@@ -1,5 +1,5 @@
 /// One call in a journal: who made it, with what, and what it was answered. The cell stores none of them.
-#[derive(Drop, Debug)]
+#[derive(Drop)]
 pub struct Entry<E, R> {
     /// The number of the caller.
     pub caller: u32,

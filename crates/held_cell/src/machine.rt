@@ -4,7 +4,7 @@ ghost use Rattle.held_cell.specs.Entries.{entry};
 ghost use Rattle.held_cell.specs.Halts.{Explains};
 
 /// Why a machine took no step. The event comes back, and the journal stands.
-#[derive(Drop, Debug)]
+#[derive(Drop)]
 pub enum Halt<E> {
     /// The machine is at its limit: its journal has so many entries and weighs so much.
     Full { entries: u32, weight: u32, event: E },

@@ -10,7 +10,7 @@ use factor_book::PlaceFactors;
 use std::alloc::{AllocError, Global};
 
 /// The net sensitivity to one rate of a currency.
-#[derive(Clone, Copy, Debug)]
+#[derive(Clone, Copy)]
 pub struct RateNet {
     /// The rate.
     pub rate: Rate,

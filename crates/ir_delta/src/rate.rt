@@ -4,7 +4,7 @@ ghost use Rattle.ir_delta.specs.Rate.{rate_of, rule_rates};
 use simm_kinds::{Factor, FactorKey, SubCurve, Tenor};
 
 /// A rate of a currency, by what its weight and its correlations go by.
-#[derive(Clone, Copy, Debug)]
+#[derive(Clone, Copy)]
 pub enum Rate {
     /// A point of a yield curve.
     Curve { tenor: Tenor, sub: SubCurve },

@@ -10,7 +10,7 @@ use mh_units::Cents;
 use simm_kinds::{ProductClass, RiskClass};
 
 /// Those of one product class.
-#[derive(Clone, Copy, Debug, PartialEq, Eq)]
+#[derive(Clone, Copy)]
 pub struct KeptClasses {
     /// That of interest rates.
     pub ir: Option<Cents>,
@@ -71,7 +71,7 @@ impl KeptClasses {
 }
 
 /// Those of all product classes.
-#[derive(Clone, Copy, Debug, PartialEq, Eq)]
+#[derive(Clone, Copy)]
 pub struct KeptMargins {
     /// Those of interest rates and foreign exchange.
     pub rates_fx: KeptClasses,

@@ -5,7 +5,7 @@ use factor_book::BookSide;
 use simm_rules::BucketMargin;
 
 /// What is kept of a place of a book.
-#[derive(Clone, Copy, Debug, PartialEq, Eq)]
+#[derive(Clone, Copy)]
 pub enum KeptValue {
     /// On the side of delta the value of its bucket; in the bucket `Single` of credit that qualifies that of base correlation.
     Delta(BucketMargin),
@@ -14,7 +14,7 @@ pub enum KeptValue {
 }
 
 /// The values of a bucket on the side of volatility.
-#[derive(Clone, Copy, Debug, PartialEq, Eq)]
+#[derive(Clone, Copy)]
 pub struct VolatilityMargins {
     /// The vega value.
     pub vega: BucketMargin,

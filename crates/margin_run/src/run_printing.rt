@@ -90,7 +90,7 @@ fn outcome_texts<R: Threads + Sync>(
 }
 
 /// How the text of a run went out.
-#[derive(Clone, Copy, Debug)]
+#[derive(Clone, Copy)]
 pub(crate) enum Printed {
     /// All of it did.
     Whole,

@@ -7,7 +7,7 @@ ghost use Rattle.margin_top.specs.WordsRead.{IsForm};
 use margin_run::RunFiles;
 
 /// The files of a margin calculation.
-#[derive(Clone, Copy, Debug)]
+#[derive(Clone, Copy)]
 pub(crate) struct CalcFiles<'a> {
     /// The name of the parameter file.
     pub params: &'a str,
@@ -39,7 +39,7 @@ fn are_feeds(words: &[String]) -> bool
 }
 
 /// A command with its files.
-#[derive(Clone, Copy, Debug)]
+#[derive(Clone, Copy)]
 pub(crate) enum Command<'a> {
     Calc(CalcFiles<'a>),
     Run(RunFiles<'a>),

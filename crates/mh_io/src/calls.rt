@@ -5,7 +5,7 @@ ghost use Rattle.mh_io.specs.Memory.{uncalled, is_due, with_call, with_fault};
 use std::marker::Model;
 
 /// The calls of an object over memory: those that are to fail, and a count of calls and of faults.
-#[derive(Debug, Drop)]
+#[derive(Drop)]
 pub(crate) struct Calls {
     failing: Vec<u64>,
     made: u64,

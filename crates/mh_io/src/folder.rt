@@ -5,7 +5,7 @@ use crate::source::Source;
 use std::alloc::{AllocError, Global};
 
 /// Why a folder gave no source.
-#[derive(Clone, Copy, Debug, PartialEq, Eq)]
+#[derive(Clone, Copy)]
 pub enum FindRefused {
     /// The file isn't there or can't be opened; the folder's count of find faults rose.
     Failed,

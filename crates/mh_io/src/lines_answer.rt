@@ -1,7 +1,7 @@
 use std::alloc::AllocError;
 
 /// What a call for the next line answers.
-#[derive(Clone, Copy, Debug, PartialEq, Eq)]
+#[derive(Clone, Copy, PartialEq, Eq)]
 pub enum LineStep {
     /// The line is there.
     Line,
@@ -10,7 +10,7 @@ pub enum LineStep {
 }
 
 /// Why no line was given.
-#[derive(Clone, Copy, Debug, PartialEq, Eq)]
+#[derive(Clone, Copy, PartialEq, Eq)]
 pub enum LineFault {
     /// The source failed, and every line that was taken with its LF was given.
     ReadFault,
@@ -35,7 +35,7 @@ impl From<AllocError> for LineFault {
 }
 
 /// Whether more bytes can be taken of a source.
-#[derive(Clone, Copy, Debug, PartialEq, Eq)]
+#[derive(Clone, Copy)]
 pub enum Supply {
     /// More may come.
     Open,
@@ -46,14 +46,14 @@ pub enum Supply {
 }
 
 /// There was no memory; what was handed in comes back.
-#[derive(Debug, Drop)]
+#[derive(Drop)]
 pub struct MemoryBack<T> {
     /// What was handed in.
     pub back: T,
 }
 
 /// What stands at the front of the bytes that wait.
-#[derive(Clone, Copy, Debug, PartialEq, Eq)]
+#[derive(Clone, Copy)]
 pub(crate) enum Front {
     /// A line of this many bytes, and its LF.
     Line { count: usize },

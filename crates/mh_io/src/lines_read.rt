@@ -17,7 +17,7 @@ use std::marker::Model;
 /// A line ends before LF, and a CR before that LF is left off. The last bytes before the end of input are a line too, as
 /// they are. Contracts see the source, the bytes that were taken and not yet given, how many bytes and lines were given,
 /// and whether more can be taken.
-#[derive(Debug, Drop)]
+#[derive(Drop)]
 pub struct Lines<S: Source> {
     source: S,
     window: Window,

@@ -12,7 +12,7 @@ use std::marker::Model;
 pub const LINE_BYTES: usize = 65_536;
 
 /// Bytes that were taken and wait to be given: the next ones of a source, as many as a line has at most.
-#[derive(Debug, Drop)]
+#[derive(Drop)]
 pub(crate) struct Window {
     bytes: Vec<u8>,
     start: usize,

@@ -7,7 +7,7 @@ use std::alloc::{AllocError, Global};
 use std::marker::Model;
 
 /// A file of a folder over memory.
-#[derive(Debug, Drop)]
+#[derive(Drop)]
 pub(crate) struct MemFile {
     name: Text,
     bytes: Bytes,

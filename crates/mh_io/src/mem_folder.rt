@@ -14,7 +14,7 @@ use std::marker::Model;
 /// A folder over memory, for tests: its finds and the takings of its sources fail at the calls that were told to fail.
 ///
 /// It tells its files, the names that it was asked for, and what was read.
-#[derive(Debug, Drop)]
+#[derive(Drop)]
 pub struct MemFolder {
     files: Vec<MemFile>,
     asked: Vec<Text>,

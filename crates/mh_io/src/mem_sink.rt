@@ -12,7 +12,7 @@ use std::marker::Model;
 /// that it was told to fail at.
 ///
 /// It tells what it holds.
-#[derive(Debug, Drop)]
+#[derive(Drop)]
 pub struct MemSink {
     held: Vec<u8>,
     room: usize,

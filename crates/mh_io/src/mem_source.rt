@@ -11,7 +11,7 @@ use std::marker::Model;
 /// A source over memory, for tests: it gives its bytes in pieces, and fails at the calls that it was told to fail at.
 ///
 /// It tells its name, what it gave and what is left.
-#[derive(Debug, Drop)]
+#[derive(Drop)]
 pub struct MemSource {
     name: Text,
     bytes: Bytes,

@@ -15,7 +15,7 @@ pub const MOST_BYTES: usize = 33_554_432;
 const CHUNK_BYTES: usize = 65_536;
 
 /// Why a source wasn't read to its end.
-#[derive(Clone, Copy, Debug, PartialEq, Eq)]
+#[derive(Clone, Copy, PartialEq, Eq)]
 pub enum ReadAllFault {
     /// The source failed, and its count of faults rose.
     ReadFault,

@@ -10,7 +10,7 @@ use std::marker::Model;
 use std::rt::Files;
 
 /// A source over a reader, as an open file. It tells nothing of its bytes.
-#[derive(Debug, Drop)]
+#[derive(Drop)]
 pub struct RealSource<R: Read> {
     reader: R,
     faults: u64,
@@ -54,7 +54,7 @@ impl<R: Read + Drop> Source for RealSource<R> {
 }
 
 /// A sink over a writer, as standard output. It tells nothing of its bytes.
-#[derive(Debug, Drop)]
+#[derive(Drop)]
 pub struct RealSink<W: Write> {
     writer: W,
     faults: u64,
@@ -98,7 +98,7 @@ impl<W: Write> Sink for RealSink<W> {
 }
 
 /// The files of the file system, found by their paths. It tells nothing of them.
-#[derive(Debug, Drop)]
+#[derive(Drop)]
 pub struct RealFolder<R: Files> {
     runtime: R,
     find_faults: u64,

@@ -3,7 +3,7 @@ ghost use Rattle.mh_io.specs.Sink.{PutsAll};
 use crate::sink::Sink;
 
 /// A sink failed after it took this many bytes.
-#[derive(Clone, Copy, Debug, PartialEq, Eq)]
+#[derive(Clone, Copy, PartialEq, Eq)]
 pub struct PutFault {
     /// How many bytes it took.
     pub put: usize,

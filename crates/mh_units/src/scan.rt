@@ -3,7 +3,7 @@ ghost use Rattle.mh_units.specs.Scan.{kind_of, next, is_end, reach, is_numeral};
 ghost use Rattle.mh_units.specs.declared.scan.Phase.TheVariants.{Start};
 
 /// What a byte is to a numeral.
-#[derive(Clone, Copy, Debug, PartialEq, Eq)]
+#[derive(Clone, Copy)]
 pub enum Kind {
     Digit,
     Sign,
@@ -13,7 +13,7 @@ pub enum Kind {
 }
 
 /// How far a numeral has been read.
-#[derive(Clone, Copy, Debug, PartialEq, Eq)]
+#[derive(Clone, Copy)]
 pub enum Phase {
     Start,
     Signed,

@@ -25,7 +25,7 @@ use std::sync::ledger::Ledger;
 use weighted_bucket::{Grouped, Scaling, Weighed, bucket_margin, group_cr, weigh};
 
 /// A bucket of a class of credit in a product class.
-#[derive(Clone, Copy, Debug)]
+#[derive(Clone, Copy)]
 pub struct CreditAt {
     /// The product class.
     pub product: ProductClass,

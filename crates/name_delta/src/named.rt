@@ -10,7 +10,7 @@ use simm_kinds::Bucket;
 use simm_params::{CreditKind, Params, PricedKind};
 
 /// A class of which the file lists buckets.
-#[derive(Clone, Copy, Debug)]
+#[derive(Clone, Copy)]
 pub enum NamedClass {
     /// A class of credit.
     Credit(CreditKind),

@@ -9,7 +9,7 @@ use std::alloc::{AllocError, Global};
 use weighted_bucket::Grouped;
 
 /// The net sensitivity to a point of an issuer's credit curve, or to its volatility.
-#[derive(Clone, Copy, Debug)]
+#[derive(Clone, Copy)]
 struct Point<'a> {
     issuer: &'a FullName,
     /// In cents.

@@ -25,7 +25,7 @@ use std::sync::ledger::Ledger;
 use weighted_bucket::{Scaling, Weighed, bucket_margin};
 
 /// A bucket of equity or of commodities in a product class.
-#[derive(Clone, Copy, Debug)]
+#[derive(Clone, Copy)]
 pub struct PricedAt {
     /// The product class.
     pub product: ProductClass,

@@ -2,7 +2,7 @@ ghost use Rattle.std.specs.Prelude.{◌≡◌};
 ghost use Rattle.params_file.specs.BucketClass.{class_key, has_residual};
 
 /// The risk classes that have buckets, in their order.
-#[derive(Clone, Copy, Debug)]
+#[derive(Clone, Copy)]
 pub enum BucketClass {
     /// Credit that qualifies.
     CreditQ,

@@ -5,7 +5,7 @@ use crate::range::{CORRELATION, SIGMA};
 use toml_values::Range;
 
 /// The rate that only classes of one kind have for a bucket.
-#[derive(Clone, Copy, Debug)]
+#[derive(Clone, Copy)]
 pub enum OwnRate {
     /// Credit: the correlation of the factors of one name.
     Same,
@@ -36,7 +36,7 @@ impl OwnRate {
 }
 
 /// How the buckets of a class are read.
-#[derive(Clone, Copy, Debug)]
+#[derive(Clone, Copy)]
 pub struct BucketForm {
     /// The rate that its buckets have beside those of each class.
     pub own: OwnRate,

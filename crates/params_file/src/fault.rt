@@ -7,7 +7,7 @@ use toml_values::ValueFault;
 
 /// Why a parameter file was not taken: the first test that fails. A path is the keys joined by points, places counted
 /// from 1, as `fx.weight.2`.
-#[derive(Debug, Drop)]
+#[derive(Drop)]
 pub enum ParamFault {
     /// The file is not UTF-8 text of a TOML document.
     Toml,

@@ -5,7 +5,7 @@ use crate::range::{CORRELATION, IR_HVR, VEGA_WEIGHT, WEIGHT};
 use toml_values::Range;
 
 /// What the table of interest rates has as a single rate, in the order of the file.
-#[derive(Clone, Copy, Debug)]
+#[derive(Clone, Copy)]
 pub enum IrRate {
     /// The risk weight of inflation.
     InflationWeight,

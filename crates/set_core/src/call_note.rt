@@ -1,7 +1,7 @@
 use csa_terms::Flow;
 
 /// A call for collateral. Amounts are in cents.
-#[derive(Clone, Copy, Debug, PartialEq, Eq)]
+#[derive(Clone, Copy)]
 pub struct CallNote {
     /// The call's number in its set, from 1.
     pub number: u32,

@@ -7,7 +7,7 @@ use csa_terms::{LotCurrency, Moment};
 use simm_kinds::{Batch, Listed, Name, TradeRows};
 
 /// What a caller asks of a netting set.
-#[derive(Drop, Debug)]
+#[derive(Drop)]
 pub enum Event {
     /// Gives each trade that the batch names just the rows that it has there. A known trade keeps its place.
     Submit(Batch),

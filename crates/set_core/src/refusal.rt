@@ -4,7 +4,7 @@ ghost use Rattle.set_core.specs.Text.{refusal_number};
 use simm_rules::RangeFault;
 
 /// Why an event was refused. It stands in the journal with the event, and nothing else changed.
-#[derive(Clone, Copy, Debug, PartialEq, Eq)]
+#[derive(Clone, Copy)]
 pub enum Refusal {
     /// A withdrawal names a trade that isn't current; the place of the first such name, from 1.
     UnknownTrade { place: u64 },

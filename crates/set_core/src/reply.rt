@@ -6,7 +6,7 @@ use crate::{CallNote, Event, Refusal, SharedMargin};
 use std::alloc::{AllocError, Global};
 
 /// What an event was answered.
-#[derive(Drop, Debug)]
+#[derive(Drop)]
 pub enum Reply {
     /// The change was made.
     Accepted,

@@ -6,7 +6,7 @@ use std::marker::Model;
 use std::sync::Arc;
 
 /// A margin whose parts, 512 bytes, stand once for all that hold it. Contracts see the parts.
-#[derive(Drop, Debug)]
+#[derive(Drop)]
 pub struct SharedMargin {
     parts: Arc<Breakdown, Global>,
 }

@@ -10,7 +10,7 @@ use std::sync::Arc;
 /// The rows of one file, by trade: 1 to 100,000 rows, trades with different names and at least one row each,
 /// parameters of add-ons under the empty name alone, at most one multiplier of a product class and one factor of a
 /// qualifier, and each amount in its range. They stand once for all that hold the batch. Contracts see the list of trades.
-#[derive(Debug, Drop)]
+#[derive(Drop)]
 pub struct Batch {
     trades: Arc<Listed<TradeRows>, Global>,
 }
@@ -48,15 +48,12 @@ impl Batch {
         Ok(Batch { trades })
     }
 
-    /// The same batch for one more holder. It takes no memory up to 2^63 holders; one more has trades of its own. The only error
-    /// is want of memory.
-    pub fn share(&self, alloc: Global) -> Result<Batch, AllocError>
+    /// The same batch for one more holder. It takes no memory. The only error comes at 2^63 holders.
+    pub fn share(&self) -> Result<Batch, AllocError>
         ensures { IfOk result (λ batch. batch ≡ self.now) }
     {
-        match Arc::try_clone(&self.trades) {
-            Ok(trades) => Ok(Batch { trades }),
-            Err(_) => Batch::from_trades(alloc, copy_trades(alloc, self.trades())?),
-        }
+        let trades = Arc::try_clone(&self.trades)?;
+        Ok(Batch { trades })
     }
 
     /// Lends the trades. It takes no memory.
@@ -66,14 +63,4 @@ impl Batch {
     {
         self.trades.as_slice()
     }
-}
-
-fn copy_trades(alloc: Global, trades: &[TradeRows]) -> Result<Listed<TradeRows>, AllocError>
-    ensures { IfOk result (λ copies. copies ≡ trades.now) }
-{
-    let mut copies = Listed::with_capacity(alloc, trades.len())?;
-    for trade in trades {
-        copies.push(trade.copy(alloc)?)?;
-    }
-    Ok(copies)
 }

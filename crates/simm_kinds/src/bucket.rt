@@ -6,7 +6,7 @@ use crate::BucketNumber;
 use crate::words::is_word;
 
 /// The bucket of an issuer or an index: one of the numbered ones, or the residual one, which comes last.
-#[derive(Clone, Copy, Debug, PartialEq, Eq, PartialOrd, Ord, Hash)]
+#[derive(Clone, Copy, PartialEq, Eq, PartialOrd, Ord)]
 pub enum Bucket {
     /// A bucket with a number, from 1.
     Number(BucketNumber),

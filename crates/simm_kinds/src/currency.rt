@@ -6,7 +6,7 @@ use std::marker::Model;
 
 /// A currency: three ASCII letters in upper case. Currencies are equal, ordered and hashed by their letters; contracts
 /// see just these.
-#[derive(Clone, Copy, Debug, PartialEq, Eq, PartialOrd, Ord, Hash)]
+#[derive(Clone, Copy, Debug, PartialEq, Eq, PartialOrd, Ord)]
 pub struct Currency {
     letters: [u8; 3],
 }

@@ -7,7 +7,7 @@ use std::marker::Model;
 
 /// A name that isn't empty: of an issuer, an index, a commodity. Full names are equal, ordered and hashed by their
 /// bytes; contracts see just these.
-#[derive(Debug, Drop, PartialEq, Eq, PartialOrd, Ord, Hash)]
+#[derive(Drop, PartialEq, Eq, PartialOrd, Ord)]
 pub struct FullName {
     name: Name,
 }

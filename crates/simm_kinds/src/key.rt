@@ -6,7 +6,7 @@ use std::alloc::{AllocError, Global};
 
 /// The key of a sensitivity: what it is to, in a trade of which product class. Sensitivities with equal keys net. Keys are
 /// ordered by the product class, and then by the factor.
-#[derive(Debug, Drop, PartialEq, Eq, PartialOrd, Ord, Hash)]
+#[derive(Drop, PartialEq, Eq, PartialOrd, Ord)]
 pub struct FactorKey {
     /// The product class of the trade.
     pub product: ProductClass,

@@ -7,7 +7,7 @@ use crate::words::{Worded, first_worded, is_word};
 use crate::{BucketNumber, Currency};
 
 /// The product class of a trade. Margins of different product classes never net.
-#[derive(Clone, Copy, Debug, PartialEq, Eq, PartialOrd, Ord, Hash)]
+#[derive(Clone, Copy, Debug, PartialEq, Eq, PartialOrd, Ord)]
 pub enum ProductClass {
     /// Interest rates and foreign exchange.
     RatesFX,
@@ -63,7 +63,7 @@ impl Worded for ProductClass {
 }
 
 /// The risk class that a sensitivity belongs to.
-#[derive(Clone, Copy, Debug, PartialEq, Eq, PartialOrd, Ord, Hash)]
+#[derive(Clone, Copy, Debug, PartialEq, Eq, PartialOrd, Ord)]
 pub enum RiskClass {
     /// Interest rates, with inflation and cross-currency basis.
     IR,
@@ -123,7 +123,7 @@ impl Worded for RiskClass {
 }
 
 /// What part of a class's margin a sum is for.
-#[derive(Clone, Copy, Debug, PartialEq, Eq, PartialOrd, Ord, Hash)]
+#[derive(Clone, Copy)]
 pub enum Measure {
     /// Changes of the values themselves.
     Delta,
@@ -137,7 +137,7 @@ pub enum Measure {
 
 /// The side of a risk class that a sensitivity is on: the value's own change, its volatility's, or that of a base
 /// correlation. Vega and curvature are both margins of the volatility side.
-#[derive(Clone, Copy, Debug, PartialEq, Eq, PartialOrd, Ord, Hash)]
+#[derive(Clone, Copy, PartialEq, Eq, PartialOrd, Ord)]
 pub enum Side {
     /// The value's own change.
     Delta,
@@ -148,7 +148,7 @@ pub enum Side {
 }
 
 /// The risk type of a CRIF record, in the order of the standard's table. `Pv` never stands in a row that is kept.
-#[derive(Clone, Copy, Debug, PartialEq, Eq, PartialOrd, Ord, Hash)]
+#[derive(Clone, Copy, Debug, PartialEq, Eq, PartialOrd, Ord)]
 pub enum RiskType {
     /// A point of an interest rate curve.
     IrCurve,
@@ -268,7 +268,7 @@ impl Worded for RiskType {
 }
 
 /// A vertex of the standard's grid of maturities: weeks, months, years.
-#[derive(Clone, Copy, Debug, PartialEq, Eq, PartialOrd, Ord, Hash)]
+#[derive(Clone, Copy, Debug, PartialEq, Eq, PartialOrd, Ord)]
 pub enum Tenor {
     /// Two weeks.
     W2,
@@ -355,7 +355,7 @@ impl Worded for Tenor {
 }
 
 /// The sub-curve of an interest rate sensitivity.
-#[derive(Clone, Copy, Debug, PartialEq, Eq, PartialOrd, Ord, Hash)]
+#[derive(Clone, Copy, Debug, PartialEq, Eq, PartialOrd, Ord)]
 pub enum SubCurve {
     /// Overnight index swaps.
     Ois,
@@ -420,7 +420,7 @@ impl Worded for SubCurve {
 
 /// The bucket that a sensitivity is summed in: one of the numbered ones, the residual one, that of a currency (interest
 /// rates), or the one bucket of a class that has no others.
-#[derive(Clone, Copy, Debug, PartialEq, Eq, PartialOrd, Ord, Hash)]
+#[derive(Clone, Copy, PartialEq, Eq, PartialOrd, Ord)]
 pub enum BucketId {
     /// A bucket with a number, from 1.
     Number(BucketNumber),

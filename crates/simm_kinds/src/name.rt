@@ -18,7 +18,7 @@ use std::marker::Model;
 
 /// A name in a file: at most 64 bytes of UTF-8, no control byte, no space at either end. It may be empty unless a
 /// rule says otherwise. Names are equal, ordered and hashed by their bytes; contracts see just these.
-#[derive(Debug, Drop)]
+#[derive(Drop)]
 pub struct Name {
     bytes: SmallVec<u8, INLINE>,
 }

@@ -9,7 +9,7 @@ use simm_kinds::Bucket;
 pub const MOST_BUCKETS: usize = 65;
 
 /// What the parameters say of a bucket in each class that has buckets.
-#[derive(Clone, Copy, Debug)]
+#[derive(Clone, Copy)]
 pub struct BucketTerms {
     /// Which bucket of its class it is.
     pub id: Bucket,
@@ -27,7 +27,7 @@ pub struct BucketTerms {
 
 /// A bucket of any class, with the rate that only classes of its kind have: in credit the correlation of the factors of
 /// one name, in equity and commodities the volatility.
-#[derive(Clone, Copy, Debug)]
+#[derive(Clone, Copy)]
 pub struct ClassBucket {
     /// What buckets of each class have.
     pub terms: BucketTerms,

@@ -10,7 +10,7 @@ use std::alloc::{AllocError, Global};
 use std::marker::Model;
 
 /// The buckets of a class in their order, which contracts see as just that list. A bucket is found by its id in one step.
-#[derive(Debug, Drop)]
+#[derive(Drop)]
 pub struct Buckets {
     buckets: Vec<ClassBucket>,
     /// For each bucket that a class may have, its place in the list.

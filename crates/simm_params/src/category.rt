@@ -1,5 +1,5 @@
 /// How volatile a currency is: whether the file lists it as one of high volatility.
-#[derive(Clone, Copy, Debug, PartialEq, Eq)]
+#[derive(Clone, Copy, PartialEq, Eq)]
 pub enum VolatilityCategory {
     /// The file doesn't list it.
     Regular,
@@ -8,7 +8,7 @@ pub enum VolatilityCategory {
 }
 
 /// How volatile the curves of a currency are: which of the file's two lists has it.
-#[derive(Clone, Copy, Debug, PartialEq, Eq)]
+#[derive(Clone, Copy)]
 pub enum CurveCategory {
     /// The file lists it as one of low volatility.
     Low,
@@ -19,7 +19,7 @@ pub enum CurveCategory {
 }
 
 /// Which concentration threshold a currency has: that of the file's first list, of its second, or of all others.
-#[derive(Clone, Copy, Debug, PartialEq, Eq)]
+#[derive(Clone, Copy, PartialEq, Eq)]
 pub enum ConcentrationCategory {
     /// The file's first list has it.
     First,

@@ -1,5 +1,5 @@
 /// A class of credit.
-#[derive(Clone, Copy, Debug, PartialEq, Eq)]
+#[derive(Clone, Copy)]
 pub enum CreditKind {
     /// Credit that qualifies.
     Qualifying,
@@ -8,7 +8,7 @@ pub enum CreditKind {
 }
 
 /// A class of names that have a price.
-#[derive(Clone, Copy, Debug, PartialEq, Eq)]
+#[derive(Clone, Copy)]
 pub enum PricedKind {
     /// Equity.
     Equities,

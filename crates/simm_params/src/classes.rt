@@ -10,7 +10,7 @@ use mh_units::Rate4;
 use simm_kinds::Bucket;
 
 /// The parameters of a class of credit.
-#[derive(Debug, Drop)]
+#[derive(Drop)]
 pub struct CreditParams {
     /// The buckets, each with the correlation of the factors of one name.
     pub buckets: Buckets,
@@ -19,7 +19,7 @@ pub struct CreditParams {
 }
 
 /// The parameters of equity or of commodities.
-#[derive(Debug, Drop)]
+#[derive(Drop)]
 pub struct PricedParams {
     /// The buckets, each with its volatility.
     pub buckets: Buckets,
@@ -30,7 +30,7 @@ pub struct PricedParams {
 }
 
 /// The parameters of base correlations.
-#[derive(Clone, Copy, Debug)]
+#[derive(Clone, Copy)]
 pub struct BaseParams {
     /// The risk weight.
     pub weight: Rate4,
@@ -39,7 +39,7 @@ pub struct BaseParams {
 }
 
 /// What the parameters say of a bucket of credit.
-#[derive(Clone, Copy, Debug)]
+#[derive(Clone, Copy)]
 pub struct CreditBucket {
     /// What buckets of each class have.
     pub terms: BucketTerms,
@@ -48,7 +48,7 @@ pub struct CreditBucket {
 }
 
 /// What the parameters say of a bucket of equity or of commodities.
-#[derive(Clone, Copy, Debug)]
+#[derive(Clone, Copy)]
 pub struct PricedBucket {
     /// What buckets of each class have.
     pub terms: BucketTerms,

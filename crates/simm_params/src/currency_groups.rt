@@ -11,7 +11,7 @@ use std::collections::BTreeMap;
 use std::marker::Model;
 
 /// A concentration group of currencies.
-#[derive(Debug, Drop)]
+#[derive(Drop)]
 pub struct CurrencyGroup {
     /// The currencies of the group, as the file has them.
     pub currencies: CurrencyList,
@@ -21,7 +21,7 @@ pub struct CurrencyGroup {
 
 /// The concentration groups of currencies, in the order of the file, which contracts see as just that list. The thresholds
 /// of a currency are looked up in a tree.
-#[derive(Debug, Drop)]
+#[derive(Drop)]
 pub struct CurrencyGroups {
     groups: Vec<CurrencyGroup>,
     by_currency: BTreeMap<Currency, Thresholds>,

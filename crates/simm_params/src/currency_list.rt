@@ -8,7 +8,7 @@ use std::marker::Model;
 
 /// Currencies in the order of the file, which contracts see as just that list. Whether a currency is among them is
 /// looked up in a tree.
-#[derive(Debug, Drop)]
+#[derive(Drop)]
 pub struct CurrencyList {
     listed: Vec<Currency>,
     different: BTreeSet<Currency>,

@@ -6,7 +6,7 @@ use crate::currency_list::CurrencyList;
 use mh_units::Rate4;
 
 /// Risk weights by the volatility of a currency.
-#[derive(Clone, Copy, Debug)]
+#[derive(Clone, Copy)]
 pub struct FxWeights {
     /// Of a currency of regular volatility.
     pub regular: Rate4,
@@ -15,7 +15,7 @@ pub struct FxWeights {
 }
 
 /// Rates by the volatilities of two currencies: both regular, mixed, both high.
-#[derive(Clone, Copy, Debug)]
+#[derive(Clone, Copy)]
 pub struct PairRates {
     /// Where both are of regular volatility.
     pub regular: Rate4,
@@ -41,7 +41,7 @@ impl PairRates {
 }
 
 /// Concentration thresholds in cents, by the concentration category of a currency.
-#[derive(Clone, Copy, Debug)]
+#[derive(Clone, Copy)]
 pub struct FxThresholds {
     /// Of the first category.
     pub first: i64,
@@ -69,7 +69,7 @@ impl FxThresholds {
 
 /// Concentration thresholds of a currency pair, by the concentration category of one of its currencies, and behind it of the
 /// other.
-#[derive(Clone, Copy, Debug)]
+#[derive(Clone, Copy)]
 pub struct PairThresholds {
     /// Of the first category.
     pub first: FxThresholds,
@@ -96,7 +96,7 @@ impl PairThresholds {
 }
 
 /// The parameters of sensitivities to the volatility of a currency pair.
-#[derive(Clone, Copy, Debug)]
+#[derive(Clone, Copy)]
 pub struct FxVolatilities {
     /// Thresholds of sensitivities to the volatility of a pair.
     pub thresholds: PairThresholds,
@@ -111,7 +111,7 @@ pub struct FxVolatilities {
 }
 
 /// The parameters of foreign exchange.
-#[derive(Debug, Drop)]
+#[derive(Drop)]
 pub struct FxParams {
     /// The currencies of high volatility; all others are regular.
     pub high: CurrencyList,

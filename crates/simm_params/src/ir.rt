@@ -6,7 +6,7 @@ use crate::thresholds::Thresholds;
 use mh_units::Rate4;
 
 /// Risk weights of a curve by tenor, by the volatility of its currency.
-#[derive(Debug, Drop)]
+#[derive(Drop)]
 pub struct CurveWeights {
     /// Of a currency of regular volatility.
     pub regular: Rates,
@@ -17,7 +17,7 @@ pub struct CurveWeights {
 }
 
 /// Risk weights of inflation and of cross-currency basis.
-#[derive(Clone, Copy, Debug)]
+#[derive(Clone, Copy)]
 pub struct FactorWeights {
     /// The weight of inflation.
     pub inflation: Rate4,
@@ -26,7 +26,7 @@ pub struct FactorWeights {
 }
 
 /// Correlations of sub-curves, with inflation, with cross-currency basis, and of two currencies.
-#[derive(Clone, Copy, Debug)]
+#[derive(Clone, Copy)]
 pub struct FactorRhos {
     /// Of two sub-curves of one currency.
     pub phi: Rate4,
@@ -39,7 +39,7 @@ pub struct FactorRhos {
 }
 
 /// The vega risk weight and the historical volatility ratio.
-#[derive(Clone, Copy, Debug)]
+#[derive(Clone, Copy)]
 pub struct VolatilityRates {
     /// The vega risk weight.
     pub vrw: Rate4,
@@ -48,7 +48,7 @@ pub struct VolatilityRates {
 }
 
 /// The parameters of interest rates.
-#[derive(Debug, Drop)]
+#[derive(Drop)]
 pub struct IrParams {
     /// The currencies of low volatility.
     pub low: CurrencyList,

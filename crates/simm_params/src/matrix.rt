@@ -8,7 +8,7 @@ use mh_units::Rate4;
 use std::marker::Model;
 
 /// A square matrix of rates, which contracts see as the list of its rows of ten-thousandths.
-#[derive(Debug, Drop)]
+#[derive(Drop)]
 pub struct Matrix {
     rows: Vec<Rates>,
 }

@@ -24,7 +24,7 @@ use std::sync::Arc;
 /// The parameters of the margin rule. Rates are in ten-thousandths and thresholds in cents, each in its range; each matrix
 /// is symmetric, and no threshold is too thin beside a weight. They stand once for all that hold them. Contracts see the plain
 /// record of the rule.
-#[derive(Debug, Drop)]
+#[derive(Drop)]
 pub struct Params {
     tables: Arc<Tables, Global>,
 }

@@ -8,7 +8,7 @@ use std::alloc::{AllocError, Global};
 use std::marker::Model;
 
 /// Rates in the order of the file, which contracts see as the list of their ten-thousandths.
-#[derive(Debug, Drop)]
+#[derive(Drop)]
 pub struct Rates {
     rates: Vec<Rate4>,
 }

@@ -6,7 +6,7 @@ use mh_units::Corr6;
 use simm_kinds::Currency;
 
 /// The parameters of the risk classes that have buckets.
-#[derive(Debug, Drop)]
+#[derive(Drop)]
 pub struct ClassTables {
     /// Credit that qualifies.
     pub credit_q: CreditParams,
@@ -19,7 +19,7 @@ pub struct ClassTables {
 }
 
 /// All that a file says, each value in its range.
-#[derive(Debug, Drop)]
+#[derive(Drop)]
 pub struct Tables {
     /// The currency that margins are calculated in; exchange rates of it have no risk.
     pub calculation_currency: Currency,

@@ -3,7 +3,7 @@ ghost use Rattle.simm_params.specs.ThresholdView.{thresholds_view};
 ghost use Rattle.simm_params.specs.ThresholdKinds.{threshold_key, weight_beside, threshold_in};
 
 /// The concentration thresholds of delta and of vega, in cents.
-#[derive(Clone, Copy, Debug)]
+#[derive(Clone, Copy)]
 pub struct Thresholds {
     /// That of delta.
     pub delta: i64,
@@ -13,7 +13,7 @@ pub struct Thresholds {
 
 /// Which of the two concentration thresholds, and so which weights it stands beside: those of the file for delta, and 1
 /// for vega, whose sensitivities are weighted already.
-#[derive(Clone, Copy, Debug, PartialEq, Eq)]
+#[derive(Clone, Copy)]
 pub enum ThresholdKind {
     /// That of delta.
     Delta,

@@ -23,7 +23,7 @@ pub struct BucketMargin {
 }
 
 /// The margins of the risk classes in one product class.
-#[derive(Clone, Copy, Debug, PartialEq, Eq)]
+#[derive(Clone, Copy)]
 pub struct ClassMargins {
     /// Of interest rates.
     pub ir: Cents,
@@ -40,7 +40,7 @@ pub struct ClassMargins {
 }
 
 /// The margin of a product class, and of each risk class in it.
-#[derive(Clone, Copy, Debug, PartialEq, Eq)]
+#[derive(Clone, Copy)]
 pub struct ProductMargin {
     /// The product class's margin.
     pub margin: Cents,
@@ -65,7 +65,7 @@ impl ProductMargin {
 }
 
 /// A margin with all of its parts.
-#[derive(Clone, Copy, Debug, PartialEq, Eq)]
+#[derive(Clone, Copy)]
 pub struct Breakdown {
     /// The part of rates and foreign exchange.
     pub rates_fx: ProductMargin,
@@ -100,7 +100,7 @@ impl Breakdown {
 }
 
 /// Which quantity of a book is out of range.
-#[derive(Clone, Copy, Debug, PartialEq, Eq)]
+#[derive(Clone, Copy, Debug)]
 pub enum RangeKind {
     /// Rows.
     RowCount,
@@ -130,7 +130,7 @@ impl RangeKind {
 }
 
 /// A book that is out of range: the first quantity that is above its limit.
-#[derive(Clone, Copy, Debug, PartialEq, Eq)]
+#[derive(Clone, Copy)]
 pub struct RangeFault {
     /// The quantity.
     pub which: RangeKind,

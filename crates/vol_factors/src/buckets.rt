@@ -11,7 +11,7 @@ use simm_kinds::{BucketId, ProductClass, RiskClass};
 use simm_params::{CreditKind, PricedKind};
 
 /// A bucket that has volatilities, by the kind of its class.
-#[derive(Clone, Copy, Debug)]
+#[derive(Clone, Copy)]
 pub enum VolatileAt {
     /// Interest rates: that of a currency.
     Currency(CurrencyAt),

@@ -14,7 +14,7 @@ use simm_kinds::{Factor, FactorKey, FullName, Tenor};
 use std::alloc::{AllocError, Global};
 
 /// What the net changes for one unit of the volatility of a name come to over its tenors.
-#[derive(Clone, Copy, Debug)]
+#[derive(Clone, Copy)]
 pub struct NameSum<'a> {
     /// The name.
     pub name: &'a FullName,
@@ -23,7 +23,7 @@ pub struct NameSum<'a> {
 }
 
 /// The volatility of a name at a tenor.
-#[derive(Clone, Copy, Debug)]
+#[derive(Clone, Copy)]
 struct NameVolatility<'a> {
     name: &'a FullName,
     tenor: Tenor,

@@ -13,7 +13,7 @@ use simm_kinds::{BucketId, CurrencyPair, Factor, FactorKey, ProductClass, RiskCl
 use std::alloc::{AllocError, Global};
 
 /// What the net changes for one unit of the volatility of a pair come to over its tenors.
-#[derive(Clone, Copy, Debug)]
+#[derive(Clone, Copy)]
 pub struct PairSum {
     /// The pair.
     pub pair: CurrencyPair,
@@ -22,7 +22,7 @@ pub struct PairSum {
 }
 
 /// The volatility of a pair at a tenor.
-#[derive(Clone, Copy, Debug)]
+#[derive(Clone, Copy)]
 struct HeldVolatility {
     pair: CurrencyPair,
     tenor: Tenor,

@@ -9,7 +9,7 @@ use simm_kinds::{Bucket, BucketId, Currency, ProductClass, RiskClass};
 use simm_params::{CreditKind, PricedKind};
 
 /// The bucket of a currency in a product class.
-#[derive(Clone, Copy, Debug)]
+#[derive(Clone, Copy)]
 pub struct CurrencyAt {
     /// The product class.
     pub product: ProductClass,
@@ -18,7 +18,7 @@ pub struct CurrencyAt {
 }
 
 /// A bucket of a class of credit in a product class.
-#[derive(Clone, Copy, Debug)]
+#[derive(Clone, Copy)]
 pub struct CreditAt {
     /// The product class.
     pub product: ProductClass,
@@ -29,7 +29,7 @@ pub struct CreditAt {
 }
 
 /// A bucket of equity or of commodities in a product class.
-#[derive(Clone, Copy, Debug)]
+#[derive(Clone, Copy)]
 pub struct PricedAt {
     /// The product class.
     pub product: ProductClass,

@@ -10,7 +10,7 @@ use factor_book::{Factors, PlaceFactors};
 use std::alloc::{AllocError, Global};
 
 /// The net sensitivity to a volatility of a currency.
-#[derive(Clone, Copy, Debug)]
+#[derive(Clone, Copy)]
 pub struct VolatilitySum {
     /// The volatility.
     pub volatility: Volatility,

@@ -5,7 +5,7 @@ ghost use Rattle.vol_factors.specs.Scale.{scale_by};
 use simm_kinds::Tenor;
 
 /// How much the net sensitivity to a volatility counts by its tenor.
-#[derive(Clone, Copy, Debug, PartialEq, Eq)]
+#[derive(Clone, Copy)]
 pub enum TenorScale {
     /// Each tenor counts once: vega.
     Even,

@@ -6,7 +6,7 @@ ghost use Rattle.vol_factors.specs.Rates.{as_volatility, rule_volatility, rule_v
 use simm_kinds::{Factor, FactorKey, Tenor};
 
 /// A volatility of a currency, by what its correlations go by.
-#[derive(Clone, Copy, Debug)]
+#[derive(Clone, Copy)]
 pub enum Volatility {
     /// Of its interest rates.
     Rates { tenor: Tenor },

@@ -8,7 +8,7 @@ use mh_units::Corr6;
 use std::alloc::{AllocError, Global};
 
 /// The amount of one factor, and its concentration group.
-#[derive(Clone, Copy, Debug, PartialEq, Eq)]
+#[derive(Clone, Copy)]
 pub struct Grouped {
     /// The number of the group among those of the bucket.
     pub group: usize,

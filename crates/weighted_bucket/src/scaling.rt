@@ -1,5 +1,5 @@
 /// What the correlation of two different factors is made of.
-#[derive(Clone, Copy, Debug, PartialEq, Eq)]
+#[derive(Clone, Copy)]
 pub enum Scaling {
     /// The table's, times the ratio of the lesser of both concentration factors over the greater: delta and vega outside
     /// interest rates.

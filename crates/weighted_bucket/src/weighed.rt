@@ -5,7 +5,7 @@ use mh_units::{Corr6, Rate4, div_away};
 use pair_sum::Weighted;
 
 /// A factor of a bucket.
-#[derive(Clone, Copy, Debug, PartialEq, Eq)]
+#[derive(Clone, Copy)]
 pub struct Weighed {
     /// Its weighted value, in cents.
     pub w: i128,
