@@ -17,7 +17,6 @@ use simm_kinds::Name;
 use std::alloc::{AllocError, Global};
 
 /// A call on the set at a place, from 0, of the message that begins in a line.
-#[derive(Drop)]
 pub(crate) struct Call {
     pub line: u32,
     pub place: u32,
@@ -25,7 +24,6 @@ pub(crate) struct Call {
 }
 
 /// What a message comes to by its text alone.
-#[derive(Drop)]
 pub(crate) enum Fate {
     Calls(Call),
     /// It makes no call.

@@ -11,7 +11,6 @@ use std::alloc::{AllocError, Global};
 use std::collections::VecDeque;
 
 /// Sets that callers share.
-#[derive(Drop)]
 pub(crate) struct Shared {
     /// The names of the sets, in their order.
     pub names: Vec<Name>,
@@ -51,7 +50,6 @@ fn names_of(alloc: Global, sets: &[SetState]) -> Result<Vec<Name>, AllocError>
 }
 
 /// A cell for each set, and the seat of it that has all callers.
-#[derive(Drop)]
 struct Started {
     cells: Vec<HeldCell<SetState>>,
     seats: Vec<Seat<SetState>>,
@@ -98,7 +96,6 @@ fn share_seats(
 }
 
 /// Seats of the first caller alone, and seats of the callers behind it.
-#[derive(Drop)]
 struct SplitSeats {
     first: Vec<Seat<SetState>>,
     others: Vec<Seat<SetState>>,

@@ -60,7 +60,6 @@ pub struct Fed {
 }
 
 /// What a line outside a block is, where it isn't passed over.
-#[derive(Drop)]
 pub(crate) enum Meaning {
     /// A block of this set begins.
     Opens { set: Name },

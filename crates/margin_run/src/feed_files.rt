@@ -17,7 +17,6 @@ use std::sync::Wait;
 use std::thread::Threads;
 
 /// What running feeds leaves: the sets, and a report of each feed.
-#[derive(Drop)]
 pub(crate) struct FeedsRun {
     pub sets: Vec<SetState>,
     pub reports: Vec<FeedReport>,

@@ -37,7 +37,6 @@ pub(crate) struct Outcome {
 }
 
 /// What both files of a run say.
-#[derive(Drop)]
 pub(crate) struct Inputs {
     pub params: Params,
     pub terms: Terms,
