@@ -1,4 +1,4 @@
-use crate::makers::{read, trade, written};
+use crate::makers::{is_rewritten, trade, written};
 use simm_kinds::{Batch, Listed};
 use std::process::Abort;
 
@@ -10,7 +10,7 @@ const TEXT: &[u8] =
 a, b\tRatesFX\tRisk_FX\tJPY\t\t\t\t-0.05\tUSD\t-0.05\n";
 
 /// The trades of the text: the name, the currency, the cents of each row, and how many rows there are.
-const TRADES: [(&str, &str, i64, usize); 2] = [
+static TRADES: [(&str, &str, i64, usize); 2] = [
     ("the \"first\"", "EUR", 100_000, 2),
     ("a, b", "JPY", -5, 1),
 ];
@@ -31,18 +31,9 @@ fn a_batch_is_written(rt: HostRuntime) {
     drop(batch);
 }
 
-/// Whether a text is written as it is read, and nothing of it is passed over.
-fn is_rewritten(rt: &(impl Abort + AllocGlobal), text: &[u8]) -> bool {
-    let read = read(rt, text);
-    let is_same = written(rt, &read.batch).as_slice() == text;
-    let passed_over = read.passed_over;
-    drop(read);
-    is_same && passed_over == 0
-}
-
 #[test]
 fn a_written_batch_reads_back(rt: HostRuntime) {
-    assert!(rt; is_rewritten(&rt, TEXT));
+    assert!(rt; is_rewritten(&rt, TEXT, 0, TEXT));
 }
 
 /// A row of each risk type, as it is written.
@@ -73,5 +64,5 @@ T2\t\tNotional\t\t\t\t\t9.30\tUSD\t9.30\n";
 
 #[test]
 fn a_batch_of_every_type_is_written_as_it_is_read(rt: HostRuntime) {
-    assert!(rt; is_rewritten(&rt, EVERY_TYPE));
+    assert!(rt; is_rewritten(&rt, EVERY_TYPE, 0, EVERY_TYPE));
 }

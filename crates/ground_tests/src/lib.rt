@@ -1,40 +1,18 @@
-//! Tests of the libraries that know nothing of parameters and terms, over their public calls: that each succeeds, and what no
-//! file of a run shows.
+//! Tests of the libraries that know nothing of parameters and terms, over calls that no command reaches: the shared cell and its
+//! seats, the writer of batches, files that are written, an amount as a text of its own.
 #![tactic(auto)]
 
 #[cfg(test)]
-mod concentration_calls;
-#[cfg(test)]
-mod crif_reader_calls;
-#[cfg(test)]
 mod crif_writer_calls;
-#[cfg(test)]
-mod factor_book_calls;
-#[cfg(test)]
-mod feed_reader_calls;
 #[cfg(test)]
 mod held_cell_calls;
 #[cfg(test)]
 mod makers;
 #[cfg(test)]
-mod mh_io_calls;
+mod mh_io_files;
 #[cfg(test)]
-mod mh_io_lines;
-#[cfg(test)]
-mod mh_units_calls;
+mod mh_units_money;
 #[cfg(test)]
 mod multiplier;
 #[cfg(test)]
-mod pair_sum_calls;
-#[cfg(test)]
 mod portfolio;
-#[cfg(test)]
-mod simm_kinds_batches;
-#[cfg(test)]
-mod simm_kinds_factors;
-#[cfg(test)]
-mod simm_kinds_words;
-#[cfg(test)]
-mod simm_rules_calls;
-#[cfg(test)]
-mod weighted_bucket_calls;

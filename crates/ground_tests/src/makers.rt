@@ -1,32 +1,23 @@
-//! What the tests are made of: names, keys, trades, sources.
-use crif_reader::{ReadBatch, read_batch};
+//! What the tests are made of: trades, and batches as they are read and written.
+use crif_reader::read_batch;
 use crif_writer::write_batch;
-use mh_io::MemSource;
-use mh_units::{Bytes, Cents, Text};
+use mh_units::{Cents, Text};
 use simm_kinds::{
-    Batch, CrifRow, Currency, Factor, FactorKey, FullName, Listed, Name, ProductClass, TradeRows,
+    Batch, CrifRow, Currency, Factor, FactorKey, Listed, Name, ProductClass, TradeRows,
 };
 use std::process::Abort;
 
-pub fn name(rt: &(impl Abort + AllocGlobal), text: &str) -> Name {
+fn name(rt: &(impl Abort + AllocGlobal), text: &str) -> Name {
     Name::read(rt.alloc(), text.as_bytes())
         .ok()
         .expect(rt, "a name")
 }
 
-pub fn full_name(rt: &(impl Abort + AllocGlobal), text: &str) -> FullName {
-    FullName::new(name(rt, text)).expect(rt, "a name that isn't empty")
-}
-
-pub fn currency(rt: &(impl Abort + AllocGlobal), text: &str) -> Currency {
-    Currency::read(text.as_bytes()).expect(rt, "a currency")
-}
-
 /// The key of a currency.
-pub fn fx_key(rt: &(impl Abort + AllocGlobal), product: ProductClass, text: &str) -> FactorKey {
-    let currency = currency(rt, text);
+fn fx_key(rt: &impl Abort, text: &str) -> FactorKey {
+    let currency = Currency::read(text.as_bytes()).expect(rt, "a currency");
     FactorKey {
-        product,
+        product: ProductClass::RatesFX,
         factor: Factor::Fx { currency },
     }
 }
@@ -42,7 +33,7 @@ pub fn trade(
     let mut rows = Listed::new(rt.alloc());
     let amount = Cents(i128::from(amount));
     for _ in 0..count {
-        let key = fx_key(rt, ProductClass::RatesFX, currency);
+        let key = fx_key(rt, currency);
         rows.push(CrifRow::Sensitivity { key, amount })
             .ok()
             .expect(rt, "memory");
@@ -53,33 +44,21 @@ pub fn trade(
     }
 }
 
-pub fn bytes(rt: &(impl Abort + AllocGlobal), text: &[u8]) -> Bytes {
-    Bytes::from_slice(rt.alloc(), text)
-        .ok()
-        .expect(rt, "memory")
-}
-
-/// The one call that is to fail; there is no call 0.
-pub fn calls(rt: &(impl Abort + AllocGlobal), number: u64) -> Vec<u64> {
-    vec![in rt.alloc(); number].ok().expect(rt, "memory")
-}
-
-/// A source of these bytes, so many at a call, that fails at one call, or at none for 0.
-pub fn source(
-    rt: &(impl Abort + AllocGlobal),
-    text: &[u8],
-    most: usize,
-    failing: u64,
-) -> MemSource {
-    MemSource::new(rt.alloc(), bytes(rt, text), most.max(1), calls(rt, failing))
-}
-
-/// What is read of a file.
-pub fn read(rt: &(impl Abort + AllocGlobal), file: &[u8]) -> ReadBatch {
-    read_batch(rt.alloc(), file).ok().expect(rt, "a batch")
-}
-
 /// A batch as it is written.
 pub fn written(rt: &(impl Abort + AllocGlobal), batch: &Batch) -> Text {
     write_batch(rt.alloc(), batch).ok().expect(rt, "memory")
+}
+
+/// Whether so many records of a file are passed over, and its rows written as this.
+pub fn is_rewritten(
+    rt: &(impl Abort + AllocGlobal),
+    file: &[u8],
+    passed_over: u32,
+    wanted: &[u8],
+) -> bool {
+    let read = read_batch(rt.alloc(), file).ok().expect(rt, "a batch");
+    let is_same = written(rt, &read.batch).as_slice() == wanted;
+    let told = read.passed_over;
+    drop(read);
+    is_same && told == passed_over
 }

@@ -1,6 +1,5 @@
 //! A portfolio with a record or more of each risk type, read and written back.
-use crate::makers::{read, written};
-use std::process::Abort;
+use crate::makers::is_rewritten;
 
 /// 38 records as a dealer sends them: more columns, in other words and cases. Three are passed over.
 const SENT: &[u8] =
@@ -82,20 +81,6 @@ N1\t\tNotional\tXYZ\t\t\t\t-1000.00\tUSD\t-1000.00\n\
 \t\tParam_AddOnNotionalFactor\tXYZ\t\t\t\t2.0000\tUSD\t\n\
 \t\tParam_AddOnFixedAmount\t\t\t\t\t10.00\tUSD\t10.00\n\
 \t\tParam_ProductClassMultiplier\tEquity\t\t\t\t1.5000\tUSD\t\n";
-
-/// Whether so many records of a text are passed over, and its rows written as this.
-fn is_rewritten(
-    rt: &(impl Abort + AllocGlobal),
-    text: &[u8],
-    passed_over: u32,
-    wanted: &[u8],
-) -> bool {
-    let read = read(rt, text);
-    let is_same = written(rt, &read.batch).as_slice() == wanted;
-    let told = read.passed_over;
-    drop(read);
-    is_same && told == passed_over
-}
 
 #[test]
 fn a_portfolio_is_read_and_written_back(rt: HostRuntime) {

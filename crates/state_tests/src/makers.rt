@@ -1,8 +1,8 @@
 //! What the tests are made of: names, rows, batches, parameters, terms.
 use crif_reader::read_batch;
-use csa_terms::{SetTerms, Terms, read_terms};
+use csa_terms::{SetTerms, read_terms};
 use params_file::read_params;
-use simm_kinds::{Batch, Currency, Name};
+use simm_kinds::{Batch, Name};
 use simm_params::Params;
 use std::process::Abort;
 
@@ -84,13 +84,10 @@ credit_q.base_weight = "10"
 credit_q.base_rho = "0.3"
 "#;
 
-/// BETA has no minimum. Its holiday is a Monday.
 const TERMS: &str =
     "[[set]]\nname = \"ALPHA\"\nthreshold = \"5000\"\nmta_delivery = \"500\"\nmta_return = \"400\"\n\
 rounding = \"100\"\nnotification = \"13:00\"\nfx_haircut = \"0.08\"\n\
-haircuts = { CASH = \"0\", BOND = \"0.055\", STOCK = \"0.95\" }\nholidays = []\n\
-[[set]]\nname = \"BETA\"\nthreshold = \"0\"\nmta_delivery = \"0\"\nmta_return = \"0\"\n\
-rounding = \"100\"\nnotification = \"23:59\"\nfx_haircut = \"1\"\nhaircuts = {}\nholidays = [\"2024-03-04\"]\n";
+haircuts = {}\nholidays = []\n";
 
 const HEADER: &str =
     "TradeID,ProductClass,RiskType,Qualifier,Bucket,Label1,Label2,Amount,AmountCurrency,AmountUSD";
@@ -123,26 +120,16 @@ pub fn batch(rt: &(impl Abort + AllocGlobal), trade: &str, currency: &str, amoun
     rows(rt, row.as_str())
 }
 
-pub fn currency(rt: &(impl Abort + AllocGlobal), text: &str) -> Currency {
-    Currency::read(text.as_bytes()).expect(rt, "a currency")
-}
-
 pub fn params(rt: &(impl Abort + AllocGlobal)) -> Params {
     read_params(rt.alloc(), PARAMS.as_bytes())
         .ok()
         .expect(rt, "parameters")
 }
 
-/// The terms of two sets.
-pub fn terms(rt: &(impl Abort + AllocGlobal)) -> Terms {
-    read_terms(rt.alloc(), TERMS.as_bytes())
+pub fn set_terms(rt: &(impl Abort + AllocGlobal)) -> SetTerms {
+    let terms = read_terms(rt.alloc(), TERMS.as_bytes())
         .ok()
-        .expect(rt, "terms")
-}
-
-/// The terms of the set at this place, ALPHA at 0 and BETA at 1.
-pub fn set_terms(rt: &(impl Abort + AllocGlobal), place: usize) -> SetTerms {
-    let terms = terms(rt);
-    let set = terms.sets().get(place).expect(rt, "a set");
+        .expect(rt, "terms");
+    let set = terms.sets().first().expect(rt, "a set");
     set.copy(rt.alloc()).ok().expect(rt, "memory")
 }
