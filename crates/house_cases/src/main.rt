@@ -1,27 +1,21 @@
-//! Cases that run the whole house: each line of the file `cases`, but for those that begin with `#`, has the words of one
-//! command, which runs over the files beside it, with one desk. Out go the words, the status, the text that the command
-//! printed, and the notices that the desk was told.
+//! Cases that run the whole house: each line of the file `cases`, but for those that begin with `#` or `!`, has the words
+//! of one command, which runs over the files beside it, with one desk. Out go the words, the status, the text that the
+//! command printed, and the notices that the desk was told. Lines that begin with `!` are directives of the command below
+//! them, as what fails in it.
 #![tactic(auto)]
 
-#[cfg(test)]
-mod bad_feeds;
+mod cases;
 mod command;
-#[cfg(test)]
-mod desks;
-#[cfg(test)]
-mod faults;
-#[cfg(test)]
-mod many_feeds;
-#[cfg(test)]
-mod memory_house;
-#[cfg(test)]
-mod merges;
-#[cfg(test)]
-mod sizes;
+mod directed;
+mod ordered;
+mod setting;
+mod sweep;
 
-use anyhow::{Context, Result};
+use anyhow::{Context, Result, ensure};
 use call_desk::{Desk, MemDesk};
+use cases::Case;
 use command::{push_told, run_line};
+use directed::run_directed;
 use margin_top::{NoGate, Status};
 use mh_io::{MemSink, RealFolder};
 use mh_units::Text;
@@ -56,8 +50,8 @@ fn write_case<W: Write>(
     out.write_all(notices)
 }
 
-/// Runs the words by these threads, and writes them with their status, their text and their notices.
-fn run_case<R: Threads + Wait + Sync, W: Write>(
+/// Runs the words over the file system, with one desk, and writes them with their status, their text and their notices.
+fn run_plain<R: Threads + Wait + Sync, W: Write>(
     threads: &R,
     rt: HostRuntime,
     line: &str,
@@ -85,14 +79,33 @@ fn run_case<R: Threads + Wait + Sync, W: Write>(
     Ok(())
 }
 
+/// Runs the words of a line with their directives, and writes what came.
+fn run_with<R: Threads + Wait + Sync, W: Write>(
+    threads: &R,
+    rt: HostRuntime,
+    line: &str,
+    said: &[&str],
+    out: &mut W,
+) -> Result<()> {
+    if said.is_empty() {
+        return run_plain(threads, rt, line, out);
+    }
+    run_directed(threads, rt, Case::new(line, said)?, out)
+}
+
 fn main(rt: HostRuntime) -> Result<()> {
     let cases = fs::read_to_string(&rt, "cases").context("reading cases")?;
     let mut out = BufWriter::new(rt.alloc(), io::writer(&rt))?;
+    let mut said: Vec<&str> = Vec::new(rt.alloc());
     for line in cases.as_str().lines() {
-        if !line.starts_with('#') {
-            run_case(&rt, rt, line, &mut out)?;
+        if let Some(directive) = line.strip_prefix("! ") {
+            said.push(directive)?;
+        } else if !line.starts_with('#') {
+            run_with(&rt, rt, line, said.as_slice(), &mut out)?;
+            said.clear();
         }
     }
+    ensure!(said.is_empty(), "directives without a command");
     out.flush()?;
     Ok(())
 }

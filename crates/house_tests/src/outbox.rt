@@ -1,5 +1,5 @@
-use crate::call_desk_calls::notice;
-use call_desk::{Desk, DeskFault, Notice, Published, publish};
+use crate::call_desk_calls::{calls, notice};
+use call_desk::{Desk, DeskFault, MemDesk, Notice, Published, publish};
 use csa_terms::{Flow, push_day};
 use mh_units::{Cents, Text, push_cents};
 use std::alloc::{AllocError, Global};
@@ -87,21 +87,25 @@ fn a_full_outbox_fails(rt: HostRuntime) {
 
 #[test]
 fn a_full_outbox_is_retired(rt: HostRuntime) -> Result<(), AllocError> {
+    let wanting = MemDesk::new(Vec::new(rt.alloc()), calls(&rt, 2));
+    let sound = MemDesk::new(Vec::new(rt.alloc()), Vec::new(rt.alloc()));
     let mut desks: Vec<Box<dyn Desk>> = Vec::new(rt.alloc());
     desks.push(Box::new(rt.alloc(), empty_outbox(rt.alloc()))?)?;
+    desks.push(Box::new(rt.alloc(), wanting)?)?;
+    desks.push(Box::new(rt.alloc(), sound)?)?;
     let mut retired = Vec::new(rt.alloc());
-    assert!(rt; desks.len() == 1);
+    assert!(rt; desks.len() == 3);
     let notices = [
         notice(&rt, Flow::Return, 240_000, 19_786),
         notice(&rt, Flow::Delivery, 240_000, 19_786),
     ];
     let published = publish(&mut desks, &mut retired, &notices)?;
     let wanted = Published {
-        told: 1,
+        told: 4,
         failed: 1,
-        memory: 0,
+        memory: 1,
     };
     assert!(rt; published == wanted);
-    assert!(rt; desks.is_empty() && retired.len() == 1);
+    assert!(rt; desks.len() == 1 && retired.len() == 2);
     Ok(())
 }

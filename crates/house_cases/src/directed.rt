@@ -1,0 +1,174 @@
+//! Commands with directives: each is run once, and again for each number that their N stands for, over files in memory.
+use crate::cases::Case;
+use crate::command::{push_told, run_line};
+use crate::ordered::InOrder;
+use crate::setting::{desks, folder, sink};
+use crate::sweep::{Group, Seen};
+use anyhow::{Context, Result, ensure};
+use call_desk::Desk;
+use margin_top::Status;
+use mh_units::Text;
+use std::alloc::{AllocError, Global};
+use std::io::{self, Write};
+use std::str;
+use std::sync::Wait;
+use std::thread::Threads;
+
+/// How a command ended, what it printed, and what desks it left and retired, with the notices that each was told.
+#[derive(Drop)]
+pub struct Outcome {
+    pub status: Status,
+    pub text: Vec<u8>,
+    pub told: Text,
+}
+
+/// Adds a line with a word for each desk, and the lines of its notices.
+fn push_desks(text: &mut Text, word: &[u8], desks: &[Box<dyn Desk>]) -> Result<(), AllocError> {
+    for desk in desks {
+        text.extend(word)?;
+        push_told(text, desk)?;
+    }
+    Ok(())
+}
+
+/// The last lines of a text, all of which end with LF.
+fn last_lines(text: &[u8], count: u64) -> &[u8] {
+    let mut front = text;
+    for _ in 0..=count {
+        match front.iter().rposition(|byte| *byte == b'\n') {
+            Some(place) => front = &front[..place],
+            None => return text,
+        }
+    }
+    text.get(front.len().saturating_add(1)..).unwrap_or(text)
+}
+
+/// Runs the command of a case, with the calls of its feeds in an order.
+fn run_in<R: Threads + Wait + Sync>(
+    threads: &R,
+    rt: HostRuntime,
+    case: Case<'_>,
+    order: Vec<u64>,
+) -> Result<Outcome> {
+    let alloc = rt.alloc();
+    let gate = InOrder::new(order);
+    let mut folder = folder(rt, case)?;
+    let mut out = sink(alloc, case)?;
+    let mut desks = desks(alloc, case)?;
+    let mut retired = Vec::new(alloc);
+    ensure!(desks.len() < 100, "too many desks");
+    let status = run_line(
+        threads,
+        alloc,
+        case.command,
+        &mut folder,
+        &mut out,
+        &mut desks,
+        &mut retired,
+        &gate,
+    )?;
+    ensure!(!gate.was_in_vain(), "a call waits in vain");
+    let mut told = Text::new(alloc);
+    push_desks(&mut told, b"STAYS\n", &desks)?;
+    push_desks(&mut told, b"RETIRED\n", &retired)?;
+    let text = match case.first_number(alloc, "last lines: ")? {
+        Some(count) => last_lines(out.bytes(), count),
+        None => out.bytes(),
+    };
+    Ok(Outcome {
+        status,
+        text: text.to_vec(alloc)?,
+        told,
+    })
+}
+
+/// Runs the command of a case, with the calls of its feeds in the order that its directives say.
+fn run_once<R: Threads + Wait + Sync>(
+    threads: &R,
+    rt: HostRuntime,
+    case: Case<'_>,
+) -> Result<Outcome> {
+    let order = case.numbers(rt.alloc(), "order: ")?;
+    run_in(threads, rt, case, order)
+}
+
+/// Writes what came of a command.
+fn write_outcome<W: Write>(out: &mut W, outcome: &Outcome) -> io::Result<()> {
+    writeln!(out, "status {}", outcome.status.code())?;
+    out.write_all(outcome.text.as_slice())?;
+    out.write_all(outcome.told.as_slice())
+}
+
+/// Runs the command of a case for each number that N stands for, and writes beside the plain run what came of it.
+fn run_range<R: Threads + Wait + Sync, W: Write>(
+    threads: &R,
+    rt: HostRuntime,
+    case: Case<'_>,
+    plain: &Outcome,
+    out: &mut W,
+) -> Result<()> {
+    let Some((first, last)) = case.range()? else {
+        return Ok(());
+    };
+    let mut group: Option<Group> = None;
+    for number in first..=last {
+        let outcome = run_once(threads, rt, case.at(number))?;
+        let seen = Seen::of(&outcome, plain);
+        group = Some(Group::after(group, number, seen, out)?);
+    }
+    if let Some(group) = group {
+        group.write(out)?;
+    }
+    Ok(())
+}
+
+/// The feeds of a journal's entries, in the order of these.
+fn callers(alloc: Global, text: &[u8]) -> Result<Vec<u64>> {
+    let mut callers = Vec::new(alloc);
+    for line in str::from_utf8(text)?.lines() {
+        if let Some((number, rest)) = line.split_once('\t') {
+            if number.parse::<u64>().is_ok() {
+                let (caller, _) = rest.split_once('\t').context("no entry")?;
+                callers.push(caller.parse::<u64>()?)?;
+            }
+        }
+    }
+    Ok(callers)
+}
+
+/// Runs the command of a case, whose calls come in any order, and again with its calls in that order, and writes whether
+/// the same came.
+fn run_freely<R: Threads + Wait + Sync, W: Write>(
+    threads: &R,
+    rt: HostRuntime,
+    case: Case<'_>,
+    out: &mut W,
+) -> Result<()> {
+    let free = run_in(threads, rt, case, Vec::new(rt.alloc()))?;
+    let order = callers(rt.alloc(), free.text.as_slice())?;
+    writeln!(out, "status {}", free.status.code())?;
+    writeln!(out, "calls {}", order.len())?;
+    let ordered = run_in(threads, rt, case, order)?;
+    let seen = Seen::of(&free, &ordered);
+    writeln!(out, "as in their order: {}", seen.is_same())?;
+    Ok(())
+}
+
+/// Runs the command of a case with its directives, and writes them with what came.
+pub fn run_directed<R: Threads + Wait + Sync, W: Write>(
+    threads: &R,
+    rt: HostRuntime,
+    case: Case<'_>,
+    out: &mut W,
+) -> Result<()> {
+    writeln!(out, "== {}", case.command)?;
+    for directive in case.directives {
+        writeln!(out, "! {directive}")?;
+    }
+    if case.says("any order") {
+        return run_freely(threads, rt, case, out);
+    }
+    let plain = run_once(threads, rt, case)?;
+    write_outcome(out, &plain)?;
+    run_range(threads, rt, case, &plain, out)
+}
