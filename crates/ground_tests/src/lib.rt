@@ -1,5 +1,5 @@
 //! Tests of the libraries that know nothing of parameters and terms, over calls that no command reaches: the shared cell and its
-//! seats, the writer of batches, files that are written, an amount as a text of its own.
+//! seats, the writer of batches, files that are written, a source that is handed back, an amount as a text of its own.
 #![tactic(auto)]
 
 #[cfg(test)]
@@ -10,6 +10,8 @@ mod held_cell_calls;
 mod makers;
 #[cfg(test)]
 mod mh_io_files;
+#[cfg(test)]
+mod mh_io_lines;
 #[cfg(test)]
 mod mh_units_money;
 #[cfg(test)]
