@@ -7,6 +7,7 @@ use crate::sweep::{Group, Seen};
 use anyhow::{Context, Result, ensure};
 use call_desk::Desk;
 use margin_top::Status;
+use mh_io::{MemFolder, MemSink};
 use mh_units::Text;
 use std::alloc::{AllocError, Global};
 use std::io::{self, Write};
@@ -43,7 +44,75 @@ fn last_lines(text: &[u8], count: u64) -> &[u8] {
     text.get(front.len().saturating_add(1)..).unwrap_or(text)
 }
 
-/// Runs the command of a case, with the calls of its feeds in an order.
+/// The desks that a command left, and those that it retired.
+fn told_to(
+    alloc: Global,
+    desks: &[Box<dyn Desk>],
+    retired: &[Box<dyn Desk>],
+) -> Result<Text, AllocError> {
+    let mut told = Text::new(alloc);
+    push_desks(&mut told, b"STAYS\n", desks)?;
+    push_desks(&mut told, b"RETIRED\n", retired)?;
+    Ok(told)
+}
+
+/// Runs the command of a case with desks, and its calls in an order.
+fn run_told<R: Threads + Wait + Sync>(
+    threads: &R,
+    alloc: Global,
+    case: Case<'_>,
+    order: Vec<u64>,
+    folder: &mut MemFolder,
+    out: &mut MemSink,
+    desks: &mut Vec<Box<dyn Desk>>,
+    retired: &mut Vec<Box<dyn Desk>>,
+) -> Result<Status> {
+    let gate = InOrder::new(order);
+    ensure!(desks.len() < 100, "too many desks");
+    let command = case.command;
+    let status = run_line(threads, alloc, command, folder, out, desks, retired, &gate)?;
+    ensure!(!gate.was_in_vain(), "a call waits in vain");
+    Ok(status)
+}
+
+/// Runs the command of a case over a folder and into a sink, with its calls in an order. No fault is handed out while
+/// desks are there, so that these are dropped in one place.
+fn run_over<R: Threads + Wait + Sync>(
+    threads: &R,
+    alloc: Global,
+    case: Case<'_>,
+    order: Vec<u64>,
+    folder: &mut MemFolder,
+    out: &mut MemSink,
+) -> Result<(Status, Text)> {
+    let mut desks = desks(alloc, case)?;
+    let mut retired = Vec::new(alloc);
+    let status = run_told(
+        threads,
+        alloc,
+        case,
+        order,
+        folder,
+        out,
+        &mut desks,
+        &mut retired,
+    );
+    let told = told_to(alloc, &desks, &retired);
+    drop(desks);
+    drop(retired);
+    Ok((status?, told?))
+}
+
+/// The text that a case shows: all of it, or its last lines.
+fn shown(alloc: Global, case: Case<'_>, text: &[u8]) -> Result<Vec<u8>> {
+    let shown = match case.first_number(alloc, "last lines: ")? {
+        Some(count) => last_lines(text, count),
+        None => text,
+    };
+    Ok(shown.to_vec(alloc)?)
+}
+
+/// Runs the command of a case, with its calls in an order.
 fn run_in<R: Threads + Wait + Sync>(
     threads: &R,
     rt: HostRuntime,
@@ -51,38 +120,14 @@ fn run_in<R: Threads + Wait + Sync>(
     order: Vec<u64>,
 ) -> Result<Outcome> {
     let alloc = rt.alloc();
-    let gate = InOrder::new(order);
     let mut folder = folder(rt, case)?;
     let mut out = sink(alloc, case)?;
-    let mut desks = desks(alloc, case)?;
-    let mut retired = Vec::new(alloc);
-    ensure!(desks.len() < 100, "too many desks");
-    let status = run_line(
-        threads,
-        alloc,
-        case.command,
-        &mut folder,
-        &mut out,
-        &mut desks,
-        &mut retired,
-        &gate,
-    )?;
-    ensure!(!gate.was_in_vain(), "a call waits in vain");
-    let mut told = Text::new(alloc);
-    push_desks(&mut told, b"STAYS\n", &desks)?;
-    push_desks(&mut told, b"RETIRED\n", &retired)?;
-    let text = match case.first_number(alloc, "last lines: ")? {
-        Some(count) => last_lines(out.bytes(), count),
-        None => out.bytes(),
-    };
-    Ok(Outcome {
-        status,
-        text: text.to_vec(alloc)?,
-        told,
-    })
+    let (status, told) = run_over(threads, alloc, case, order, &mut folder, &mut out)?;
+    let text = shown(alloc, case, out.bytes())?;
+    Ok(Outcome { status, text, told })
 }
 
-/// Runs the command of a case, with the calls of its feeds in the order that its directives say.
+/// Runs the command of a case, with its calls in the order that its directives say.
 fn run_once<R: Threads + Wait + Sync>(
     threads: &R,
     rt: HostRuntime,
