@@ -1,7 +1,6 @@
 //! The correlations of buckets, squared.
 ghost use Rattle.std.specs.Prelude.{◌≡◌, ℕ, ◌<◌, ◌≤◌, length, unsigned_abs};
-ghost use Rattle.pair_sum.specs.WithItself.{with_itself};
-ghost use Rattle.pair_sum.proofs.Itself.{with_itself-one};
+ghost use Rattle.pair_sum.specs.WithItself.{with_itself, with_itself-one};
 ghost use Rattle.curvature_margin.specs.Listed.{gamma_in, squared_at};
 
 use crate::listed::ListedClass;

@@ -1,7 +1,7 @@
 //! The margin over the currencies of a product class.
 ghost use Rattle.std.specs.Prelude.{◌≡◌, ◌≤◌, ℕ, ◌<◌, All, length, map, sum_by, IfOk, pos, ◌≤ℤ◌, ◌<ℤ◌, unsigned_abs};
 ghost use Rattle.simm_rules.specs.Concentration.{one};
-ghost use Rattle.pair_sum.proofs.Itself.{with_itself-one};
+ghost use Rattle.pair_sum.specs.WithItself.{with_itself-one};
 ghost use Rattle.ir_delta.specs.Gamma.{gamma_apart, gamma_at};
 ghost use Rattle.ir_delta.specs.Parts.{AreParts, margin_over};
 

@@ -1,6 +1,5 @@
 ghost use Rattle.std.specs.Prelude.{◌≡◌, ℕ, ◌<◌, ◌≤◌, length, unsigned_abs};
-ghost use Rattle.pair_sum.specs.WithItself.{with_itself};
-ghost use Rattle.pair_sum.proofs.Itself.{with_itself-one};
+ghost use Rattle.pair_sum.specs.WithItself.{with_itself, with_itself-one};
 ghost use Rattle.name_delta.specs.Combine.{gamma_in, gamma_at};
 
 use crate::named::NamedClass;

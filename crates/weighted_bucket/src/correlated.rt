@@ -1,5 +1,5 @@
 ghost use Rattle.std.specs.Prelude.{◌≡◌, ℕ, ◌<◌, ◌≤◌, All, length, pos, ◌≤ℤ◌, ◌<ℤ◌, unsigned_abs};
-ghost use Rattle.pair_sum.proofs.Itself.{with_itself-one};
+ghost use Rattle.pair_sum.specs.WithItself.{with_itself-one};
 ghost use Rattle.simm_rules.specs.Concentration.{one};
 ghost use Rattle.weighted_bucket.specs.Correlated.{correlation, scaled_at};
 
