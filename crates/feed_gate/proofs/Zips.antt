@@ -1,5 +1,5 @@
 -- Two lists beside each other, place by place.
-use Rattle.std.proofs.Common.{◌≡◌, ℕ, zero, suc, ◌<◌, arith, List, [], ◌∷◌, ◌++◌, length, map, Some, refl, sym, ap, ◌∙◌, subst}
+use Rattle.std.proofs.Common.{◌≡◌, ℕ, zero, suc, ◌<◌, arith, List, [], ◌∷◌, ◌++◌, length, map, slice_index_or, Some, refl, sym, ap, ◌∙◌, subst}
 use Rattle.std.specs.List.{AllZip, slice_get}
 use Rattle.std.proofs.lemmas.List.{length-map}
 use Rattle.std.proofs.lemmas.Option.{none-some, same_Some}
@@ -37,6 +37,12 @@ zip_places R [] [] same each = tt
 zip_places R [] (y ∷ ys) same each = absurd (omega (arith, same))
 zip_places R (x ∷ xs) [] same each = absurd (omega (arith, same))
 zip_places R (x ∷ xs) (y ∷ ys) same each = (each 0 x y refl refl, zip_places R xs ys (omega (arith, same)) (λ k. each (suc k)))
+
+pub zip_each : {X : Type 0} (R : X → X → Type 0) (xs ys : List X) → length ys ≡ length xs → ((k : ℕ) (d : X) → k < length xs → R (slice_index_or xs k d) (slice_index_or ys k d)) → AllZip R xs ys
+zip_each R [] [] same each = tt
+zip_each R [] (y ∷ ys) same each = absurd (omega (arith, same))
+zip_each R (x ∷ xs) [] same each = absurd (omega (arith, same))
+zip_each R (x ∷ xs) (y ∷ ys) same each = (each 0 x (omega arith), zip_each R xs ys (omega (arith, same)) (λ k d within. each (suc k) d (omega (arith, within))))
 
 pub zip_weaker : {X Y : Type 0} (P Q : X → Y → Type 0) → ((x : X) (y : Y) → P x y → Q x y) → (xs : List X) (ys : List Y) → AllZip P xs ys → AllZip Q xs ys
 zip_weaker P Q so [] [] all = tt

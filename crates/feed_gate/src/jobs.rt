@@ -1,8 +1,6 @@
 //! Many feeds side by side.
 ghost use Rattle.std.specs.Prelude.{All};
 ghost use Rattle.std.specs.List.{AllZip};
-ghost use Rattle.std.specs.Thread.{IsSync};
-ghost use denote.Param.Send.{IsSend};
 ghost use Rattle.feed_gate.specs.Seats.{AreNamed, AreSeats};
 ghost use Rattle.feed_gate.specs.Jobs.{RanFeed};
 
@@ -14,7 +12,7 @@ use set_core::SetState;
 use simm_kinds::Name;
 use std::alloc::Global;
 use std::sync::Wait;
-use std::thread::{Threads, join_mut};
+use std::thread::{Threads, for_each_mut};
 
 /// Runs feeds at the same time, each in a thread of its own; where a thread can't be started this one runs the feed itself.
 ///
@@ -24,7 +22,6 @@ use std::thread::{Threads, join_mut};
 /// `Full`, whatever the other feeds did. The report has the other messages, and how the feed ended. A feed that ends early
 /// has its whole messages done; for want of memory it ends in the message for which there was none, of which there is no
 /// entry. The gate is called before and after each call on a set.
-#[cycle(feeds)]
 pub fn run_feeds<R: Threads + Wait + Sync, S: Source + Send, G: Gate>(
     rt: &R,
     alloc: Global,
@@ -37,40 +34,10 @@ pub fn run_feeds<R: Threads + Wait + Sync, S: Source + Send, G: Gate>(
     requires seats { All (λ job. AreSeats cells.now job.seats.items) jobs.old }
     ensures { AllZip (RanFeed S.seen names.now) jobs.old jobs.new }
 {
-    match jobs {
-        [] => {}
-        [job] => run_feed(rt, alloc, cells, names, gate, job),
-        _ => {
-            let (front, back) = jobs.split_at_mut(jobs.len() / 2);
-            run_both(rt, alloc, cells, names, gate, front, back);
-        }
-    }
-}
-
-/// Runs two lists of feeds at the same time.
-#[cycle(feeds)]
-fn run_both<R: Threads + Wait + Sync, S: Source + Send, G: Gate>(
-    rt: &R,
-    alloc: Global,
-    cells: &[HeldCell<SetState>],
-    names: &[Name],
-    gate: &G,
-    front: &mut [FeedJob<S>],
-    back: &mut [FeedJob<S>],
-)
-    requires named { AreNamed names.now cells.now }
-    requires front { All (λ job. AreSeats cells.now job.seats.items) front.old }
-    requires back { All (λ job. AreSeats cells.now job.seats.items) back.old }
-    ensures front { AllZip (RanFeed S.seen names.now) front.old front.new }
-    ensures back { AllZip (RanFeed S.seen names.now) back.old back.new }
-{
-    let mut first = ||
-        requires { IsSync R.row × IsSync G.row × IsSend S.row × AreNamed names.now cells.now × All (λ job. AreSeats cells.now job.seats.items) front.now }
-        ensures { AllZip (RanFeed S.seen names.entry.now) front.entry.now front.exit.now }
-    { run_feeds(rt, alloc, cells, names, gate, front) };
-    let mut second = ||
-        requires { IsSync R.row × IsSync G.row × IsSend S.row × AreNamed names.now cells.now × All (λ job. AreSeats cells.now job.seats.items) back.now }
-        ensures { AllZip (RanFeed S.seen names.entry.now) back.entry.now back.exit.now }
-    { run_feeds(rt, alloc, cells, names, gate, back) };
-    join_mut(rt, &mut first, &mut second);
+    let run = |_place: usize, job: &mut FeedJob<S>|
+        requires { AreNamed names.now cells.now × AreSeats cells.now job.now.seats.items }
+        ensures { RanFeed S.seen names.entry.now job.entry.now job.exit.now }
+    { run_feed(rt, alloc, cells, names, gate, job) };
+    let threads = jobs.len().max(1);
+    for_each_mut(rt, jobs, threads, &run);
 }
