@@ -26,11 +26,11 @@ use Rattle.class_delta.specs.Delta.{delta_at, IsSizedAt}
 use Rattle.kept_buckets.specs.declared.value.KeptValue.{KeptValue}
 use Rattle.kept_buckets.specs.declared.value.KeptValue.TheVariants as value
 use Rattle.kept_buckets.specs.declared.value.VolatilityMargins.{VolatilityMargins}
-use Rattle.kept_buckets.specs.Cached.{delta_in, volatility_in, kept_delta, kept_volatility, is_base_bucket, cached_in}
+use Rattle.kept_buckets.specs.Cached.{delta_in, volatility_in, kept_delta, kept_volatility, is_measured, place_in, part_in, cached_in}
 use Rattle.kept_buckets.specs.Dirty.{measures_of, steps_left}
 use Rattle.kept_buckets.specs.Kept.{Kept, value_at, margin_at, KeepsValue, KeepsMargin}
 use Rattle.kept_buckets.specs.Margins.{is_class}
-use Rattle.book_margin.specs.Right.{IsDelta, AreVolatility, IsRightDelta, IsRightVolatility, IsMargin, AreDeltasKept, IsWhole, AreRight, AreMarginsKept, Renews, value_in}
+use Rattle.book_margin.specs.Right.{IsDelta, AreVolatility, IsRightDelta, IsRightVolatility, IsMargin, AreDeltasKept, IsWhole, AreRight, AreMarginsKept, Renews, measured_value, value_in}
 
 abbrev Factors : Type 0
 Factors = List (FactorKey × Holding)
@@ -154,19 +154,18 @@ module _ (p : Params) (fs : Factors) (at : BucketAt) where
   curvature_cached (Some (value.Volatility its)) h = h.curvature
   curvature_cached None h = tt
 
-  unless : {A : Type 0} (P : A → Type 0) (t : Bool) (o : Option A) → IfSome o P → IfSome (cond t None o) P
-  unless P true o h = tt
-  unless P false o h = h
+  part_right : (kept : Kept) → AreRight p fs kept → (m : Measure) → IfSome (part_in m (value_at kept (place_in at m))) (λ its. Some its ≡ measured_value p fs at m)
+  part_right kept right measure.Delta = delta_cached (value_at kept (delta_place at)) (right.deltas at)
+  part_right kept right measure.Vega = vega_cached (value_at kept (volatility_place at)) (right.volatilities at)
+  part_right kept right measure.Curvature = curvature_cached (value_at kept (volatility_place at)) (right.volatilities at)
+  part_right kept right measure.BaseCorr = delta_cached (value_at kept (delta_place at)) (right.deltas at)
 
-  where_so : {A : Type 0} (P : A → Type 0) (t : Bool) (o : Option A) → IfSome o P → IfSome (cond t o None) P
-  where_so P true o h = h
-  where_so P false o h = tt
+  where_so : (t : Bool) (o w : Option BucketMargin) → IfSome o (λ its. Some its ≡ w) → IfSome (cond t o None) (λ its. Some its ≡ cond t w None)
+  where_so true o w h = h
+  where_so false o w h = tt
 
   pub cached_right : (kept : Kept) → AreRight p fs kept → (m : Measure) → IfSome (cached_in kept at m) (λ its. Some its ≡ value_in p fs at m)
-  cached_right kept right measure.Delta = unless (λ its. Some its ≡ delta_at p at fs) (is_base_bucket at.class at.bucket) (kept_delta kept at) (delta_cached (value_at kept (delta_place at)) (right.deltas at))
-  cached_right kept right measure.Vega = vega_cached (value_at kept (volatility_place at)) (right.volatilities at)
-  cached_right kept right measure.Curvature = curvature_cached (value_at kept (volatility_place at)) (right.volatilities at)
-  cached_right kept right measure.BaseCorr = where_so (λ its. Some its ≡ delta_at p at fs) (is_base_bucket at.class at.bucket) (kept_delta kept at) (delta_cached (value_at kept (delta_place at)) (right.deltas at))
+  cached_right kept right m = where_so (is_measured at m) (part_in m (value_at kept (place_in at m))) (measured_value p fs at m) (part_right kept right m)
 
 -- ---- one value more
 

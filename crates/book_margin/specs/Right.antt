@@ -1,5 +1,5 @@
 -- What is kept of a book rightly: each value is that of its bucket, each margin that of its class.
-use Rattle.std.specs.Prelude.{◌≡◌, ◌≢◌, List, [], Option, Some, IsSome, IfSome, ℤ}
+use Rattle.std.specs.Prelude.{◌≡◌, ◌≢◌, List, [], Option, Some, None, IsSome, IfSome, if◌then◌else◌, ℤ}
 use Rattle.mh_units.specs.declared.quantities.Cents.{Cents}
 use Rattle.simm_kinds.specs.declared.kinds.BucketId.{BucketId}
 use Rattle.simm_kinds.specs.declared.kinds.Measure.{Measure}
@@ -22,6 +22,7 @@ use Rattle.class_combine.specs.Classes.{IsClassMargin}
 use Rattle.kept_buckets.specs.declared.value.KeptValue.{KeptValue}
 use Rattle.kept_buckets.specs.declared.value.KeptValue.TheVariants as value
 use Rattle.kept_buckets.specs.declared.value.VolatilityMargins.{VolatilityMargins}
+use Rattle.kept_buckets.specs.Cached.{is_measured}
 use Rattle.kept_buckets.specs.Kept.{Kept, value_at, margin_at}
 
 -- ---- of a bucket
@@ -49,12 +50,16 @@ abbrev pub IsRightVolatility : Params → List (FactorKey × Holding) → Bucket
 IsRightVolatility p factors at (value.Delta its) = ⊥
 IsRightVolatility p factors at (value.Volatility its) = AreVolatility p factors at its
 
--- the value of a bucket in a measure; that of base correlation stands on the side of delta
+-- the value of a bucket in a measure that it has; that of base correlation stands on the side of delta
+abbrev pub measured_value : Params → List (FactorKey × Holding) → BucketAt → Measure → Option BucketMargin
+measured_value p factors at measure.Delta = delta_at p at factors
+measured_value p factors at measure.Vega = vega_value p at factors
+measured_value p factors at measure.Curvature = curvature_value p at factors
+measured_value p factors at measure.BaseCorr = delta_at p at factors
+
+-- and nothing in one that it has not
 abbrev pub value_in : Params → List (FactorKey × Holding) → BucketAt → Measure → Option BucketMargin
-value_in p factors at measure.Delta = delta_at p at factors
-value_in p factors at measure.Vega = vega_value p at factors
-value_in p factors at measure.Curvature = curvature_value p at factors
-value_in p factors at measure.BaseCorr = delta_at p at factors
+value_in p factors at measure = if is_measured at measure then measured_value p factors at measure else None
 
 -- ---- of a class
 

@@ -62,10 +62,11 @@ impl Model for LiveMargin {
 }
 
 impl LiveMargin {
-    /// A live margin without trades, whose margin is known. Want of memory is the only error.
+    /// A live margin without trades. No value of a bucket is kept, and its margin is known. Want of memory is the only error.
     pub fn new(alloc: Global, params: Params) -> Result<LiveMargin, AllocError>
         ensures params { IfOk result (λ live. live.params ≡ params) }
         ensures book { IfOk result (λ live. live.book ≡ []) }
+        ensures none { IfOk result (λ live. live.kept.values ≡ []) }
         ensures fresh { IfOk result (λ live. live.is_fresh ≡ true) }
     {
         let mut live = LiveMargin::without_margin(alloc, params);
@@ -204,8 +205,8 @@ impl LiveMargin {
         Ok(margin)
     }
 
-    /// What is kept of a bucket in a measure: its value by the written rule over the book, or `None`. It takes no memory, like
-    /// all that follow.
+    /// What is kept of a bucket in a measure: its value by the written rule over the book, or `None`; always `None` in a measure
+    /// that the bucket has not. It takes no memory, like all that follow.
     pub fn cached(
         &self,
         product: ProductClass,
@@ -273,6 +274,7 @@ impl LiveMargin {
         requires some { 0 < blank.parts }
         ensures params { self.new.params ≡ self.old.params }
         ensures book { self.new.book ≡ self.old.book }
+        ensures renewed { Renews self.old.params (factors_of (rows_of self.old.book)) self.old.kept self.new.kept }
         ensures fresh { OnOk result (self.new.is_fresh ≡ true) }
     {
         let mut steps = Steps::<L>::new(blank);

@@ -1,5 +1,5 @@
 -- The values kept of buckets, measure by measure.
-use Rattle.std.specs.Prelude.{Bool, true, false, Option, Some, None, option_map, if◌then◌else◌}
+use Rattle.std.specs.Prelude.{Bool, true, false, not, Option, Some, None, option_map, if◌then◌else◌}
 use Rattle.simm_kinds.specs.declared.kinds.Measure.{Measure}
 use Rattle.simm_kinds.specs.declared.kinds.Measure.TheVariants as measure
 use Rattle.simm_kinds.specs.declared.kinds.RiskClass.{RiskClass}
@@ -42,9 +42,29 @@ kept_delta kept at = delta_in (value_at kept (place_on side.Delta at))
 abbrev pub kept_volatility : Kept → BucketAt → Option VolatilityMargins
 kept_volatility kept at = volatility_in (value_at kept (place_on side.Volatility at))
 
--- and in a measure
+-- ---- measure by measure
+
+-- the bucket of base correlation has that measure alone, which no other bucket has
+abbrev pub is_measured : BucketAt → Measure → Bool
+is_measured at measure.Delta = not (is_base_bucket at.class at.bucket)
+is_measured at measure.Vega = not (is_base_bucket at.class at.bucket)
+is_measured at measure.Curvature = not (is_base_bucket at.class at.bucket)
+is_measured at measure.BaseCorr = is_base_bucket at.class at.bucket
+
+-- where the rows of a bucket stand in a measure: those of base correlation on the side of delta
+abbrev pub place_in : BucketAt → Measure → Place
+place_in at measure.Delta = place_on side.Delta at
+place_in at measure.Vega = place_on side.Volatility at
+place_in at measure.Curvature = place_on side.Volatility at
+place_in at measure.BaseCorr = place_on side.Delta at
+
+-- the value in a measure of what is kept of its place
+abbrev pub part_in : Measure → Option KeptValue → Option BucketMargin
+part_in measure.Delta kept = delta_in kept
+part_in measure.Vega kept = option_map (λ values. values.vega) (volatility_in kept)
+part_in measure.Curvature kept = option_map (λ values. values.curvature) (volatility_in kept)
+part_in measure.BaseCorr kept = delta_in kept
+
+-- what is kept of a bucket in a measure; nothing in one that it has not
 abbrev pub cached_in : Kept → BucketAt → Measure → Option BucketMargin
-cached_in kept at measure.Delta = if is_base_bucket at.class at.bucket then None else kept_delta kept at
-cached_in kept at measure.Vega = option_map (λ values. values.vega) (kept_volatility kept at)
-cached_in kept at measure.Curvature = option_map (λ values. values.curvature) (kept_volatility kept at)
-cached_in kept at measure.BaseCorr = if is_base_bucket at.class at.bucket then kept_delta kept at else None
+cached_in kept at measure = if is_measured at measure then part_in measure (value_at kept (place_in at measure)) else None

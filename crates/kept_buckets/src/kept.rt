@@ -10,7 +10,7 @@ ghost use Rattle.kept_buckets.specs.Kept.{value_at, margin_at, KeepsValue, Keeps
 ghost use Rattle.kept_buckets.specs.Margins.{is_class};
 ghost use Rattle.kept_buckets.specs.Touched.{Forgets, class_at};
 ghost use Rattle.kept_buckets.specs.Dirty.{dirty_in, dirty_at};
-ghost use Rattle.kept_buckets.specs.Cached.{cached_in, kept_delta, kept_volatility, is_base_bucket, place_on};
+ghost use Rattle.kept_buckets.specs.Cached.{cached_in, kept_delta, kept_volatility, is_base_bucket, is_measured, place_on};
 
 use crate::margins::KeptMargins;
 use crate::value::{KeptValue, VolatilityMargins, measures_of};
@@ -113,18 +113,18 @@ impl KeptBuckets {
         count
     }
 
-    /// What is kept of a bucket in a measure. Base correlation has the one bucket `Single` of credit that qualifies, which is none
-    /// of delta. It takes no memory.
+    /// What is kept of a bucket in a measure. Base correlation has the one bucket `Single` of credit that qualifies, which has no
+    /// other measure. It takes no memory.
     pub fn cached(&self, at: BucketAt, measure: Measure) -> Option<BucketMargin>
         ensures { result ≡ cached_in self.now at measure }
     {
+        if !is_measured(at, measure) {
+            return None;
+        }
         match measure {
-            Measure::Delta if is_base_bucket(at) => None,
-            Measure::Delta => self.delta(at),
+            Measure::Delta | Measure::BaseCorr => self.delta(at),
             Measure::Vega => Some(self.volatility(at)?.vega),
             Measure::Curvature => Some(self.volatility(at)?.curvature),
-            Measure::BaseCorr if is_base_bucket(at) => self.delta(at),
-            Measure::BaseCorr => None,
         }
     }
 
@@ -215,6 +215,16 @@ fn class_at(place: Place) -> ClassAt
     ClassAt {
         product: place.product,
         class: place.class,
+    }
+}
+
+/// Whether a bucket has a measure: that of base correlation has no other.
+fn is_measured(at: BucketAt, measure: Measure) -> bool
+    ensures { result ≡ is_measured at measure }
+{
+    match measure {
+        Measure::Delta | Measure::Vega | Measure::Curvature => !is_base_bucket(at),
+        Measure::BaseCorr => is_base_bucket(at),
     }
 }
 

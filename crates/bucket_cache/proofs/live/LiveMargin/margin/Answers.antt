@@ -35,8 +35,8 @@ returns-in-Some-clause-renewed g c =
 pub returns-in-Some-clause-all : goal.returns-in-Some-clause-all
 returns-in-Some-clause-all g c = λ at measure.
     subst (IsCached at measure) c.self.view_is
-    (fresh_cached c.self.inside.params (factors_of (rows_of (trades_of c.self.inside.trades.entries))) c.self.inside.kept c.self.invariant.summed.right
-    (if_some c.self.inside.last c.in-Some.margin (IsMargin c.self.inside.params (rows_of (trades_of c.self.inside.trades.entries)) c.self.inside.kept) c.in-Some.is c.self.invariant.fresh).all at measure)
+    (fresh_cached c.self.inside.params (factors_of (rows_of (trades_of c.self.inside.trades.entries))) c.self.inside.kept c.self.invariant.summed.right at
+    (if_some c.self.inside.last c.in-Some.margin (IsMargin c.self.inside.params (rows_of (trades_of c.self.inside.trades.entries)) c.self.inside.kept) c.in-Some.is c.self.invariant.fresh).all measure)
 
 pub returns-in-Some-clause-fresh : goal.returns-in-Some-clause-fresh
 returns-in-Some-clause-fresh g c = sym (ap (λ (l : Live). l.is_fresh) c.self.view_is) ∙ ap is_some c.in-Some.is
@@ -123,8 +123,8 @@ pub returns-clause-all : goal.returns-clause-all
 returns-clause-all g c = λ at measure.
     let us = trades_of c.self.inside.trades.entries in
     fresh_cached c.self.inside.params (factors_of (rows_of us)) c.margin_of.new.kept
-    (renews_to c.self.inside.params (rows_of us) c.self.inside.sums c.self.inside.kept c.margin_of.new.kept c.self.invariant.summed.summed c.margin_of.ensures.renewed).right
-    (subst (λ factors. IsFresh factors c.margin_of.new.kept) (ap (λ (s : Sums). s.factors) c.self.invariant.summed.summed) c.in_ok-margin.ensures.fresh) at measure
+    (renews_to c.self.inside.params (rows_of us) c.self.inside.sums c.self.inside.kept c.margin_of.new.kept c.self.invariant.summed.summed c.margin_of.ensures.renewed).right at
+    (subst (λ factors. IsFresh factors c.margin_of.new.kept) (ap (λ (s : Sums). s.factors) c.self.invariant.summed.summed) c.in_ok-margin.ensures.fresh) measure
 
 pub returns-clause-steps : goal.returns-clause-steps
 returns-clause-steps g c =

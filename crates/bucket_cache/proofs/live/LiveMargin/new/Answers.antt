@@ -1,0 +1,12 @@
+use Rattle.std.proofs.Common.{List, subst}
+use Rattle.simm_kinds.specs.declared.row.TradeRows.{TradeRows}
+use Rattle.simm_kinds.specs.Batch.{rows_of}
+use Rattle.factor_book.specs.Factors.{factors_of}
+use Rattle.book_margin.specs.Right.{AreRight}
+use Rattle.bucket_cache.proofs.Standing.{no_values}
+use Rattle.bucket_cache.proofs.live.LiveMargin.new.Goals as goal
+
+pub returns-clause-none : goal.returns-clause-none
+returns-clause-none c =
+    no_values c.without_margin-live.result.params c.know_margin.new.self.kept
+    (subst (λ (trades : List TradeRows). AreRight c.without_margin-live.result.params (factors_of (rows_of trades)) c.know_margin.new.self.kept) c.without_margin-live.ensures.book c.know_margin.ensures.renewed.right)
