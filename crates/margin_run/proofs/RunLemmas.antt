@@ -10,7 +10,7 @@ use Rattle.simm_rules.specs.Params.{Params}
 use Rattle.params_file.specs.Grammar.{params_of}
 use Rattle.csa_terms.specs.Grammar.{terms_of}
 use Rattle.csa_terms.specs.Terms.{Agreement, AreTerms}
-use Rattle.set_core.specs.Set.{Set}
+use Rattle.set_core.specs.Set.{Set, start}
 use Rattle.feed_gate.specs.declared.report.FeedReport.{FeedReport}
 use Rattle.feed_gate.specs.Sets.{AreApart}
 use Rattle.feed_gate.specs.SetsRun.{IsRun}
@@ -20,7 +20,7 @@ use Rattle.command_files.specs.declared.fault.Fault.{Fault}
 use Rattle.command_files.specs.declared.fault.Fault.TheVariants as fault
 use Rattle.command_files.specs.Files.{no_deeds, with_reading, IsRead}
 use Rattle.margin_run.specs.FeedFiles.{FeedsFail, AreFed}
-use Rattle.margin_run.specs.Run.{start, HasInputs, HasRun, RunCause}
+use Rattle.margin_run.specs.Run.{HasInputs, HasRun, RunCause}
 use Rattle.margin_run.specs.RunStages.{RunFilesEnd}
 use Rattle.command_files.proofs.FileLemmas.{did_more}
 use Rattle.command_files.proofs.AfterParamsLemmas.{whole_before}

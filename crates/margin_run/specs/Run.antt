@@ -6,7 +6,7 @@ use Rattle.mh_io.specs.Folder.{FolderSeen}
 use Rattle.simm_rules.specs.Params.{Params}
 use Rattle.csa_terms.specs.Grammar.{terms_of}
 use Rattle.csa_terms.specs.Terms.{Agreement}
-use Rattle.set_core.specs.Set.{Set}
+use Rattle.set_core.specs.Set.{Set, start}
 use Rattle.feed_gate.specs.declared.report.FeedEnd.{FeedEnd}
 use Rattle.feed_gate.specs.declared.report.FeedEnd.TheVariants as end_at
 use Rattle.feed_gate.specs.declared.report.FeedReport.{FeedReport}
@@ -38,10 +38,6 @@ pub record HasInputs (params_name terms_name : List ℕ) (old new : FolderSeen) 
   pub terms : terms_of terms_bytes ≡ Ok agreements
   pub finds : old.find_faults ≤ new.find_faults
   pub reads : old.read_faults ≤ new.read_faults
-
--- a set before its first call
-abbrev pub start : Params → Agreement → Set
-start p agreement = record { params = p; terms = agreement; journal = [] }
 
 -- Both files were read, and the feeds were run on the sets of the terms.
 pub record HasRun (params_name terms_name : List ℕ) (feed_names : List (List ℕ)) (old new : FolderSeen) (sets : List Set) (reports : List FeedReport) : Type 0 where

@@ -3,7 +3,7 @@ ghost use Rattle.std.specs.Prelude.{◌≡◌, ◌≤◌, length, map, IfOk};
 ghost use Rattle.std.specs.String.{string_bytes};
 ghost use Rattle.feed_gate.specs.Sets.{AreApart};
 ghost use Rattle.command_files.specs.Files.{KeepsCounts};
-ghost use Rattle.margin_run.specs.Run.{start};
+ghost use Rattle.set_core.specs.Set.{start};
 ghost use Rattle.margin_run.specs.RunStages.{InputsEnd, RunFilesEnd};
 
 use crate::feed_files::{FeedsRun, run_feed_files};

@@ -1,16 +1,18 @@
 -- What a live margin has kept, after one event more.
-use Rattle.std.proofs.Common.{◌≡◌, ℕ, List, [], ◌∷◌, ◌++◌, Bool, true, false, not, Option, Some, None, Result, Ok, Err, IfOk, OnErr, refl, sym, ap, ◌∙◌, subst, append_assoc, append-nil}
-use Rattle.std.proofs.lemmas.Bool.{and_parts, false≢true}
+use Rattle.std.proofs.Common.{◌≡◌, ℕ, List, [], ◌∷◌, ◌++◌, Bool, true, false, ◌&&◌, not, Option, Some, None, Result, Ok, Err, IfOk, OnOk, OnErr, refl, sym, ap, ◌∙◌, subst, append_assoc, append-nil}
+use Rattle.std.proofs.lemmas.Bool.{and_parts, false≢true, true≢false}
 use Rattle.std.specs.declared.alloc.AllocError.{AllocError}
 use Rattle.simm_kinds.specs.declared.row.TradeRows.{TradeRows}
 use Rattle.simm_kinds.specs.Batch.{rows_of}
 use Rattle.simm_rules.specs.declared.values.Breakdown.{Breakdown}
+use Rattle.csa_terms.specs.Terms.{Agreement}
 use Rattle.factor_book.specs.Factors.{factors_of}
 use Rattle.factor_book.specs.Places.{factors_at}
+use Rattle.kept_buckets.specs.Cached.{is_measured, place_in}
 use Rattle.kept_buckets.specs.Touched.{Forgets, SameElsewhere}
-use Rattle.bucket_cache.specs.Cached.{place_in, touches, IsCached}
+use Rattle.bucket_cache.specs.Cached.{touches, is_cached, IsCached}
 use Rattle.bucket_cache.specs.Live.{Live}
-use Rattle.bucket_cache.proofs.Standing.{elsewhere_cached}
+use Rattle.bucket_cache.proofs.Standing.{elsewhere_cached, cached_untouched}
 use Rattle.collateral_ledger.specs.declared.fault.LedgerFault.{LedgerFault}
 use Rattle.collateral_ledger.specs.Holdings.{Holdings}
 use Rattle.held_cell.specs.declared.entry.Entry.{Entry}
@@ -20,50 +22,80 @@ use Rattle.set_core.specs.declared.reply.Reply.{Reply}
 use Rattle.set_core.specs.declared.reply.Reply.TheVariants as reply
 use Rattle.set_core.specs.declared.refusal.Refusal.{Refusal}
 use Rattle.set_core.specs.Book.{book}
-use Rattle.set_core.specs.Cached.{rows_moved_by, moves_trades, is_known, known_after, is_margin_known, is_value_known, AreCached}
+use Rattle.set_core.specs.Set.{Set, KeepsMore}
+use Rattle.set_core.specs.Cached.{rows_moved_by, moves_trades, is_kept, is_known, known_after, is_margin_known, is_value_known, AreCached}
 use Rattle.set_core.specs.Ledger.{refusal_of, if_allowed, ledger_reply}
-use Rattle.set_core.specs.Live.{Traded, traded, live_reply, Does, IsWorkedOut, StaysKept, Carries, Caches}
+use Rattle.set_core.specs.Live.{Traded, traded, live_reply, Does, IsWorkedOut, StaysKept, Carries, IfAsked, Caches}
 use Rattle.set_core.proofs.Applies.{is_settled}
 use Rattle.set_core.proofs.Words.{Log}
 
 -- ---- one event
 
 pub stays_same : (old new : Live) → new ≡ old → StaysKept old new
-stays_same old new same = subst (StaysKept old) (sym same) (record { fresh = λ h. h; kept = λ at measure h. h })
+stays_same old new same = subst (StaysKept old) (sym same) (record { fresh = λ h. h; kept = λ at measure h. h; cached = λ at measure h. h })
 
-pub stays_worked_out : (old new : Live) → IsWorkedOut new → StaysKept old new
-stays_worked_out old new out = record { fresh = λ h. out.fresh; kept = λ at measure h. out.kept at measure }
+-- a question that is answered is neither accepted nor refused
+asked_is : (was touched there : Bool) (r : Reply) → is_settled r ≡ false → is_kept was touched there r ≡ there
+asked_is was touched there reply.Accepted h = absurd (true≢false h)
+asked_is was touched there (reply.Refused why) h = absurd (true≢false h)
+asked_is was touched there (reply.Margin b) h = refl
+asked_is was touched there (reply.Called note) h = refl
+asked_is was touched there (reply.NoCall excess margin booked) h = refl
 
-pub caches_all : (old new : Live) (e : Event) (r : Reply) → IsWorkedOut new → Caches old new e r
-caches_all old new e r out = record { fresh = λ was h known. out.fresh; kept = λ at measure was h known. out.kept at measure }
+if_asked : (r : Reply) (P : Type 0) → P → IfAsked r P
+if_asked reply.Accepted P h = tt
+if_asked (reply.Refused why) P h = tt
+if_asked (reply.Margin b) P h = h
+if_asked (reply.Called note) P h = h
+if_asked (reply.NoCall excess margin booked) P h = h
+
+pub caches_all : (old new : Live) (e : Event) (r : Reply) → is_settled r ≡ false → traded new ≡ traded old → IsWorkedOut new → StaysKept old new → Caches old new e r
+caches_all old new e r asked same out stays = record {
+  fresh = out.fresh ∙ sym (asked_is old.is_fresh (moves_trades e) true r asked);
+  cached = λ at measure.
+      out.cached at measure ∙ ap (λ (l : Traded). touches at measure (rows_of l.book)) same
+      ∙ sym (asked_is (is_cached old.kept.values at measure) (touches at measure (rows_moved_by old.book e)) (touches at measure (rows_of old.book)) r asked);
+  kept = λ at measure was h known. out.kept at measure;
+  asked = if_asked r (StaysKept old new) stays;
+}
 
 -- what is answered by a margin is worked out
 pub margin_stays : (old new : Live) (e : Event) (r : Reply) → (b : Breakdown) × (r ≡ reply.Margin b) → Caches old new e r → StaysKept old new
-margin_stays old new e r is caches =
-    let its : Caches old new e (reply.Margin is.0) = subst (Caches old new e) is.1 caches in
-    stays_worked_out old new (record {
-      fresh = its.fresh false (λ h. absurd (false≢true h)) refl;
-      kept = λ at measure. its.kept at measure false (λ h. absurd (false≢true h)) refl;
-    })
+margin_stays old new e r is caches = (subst (Caches old new e) is.1 caches).asked
 
 pub caches_refused : (old new : Live) (e : Event) (why : Refusal) → new ≡ old → Caches old new e (reply.Refused why)
 caches_refused old new e why same =
     let stays = stays_same old new same in
-    record { fresh = λ was h known. stays.fresh (h known); kept = λ at measure was h known. stays.kept at measure (h known) }
+    record {
+      fresh = ap (λ (l : Live). l.is_fresh) same;
+      cached = λ at measure. ap (λ (l : Live). is_cached l.kept.values at measure) same;
+      kept = λ at measure was h known. stays.kept at measure (h known);
+      asked = tt;
+    }
 
 untouched : (b : Bool) → not b ≡ true → b ≡ false
 untouched true h = absurd (false≢true h)
 untouched false h = refl
 
+and_false : (b : Bool) → (b && false) ≡ false
+and_false true = refl
+and_false false = refl
+
+and_true : (b : Bool) → (b && true) ≡ b
+and_true true = refl
+and_true false = refl
+
 -- rows are moved
-pub caches_moved : (old new : Live) (e : Event) → moves_trades e ≡ true → Forgets (rows_moved_by old.book e) old.kept new.kept
+pub caches_moved : (old new : Live) (e : Event) → moves_trades e ≡ true → new.is_fresh ≡ false → Forgets (rows_moved_by old.book e) old.kept new.kept
     → SameElsewhere (rows_moved_by old.book e) (factors_of (rows_of old.book)) (factors_of (rows_of new.book)) → Caches old new e reply.Accepted
-caches_moved old new e moves forgets same = record {
-  fresh = λ was h known. absurd (false≢true (sym (ap not moves) ∙ (and_parts was (not (moves_trades e)) known).1));
+caches_moved old new e moves stale forgets same = record {
+  fresh = stale ∙ sym (ap (λ b. old.is_fresh && not b) moves ∙ and_false old.is_fresh);
+  cached = cached_untouched (rows_moved_by old.book e) old.kept new.kept forgets;
   kept = λ at measure was h known.
       let touched = touches at measure (rows_moved_by old.book e) in
       let parts = and_parts was (not touched) known in
       elsewhere_cached old new (rows_moved_by old.book e) forgets same at measure (untouched touched parts.1) (h parts.0);
+  asked = tt;
 }
 
 -- the live margin is left alone
@@ -74,6 +106,20 @@ carries Known touched live (reply.Margin b) settled was h known = absurd (false�
 carries Known touched live (reply.Called note) settled was h known = absurd (false≢true settled)
 carries Known touched live (reply.NoCall excess margin booked) settled was h known = absurd (false≢true settled)
 
+left : (was touched there : Bool) (r : Reply) → is_settled r ≡ true → touched ≡ false → was ≡ is_kept was touched there r
+left was touched there reply.Accepted settled none = sym (ap (λ t. was && not t) none ∙ and_true was)
+left was touched there (reply.Refused why) settled none = refl
+left was touched there (reply.Margin b) settled none = absurd (false≢true settled)
+left was touched there (reply.Called note) settled none = absurd (false≢true settled)
+left was touched there (reply.NoCall excess margin booked) settled none = absurd (false≢true settled)
+
+unless_asked : (r : Reply) (P : Type 0) → is_settled r ≡ true → IfAsked r P
+unless_asked reply.Accepted P settled = tt
+unless_asked (reply.Refused why) P settled = tt
+unless_asked (reply.Margin b) P settled = absurd (false≢true settled)
+unless_asked (reply.Called note) P settled = absurd (false≢true settled)
+unless_asked (reply.NoCall excess margin booked) P settled = absurd (false≢true settled)
+
 allowed_settled : (why : Option Refusal) → is_settled (if_allowed why) ≡ true
 allowed_settled None = refl
 allowed_settled (Some why) = refl
@@ -82,22 +128,30 @@ pub ledger_settled : (fault : Option LedgerFault) → is_settled (ledger_reply f
 ledger_settled None = refl
 ledger_settled (Some f) = allowed_settled (refusal_of f)
 
-pub caches_beside : (old new : Holdings) (live : Live) (e : Event) (result : Result Reply AllocError) → is_settled (live_reply (traded live) old e) ≡ true
-    → IfOk result (λ r. (m : Traded) → Does m m old new e r) → IfOk result (Caches live live e)
-caches_beside old new live e (Err _) settled is = tt
-caches_beside old new live e (Ok r) settled is =
+-- an event that moves no trades
+pub caches_beside : (old new : Holdings) (live : Live) (e : Event) (result : Result Reply AllocError) → moves_trades e ≡ false → rows_moved_by live.book e ≡ []
+    → is_settled (live_reply (traded live) old e) ≡ true → IfOk result (λ r. (m : Traded) → Does m m old new e r) → IfOk result (Caches live live e)
+caches_beside old new live e (Err _) idle none settled is = tt
+caches_beside old new live e (Ok r) idle none settled is =
     let so : is_settled r ≡ true = ap is_settled (is (traded live)).value ∙ settled in
-    record { fresh = carries (λ l. l.is_fresh ≡ true) (moves_trades e) live r so; kept = λ at measure. carries (IsCached at measure) (touches at measure (rows_moved_by live.book e)) live r so }
+    record {
+      fresh = left live.is_fresh (moves_trades e) true r so idle;
+      cached = λ at measure.
+          left (is_cached live.kept.values at measure) (touches at measure (rows_moved_by live.book e)) (touches at measure (rows_of live.book)) r so
+          (ap (touches at measure) none ∙ and_false (is_measured at measure));
+      kept = λ at measure. carries (IsCached at measure) (touches at measure (rows_moved_by live.book e)) live r so;
+      asked = unless_asked r (StaysKept live live) so;
+    }
 
 -- ---- results
 
-pub always : {T E : Type 0} (result : Result T E) (P : T → Type 0) → ((x : T) → P x) → IfOk result P
-always (Ok x) P h = h x
-always (Err e) P h = tt
+pub both_so : {T E : Type 0} (result : Result T E) (P Q R : Type 0) → OnOk result P → OnOk result Q → (P → Q → R) → OnOk result R
+both_so (Ok x) P Q R p q h = h p q
+both_so (Err e) P Q R p q h = tt
 
-pub err_so : {T E : Type 0} (result : Result T E) (P R : Type 0) → OnErr result P → (P → R) → OnErr result R
-err_so (Ok x) P R p h = tt
-err_so (Err e) P R p h = h p
+pub either_so : {T E : Type 0} (result : Result T E) (P Q R : Type 0) → OnOk result P → OnErr result Q → (P → R) → (Q → R) → R
+either_so (Ok x) P Q R p q ok err = ok p
+either_so (Err e) P Q R p q ok err = err q
 
 -- ---- a journal
 
@@ -109,10 +163,21 @@ known_push touched was before (x ∷ log) e =
     known_push touched now (before ++ x ∷ []) log e
     ∙ ap (λ (l : Log). is_known (known_after touched now (before ++ x ∷ []) log) (touched (book l) e.event) e.reply) (append_assoc before (x ∷ []) log)
 
+-- what was known of a margin that was known
+known_from : (was old touched : Bool) (r : Reply) → (was ≡ true → old ≡ true) → is_known was touched r ≡ true → is_known old touched r ≡ true
+known_from was old touched reply.Accepted h known =
+    let parts = and_parts was (not touched) known in
+    (λ i. h parts.0 i && parts.1 i)
+known_from was old touched (reply.Refused why) h known = h known
+known_from was old touched (reply.Margin b) h known = refl
+known_from was old touched (reply.Called note) h known = refl
+known_from was old touched (reply.NoCall excess margin booked) h known = refl
+
 pub cached_next : (old new : Live) (caller : ℕ) (log : Log) (e : Event) (r : Reply) → old.book ≡ book log → AreCached old log → Caches old new e r → AreCached new (log ++ entry caller e r ∷ [])
 cached_next old new caller log e r same cached caches = record {
   fresh = λ known.
-      caches.fresh (is_margin_known log) cached.fresh (sym (known_push (λ trades event. moves_trades event) true [] log (entry caller e r)) ∙ known);
+      caches.fresh
+      ∙ known_from (is_margin_known log) old.is_fresh (moves_trades e) r cached.fresh (sym (known_push (λ trades event. moves_trades event) true [] log (entry caller e r)) ∙ known);
   kept = λ at measure known.
       caches.kept at measure (is_value_known at measure log) (cached.kept at measure)
       (ap (λ trades. is_known (is_value_known at measure log) (touches at measure (rows_moved_by trades e)) r) same
@@ -127,3 +192,16 @@ cached_none live none fresh = record {
   fresh = λ known. fresh;
   kept = λ at measure known measured some. absurd (some (ap (λ (trades : List TradeRows). factors_at (place_in at measure) (factors_of (rows_of trades))) none));
 }
+
+-- ---- a set
+
+abbrev pub seen : Live → Agreement → Log → Set
+seen live t log = record { params = live.params; terms = t; journal = log; is_fresh = live.is_fresh; kept = live.kept.values }
+
+pub keeps_more : (old : Set) (was new : Live) (t u : Agreement) (log longer : Log) → seen was t log ≡ old → traded new ≡ traded was → u ≡ t → longer ≡ log → StaysKept was new → KeepsMore old (seen new u longer)
+keeps_more old was new t u log longer is same terms journal stays =
+    subst (λ (s : Set). KeepsMore s (seen new u longer)) is (record {
+      stands = λ i. record { params = (same i).params; terms = terms i; journal = journal i; is_fresh = new.is_fresh; kept = new.kept.values };
+      fresh = stays.fresh;
+      cached = stays.cached;
+    })

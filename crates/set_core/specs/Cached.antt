@@ -26,12 +26,16 @@ moves_trades (event.Submit batch) = true
 moves_trades (event.Withdraw names) = true
 moves_trades _ = false
 
--- Whether what was known is known after a reply: an accepted event leaves it where it doesn't touch it, a refused one leaves it,
--- and a question that is answered makes it known.
+-- Whether what may be kept is kept after a reply: an accepted event leaves it where it doesn't touch it, a refused one leaves it, and a
+-- question that is answered keeps it where there is something to keep.
+abbrev pub is_kept : Bool → Bool → Bool → Reply → Bool
+is_kept was touched there reply.Accepted = was && not touched
+is_kept was touched there (reply.Refused why) = was
+is_kept was touched there _ = there
+
+-- of what there always is
 abbrev pub is_known : Bool → Bool → Reply → Bool
-is_known was touched reply.Accepted = was && not touched
-is_known was touched (reply.Refused why) = was
-is_known was touched _ = true
+is_known was touched r = is_kept was touched true r
 
 -- after the entries that follow others, by what an event touches of a book
 abbrev pub known_after : (List TradeRows → Event → Bool) → Bool → List (Entry Event Reply) → List (Entry Event Reply) → Bool

@@ -7,7 +7,7 @@ use Rattle.simm_rules.specs.Range.{range}
 use Rattle.simm_rules.specs.Simm.{simm}
 use Rattle.simm_kinds.specs.declared.kinds.Measure.{Measure}
 use Rattle.factor_book.specs.declared.at.BucketAt.{BucketAt}
-use Rattle.bucket_cache.specs.Cached.{touches, IsCached}
+use Rattle.bucket_cache.specs.Cached.{touches, is_cached, IsCached}
 use Rattle.bucket_cache.specs.Live.{Live, put_trades, without, first_unadmitted, first_unknown}
 use Rattle.collateral_ledger.specs.Holdings.{Holdings}
 use Rattle.collateral_ledger.specs.Booked.{booked_of}
@@ -18,7 +18,7 @@ use Rattle.set_core.specs.declared.reply.Reply.{Reply}
 use Rattle.set_core.specs.declared.reply.Reply.TheVariants as reply
 use Rattle.set_core.specs.Answer.{if_admitted, if_known, if_calling_day}
 use Rattle.set_core.specs.Ledger.{holdings_after, ledger_reply}
-use Rattle.set_core.specs.Cached.{rows_moved_by, moves_trades, is_known}
+use Rattle.set_core.specs.Cached.{rows_moved_by, moves_trades, is_kept, is_known}
 
 -- what a live margin has of its trades: the parameters of their margin, and the book
 pub record Traded : Type 0 where
@@ -52,20 +52,31 @@ pub record Does (old new : Traded) (had has : Holdings) (e : Event) (r : Reply) 
 
 -- ---- what a live margin has kept
 
--- the margin is known, and each value of a bucket is kept
+-- the margin is known, and the value of each bucket is kept in which a row lies, and of no other
 pub record IsWorkedOut (live : Live) : Type 0 where
   pub fresh : live.is_fresh ≡ true
   pub kept : (at : BucketAt) (measure : Measure) → IsCached at measure live
+  pub cached : (at : BucketAt) (measure : Measure) → is_cached live.kept.values at measure ≡ touches at measure (rows_of live.book)
 
 -- what was known is known
 pub record StaysKept (old new : Live) : Type 0 where
   pub fresh : old.is_fresh ≡ true → new.is_fresh ≡ true
   pub kept : (at : BucketAt) (measure : Measure) → IsCached at measure old → IsCached at measure new
+  pub cached : (at : BucketAt) (measure : Measure) → is_cached old.kept.values at measure ≡ true → is_cached new.kept.values at measure ≡ true
 
 abbrev pub Carries : (Live → Type 0) → Bool → Live → Live → Reply → Type 0
 Carries Known touched old new r = (was : Bool) → (was ≡ true → Known old) → is_known was touched r ≡ true → Known new
 
--- what is known after the event and its reply is kept
+-- where the reply is that of a question
+abbrev pub IfAsked : Reply → Type 0 → Type 0
+IfAsked reply.Accepted P = Unit {0}
+IfAsked (reply.Refused why) P = Unit {0}
+IfAsked _ P = P
+
+-- just what is known after the event and its reply is kept; a question forgets nothing
 pub record Caches (old new : Live) (e : Event) (r : Reply) : Type 0 where
-  pub fresh : Carries (λ live. live.is_fresh ≡ true) (moves_trades e) old new r
+  pub fresh : new.is_fresh ≡ is_known old.is_fresh (moves_trades e) r
+  pub cached : (at : BucketAt) (measure : Measure) → is_cached new.kept.values at measure
+      ≡ is_kept (is_cached old.kept.values at measure) (touches at measure (rows_moved_by old.book e)) (touches at measure (rows_of old.book)) r
   pub kept : (at : BucketAt) (measure : Measure) → Carries (IsCached at measure) (touches at measure (rows_moved_by old.book e)) old new r
+  pub asked : IfAsked r (StaysKept old new)

@@ -1,33 +1,72 @@
--- A netting set as it is seen: what it works on, and its journal.
-use Rattle.std.specs.Prelude.{◌≡◌, ℕ, ◌≤◌, List, [], ◌∷◌, ◌++◌, length, false, Option, None, zero, suc, slice_get}
+-- A netting set as it is seen: what it works on, its journal, and what is kept of its margin.
+use Rattle.std.specs.Prelude.{◌≡◌, ℕ, ◌≤◌, List, [], ◌∷◌, ◌++◌, length, Bool, true, false, Option, None, zero, suc, slice_get}
+use Rattle.simm_kinds.specs.declared.kinds.Measure.{Measure}
+use Rattle.simm_kinds.specs.Batch.{rows_of}
 use Rattle.simm_rules.specs.Params.{Params}
+use Rattle.factor_book.specs.declared.at.BucketAt.{BucketAt}
+use Rattle.factor_book.specs.declared.place.Place.{Place}
+use Rattle.kept_buckets.specs.declared.value.KeptValue.{KeptValue}
+use Rattle.bucket_cache.specs.Cached.{touches, is_cached}
 use Rattle.csa_terms.specs.Terms.{Agreement}
 use Rattle.held_cell.specs.declared.entry.Entry.{Entry}
+use Rattle.held_cell.specs.declared.machine.Halt.{Halt}
+use Rattle.held_cell.specs.declared.machine.Halt.TheVariants as halt
 use Rattle.held_cell.specs.Entries.{entry}
 use Rattle.set_core.specs.declared.event.Event.{Event}
 use Rattle.set_core.specs.declared.reply.Reply.{Reply}
 use Rattle.set_core.specs.Answer.{answer, IsLegal}
+use Rattle.set_core.specs.Book.{book}
+use Rattle.set_core.specs.Cached.{rows_moved_by, moves_trades, is_kept, is_known}
 use Rattle.set_core.specs.Room.{journal_rows, is_full}
 
--- the parameters of its margins, the terms of its agreement, and all calls with their answers
+-- the parameters of its margins, the terms of its agreement, and all calls with their answers; whether its margin is known, and the
+-- values of buckets that are kept
 pub record Set : Type 0 where
   pub params : Params
   pub terms : Agreement
   pub journal : List (Entry Event Reply)
+  pub is_fresh : Bool
+  pub kept : List (Place × KeptValue)
+
+-- a set before its first call: the margin of no trades is known, and no value of a bucket is kept
+abbrev pub start : Params → Agreement → Set
+start p t = record { params = p; terms = t; journal = []; is_fresh = true; kept = [] }
 
 -- what it works on, which no event changes
 abbrev pub base_of : Set → Params × Agreement
 base_of s = (s.params, s.terms)
 
--- the set after an event that was answered
-abbrev pub with_entry : Set → ℕ → Event → Reply → Set
-with_entry s caller event reply = record s { journal = s.journal ++ entry caller event reply ∷ [] }
+-- Of which buckets the value is kept after an event that was answered: after an accepted one exactly of those that it was kept of and
+-- that no row lies in which the event moves; after a refused one of the same; after a question of those that a row of the book lies in.
+abbrev pub cached_after : Set → Event → Reply → BucketAt → Measure → Bool
+cached_after s event reply at measure =
+    is_kept (is_cached s.kept at measure) (touches at measure (rows_moved_by (book s.journal) event)) (touches at measure (rows_of (book s.journal))) reply
+
+-- the set after an event that was answered, by what is kept of its buckets then
+abbrev pub with_entry : Set → ℕ → Event → Reply → List (Place × KeptValue) → Set
+with_entry s caller event reply kept = record s {
+  journal = s.journal ++ entry caller event reply ∷ [];
+  is_fresh = is_known s.is_fresh (moves_trades event) reply;
+  kept = kept;
+}
 
 -- What an event that is answered does: its answer by the written rule joins the journal, which had room.
 pub record IsAnswered (old new : Set) (caller : ℕ) (event : Event) (reply : Reply) : Type 0 where
   pub room : is_full old.journal event ≡ false
   pub value : reply ≡ answer old.params old.terms old.journal event
-  pub after : new ≡ with_entry old caller event reply
+  pub after : new ≡ with_entry old caller event reply new.kept
+  pub cached : (at : BucketAt) (measure : Measure) → is_cached new.kept at measure ≡ cached_after old event reply at measure
+
+-- What was kept of its margin is kept, and maybe more; all else stands.
+pub record KeepsMore (old new : Set) : Type 0 where
+  pub stands : new ≡ record old { is_fresh = new.is_fresh; kept = new.kept }
+  pub fresh : old.is_fresh ≡ true → new.is_fresh ≡ true
+  pub cached : (at : BucketAt) (measure : Measure) → is_cached old.kept at measure ≡ true → is_cached new.kept at measure ≡ true
+
+-- What an event leaves that is not answered: a full journal all as it was, and want of memory at least as much of the margin.
+abbrev pub Leaves : Set → Set → Halt Event → Type 0
+Leaves old new (halt.Full entries weight event) = new ≡ old
+Leaves old new (halt.Memory event) = KeepsMore old new
 
 -- what each set keeps
 pub record IsSet (p : Params) (t : Agreement) (log : List (Entry Event Reply)) : Type 0 where

@@ -1,4 +1,4 @@
-ghost use Rattle.std.specs.Prelude.{◌≡◌, [], true, length, map, None, Some, IfOk, OnErr, IfErr};
+ghost use Rattle.std.specs.Prelude.{◌≡◌, true, length, map, None, Some, IfOk, IfErr};
 ghost use Rattle.std.specs.Option.{option_copied};
 ghost use Rattle.simm_kinds.specs.declared.kinds.Measure.{Measure};
 ghost use Rattle.factor_book.specs.declared.at.BucketAt.{BucketAt};
@@ -7,7 +7,7 @@ ghost use Rattle.set_core.specs.Book.{book};
 ghost use Rattle.set_core.specs.Cached.{is_margin_known, is_value_known};
 ghost use Rattle.held_cell.specs.Halts.{Explains};
 ghost use Rattle.set_core.specs.Room.{journal_rows, event_rows, is_full_for, IsFull};
-ghost use Rattle.set_core.specs.Set.{IsSet, IsAnswered, entry_at};
+ghost use Rattle.set_core.specs.Set.{IsSet, IsAnswered, Leaves, start, entry_at};
 
 use crate::answering::answer_twice;
 use crate::{Entry, Event, Halt, Reply};
@@ -19,7 +19,8 @@ use std::alloc::{AllocError, Global};
 use std::marker::Model;
 
 /// A netting set: what it works on, its current trades, its lots and outstanding calls, and the journal of its calls. Contracts see the parameters, the
-/// terms and the journal; all else is the written rule over the journal. It keeps the allocator that it was made with.
+/// terms, the journal, and of what is kept of its margin whether it is known and the values of buckets; all else is the written rule over the journal.
+/// It keeps the allocator that it was made with.
 #[derive(Drop)]
 pub struct SetState {
     alloc: Global,
@@ -37,7 +38,13 @@ impl Model for SetState {
 
     ghost Value = { Set };
 
-    ghost view = { λ s. record { params = s.live.params; terms = s.ledger.terms; journal = s.journal.items } };
+    ghost view = { λ s. record {
+      params = s.live.params;
+      terms = s.ledger.terms;
+      journal = s.journal.items;
+      is_fresh = s.live.is_fresh;
+      kept = s.live.kept.values;
+    } };
 
     ghost invariant = { λ s. IsKept (traded s.live) s.ledger s.rows s.journal.items × AreCached s.live s.journal.items };
 }
@@ -49,13 +56,13 @@ const MOST_ENTRIES: usize = 65_535;
 const MOST_ROWS: usize = 500_000;
 
 impl SetState {
-    /// A set without trades, with an empty journal.
+    /// A set without trades, with an empty journal. No value of a bucket is kept, and its margin is known.
     ///
     /// # Errors
     ///
     /// For want of memory alone.
     pub fn new(alloc: Global, params: Params, terms: SetTerms) -> Result<SetState, AllocError>
-        ensures { IfOk result (λ set. set ≡ record { params = params; terms = terms; journal = [] }) }
+        ensures { IfOk result (λ set. set ≡ start params terms) }
     {
         let live = LiveMargin::new(alloc, params)?;
         Ok(SetState {
@@ -68,17 +75,20 @@ impl SetState {
     }
 
     /// Answers an event by the written rule over the journal so far, and adds it to the journal with its reply. An event
-    /// that is refused changes nothing else. What the live margin keeps of its buckets is told by the journal too (`live`).
+    /// that is refused changes nothing else. Of the values of buckets that are kept an accepted batch or withdrawal forgets
+    /// just those of the buckets in which a row lies that it adds, replaces or removes; after a question that is answered
+    /// the value of each bucket is kept in which a row lies.
     ///
     /// # Errors
     ///
     /// `Full` exactly where the journal has 65,535 entries, or its rows and the event's are more than 500,000; it shows the
     /// journal's entries and, as its weight, its rows. This is tested first, and takes no memory. `Memory` for want of memory
-    /// where the journal had room. Then the set stands, and the event comes back.
+    /// where the journal had room. Then the set stands, and the event comes back; of its margin more may be kept than
+    /// before, after `Memory` alone.
     pub fn apply(&mut self, caller: u32, event: Event) -> Result<Reply, Halt<Event>>
         ensures answered { IfOk result (IsAnswered self.old self.new caller event) }
         ensures halt { IfErr result (Explains journal_rows IsFull self.old.journal event) }
-        ensures unchanged { OnErr result (self.new ≡ self.old) }
+        ensures unchanged { IfErr result (Leaves self.old self.new) }
     {
         event.facts();
         let rows = event.row_count();
@@ -134,12 +144,14 @@ impl SetState {
         self.journal.get(index as usize)
     }
 
-    /// Lends the live margin, whose book is that of the journal. What was worked out at the last question that was answered
+    /// Lends the live margin, whose book is that of the journal, with just what the set keeps of it. What was worked out at the last question that was answered
     /// is kept, but the values of the buckets in which a row lies that an accepted event moved since; a refused event leaves
     /// them. The margin is known where no accepted event moved trades since.
     pub fn live(&self) -> &LiveMargin
         ensures params { result.now.params ≡ self.now.params }
         ensures book { result.now.book ≡ book self.now.journal }
+        ensures is_fresh { result.now.is_fresh ≡ self.now.is_fresh }
+        ensures values { result.now.kept.values ≡ self.now.kept }
         ensures fresh { is_margin_known self.now.journal ≡ true → result.now.is_fresh ≡ true }
         ensures kept { (at : BucketAt) (measure : Measure) → is_value_known at measure self.now.journal ≡ true → IsCached at measure result.now }
     {

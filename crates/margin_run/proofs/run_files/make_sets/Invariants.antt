@@ -1,5 +1,5 @@
 use Rattle.std.proofs.Common.{◌≡◌, map, take}
-use Rattle.margin_run.specs.Run.{start}
+use Rattle.set_core.specs.Set.{start}
 use Rattle.margin_run.proofs.run_files.make_sets.Given as goal
 
 abbrev pub invariant-loop-agreement : goal.invariant-loop-agreement

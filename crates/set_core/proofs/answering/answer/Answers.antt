@@ -5,7 +5,7 @@ use Rattle.set_core.specs.declared.event.Event.TheVariants as event
 use Rattle.set_core.specs.declared.reply.Reply.TheVariants as reply
 use Rattle.collateral_ledger.specs.Refusals.{put_refusal, take_refusal, mark_refusal, close_refusal}
 use Rattle.set_core.specs.Live.{Caches, Does, traded}
-use Rattle.set_core.proofs.Caching.{caches_all, caches_beside, ledger_settled, stays_worked_out}
+use Rattle.set_core.proofs.Caching.{caches_all, caches_beside, ledger_settled}
 use Rattle.set_core.proofs.Demands.{on_err}
 use Rattle.set_core.proofs.Changes.{beside}
 use Rattle.set_core.proofs.answering.answer.Goals as goal
@@ -41,11 +41,12 @@ returns-in-CloseCall-clause-does c =
 
 pub returns-in_ok-new-in-AskMargin-clause-caches : goal.returns-in_ok-new-in-AskMargin-clause-caches
 returns-in_ok-new-in-AskMargin-clause-caches c =
-    caches_all c.args.live.now c.ask_margin.new.live c.args.event.now (reply.Margin c.in_ok-new-in-AskMargin.field-0) c.in_ok-parts-in-AskMargin.ensures.all
+    caches_all c.args.live.now c.ask_margin.new.live c.args.event.now (reply.Margin c.in_ok-new-in-AskMargin.field-0) refl c.in_ok-parts-in-AskMargin.ensures.trades
+    c.in_ok-parts-in-AskMargin.ensures.all c.in_ok-parts-in-AskMargin.ensures.stays
 
 pub returns-in_err-new-in-AskMargin-clause-stays : goal.returns-in_err-new-in-AskMargin-clause-stays
 returns-in_err-new-in-AskMargin-clause-stays c =
-    on_err c.from_residual-in_err-new-in-AskMargin.result (stays_worked_out c.args.live.now c.ask_margin.new.live c.in_ok-parts-in-AskMargin.ensures.all)
+    on_err c.from_residual-in_err-new-in-AskMargin.result c.in_ok-parts-in-AskMargin.ensures.stays
 
 pub returns-in-PutLot-clause-caches : goal.returns-in-PutLot-clause-caches
 returns-in-PutLot-clause-caches c =
@@ -53,12 +54,12 @@ returns-in-PutLot-clause-caches c =
     let put : ℤ → Event = λ value. event.PutLot c.in-PutLot.lot c.in-PutLot.class value c.in-PutLot.currency in
     let value = to_z w64 (of_z w64 c.in-PutLot.value) in
     subst (λ e. IfOk c.put.result (Caches c.args.live.now c.args.live.now e)) (ap put (same64 c.in-PutLot.value fits) ∙ sym c.in-PutLot.is)
-    (caches_beside c.args.ledger.now c.put.new.ledger c.args.live.now (put value) c.put.result (ledger_settled (put_refusal c.args.ledger.now c.in-PutLot.lot c.in-PutLot.class value)) c.put.ensures.does)
+    (caches_beside c.args.ledger.now c.put.new.ledger c.args.live.now (put value) c.put.result refl refl (ledger_settled (put_refusal c.args.ledger.now c.in-PutLot.lot c.in-PutLot.class value)) c.put.ensures.does)
 
 pub returns-in-TakeLot-clause-caches : goal.returns-in-TakeLot-clause-caches
 returns-in-TakeLot-clause-caches c =
     subst (λ e. IfOk c.take.result (Caches c.args.live.now c.args.live.now e)) (sym c.in-TakeLot.is)
-    (caches_beside c.args.ledger.now c.take.new.ledger c.args.live.now (event.TakeLot c.in-TakeLot.lot) c.take.result (ledger_settled (take_refusal c.args.ledger.now c.in-TakeLot.lot)) c.take.ensures.does)
+    (caches_beside c.args.ledger.now c.take.new.ledger c.args.live.now (event.TakeLot c.in-TakeLot.lot) c.take.result refl refl (ledger_settled (take_refusal c.args.ledger.now c.in-TakeLot.lot)) c.take.ensures.does)
 
 pub returns-in-MarkLot-clause-caches : goal.returns-in-MarkLot-clause-caches
 returns-in-MarkLot-clause-caches c =
@@ -66,9 +67,9 @@ returns-in-MarkLot-clause-caches c =
     let mark : ℤ → Event = λ value. event.MarkLot c.in-MarkLot.lot value in
     let value = to_z w64 (of_z w64 c.in-MarkLot.value) in
     subst (λ e. IfOk c.mark.result (Caches c.args.live.now c.args.live.now e)) (ap mark (same64 c.in-MarkLot.value fits) ∙ sym c.in-MarkLot.is)
-    (caches_beside c.args.ledger.now c.mark.new.ledger c.args.live.now (mark value) c.mark.result (ledger_settled (mark_refusal c.args.ledger.now c.in-MarkLot.lot value)) c.mark.ensures.does)
+    (caches_beside c.args.ledger.now c.mark.new.ledger c.args.live.now (mark value) c.mark.result refl refl (ledger_settled (mark_refusal c.args.ledger.now c.in-MarkLot.lot value)) c.mark.ensures.does)
 
 pub returns-in-CloseCall-clause-caches : goal.returns-in-CloseCall-clause-caches
 returns-in-CloseCall-clause-caches c =
     subst (λ e. IfOk c.close.result (Caches c.args.live.now c.args.live.now e)) (sym c.in-CloseCall.is)
-    (caches_beside c.args.ledger.now c.close.new.ledger c.args.live.now (event.CloseCall c.in-CloseCall.number) c.close.result (ledger_settled (close_refusal c.args.ledger.now c.in-CloseCall.number)) c.close.ensures.does)
+    (caches_beside c.args.ledger.now c.close.new.ledger c.args.live.now (event.CloseCall c.in-CloseCall.number) c.close.result refl refl (ledger_settled (close_refusal c.args.ledger.now c.in-CloseCall.number)) c.close.ensures.does)

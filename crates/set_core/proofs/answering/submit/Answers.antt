@@ -29,4 +29,4 @@ pub returns-in-Err-Range-clause-does : goal.returns-in-Err-Range-clause-does
 returns-in-Err-Range-clause-does c = λ h. record { value = out_of_range _ _ _ (c.in-Err-Range.ensures.range_of_admitted c.in-Err-Range.fault (ap Err c.in-Err-Range.field-0-is)) (c.in-Err-Range.ensures.range c.in-Err-Range.fault (ap Err c.in-Err-Range.field-0-is)); live = ap traded c.in-Err-Range.ensures.unchanged; ledger = refl }
 
 pub returns-in-Ok-clause-caches : goal.returns-in-Ok-clause-caches
-returns-in-Ok-clause-caches c = caches_moved c.args.live.now c.submit.new.self (events.Submit c.args.batch.now) refl c.in-Ok.ensures.kept c.in-Ok.ensures.elsewhere
+returns-in-Ok-clause-caches c = caches_moved c.args.live.now c.submit.new.self (events.Submit c.args.batch.now) refl c.in-Ok.ensures.stale c.in-Ok.ensures.kept c.in-Ok.ensures.elsewhere

@@ -1,6 +1,8 @@
 use Rattle.std.proofs.Common.{refl, sym, ap, Err}
 use Rattle.set_core.specs.Answer.{if_known}
 use Rattle.set_core.specs.Live.{traded}
+use Rattle.set_core.specs.declared.event.Event.TheVariants as events
+use Rattle.set_core.proofs.Caching.{caches_moved}
 use Rattle.set_core.proofs.Changes.{other_trades}
 use Rattle.set_core.proofs.answering.withdraw.Goals as goal
 
@@ -17,3 +19,6 @@ returns-in-Err-UnknownTrade-clause-does c = λ h. record {
   live = ap traded c.in-Err-UnknownTrade.ensures.unchanged;
   ledger = refl;
 }
+
+pub returns-in-Ok-clause-caches : goal.returns-in-Ok-clause-caches
+returns-in-Ok-clause-caches c = caches_moved c.args.live.now c.withdraw.new.self (events.Withdraw c.args.names.now) refl c.in-Ok.ensures.stale c.in-Ok.ensures.kept c.in-Ok.ensures.elsewhere

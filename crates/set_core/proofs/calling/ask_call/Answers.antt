@@ -1,12 +1,19 @@
-use Rattle.std.proofs.Common.{rules, ◌≡◌, ◌^◌, sym, ap, ◌∙◌, subst, arith, ℤ, pos, ◌≤ℤ◌, ◌<ℤ◌, true, FitsSigned, w32, to_z, of_z}
+use Rattle.std.proofs.Common.{rules, ◌≡◌, ℕ, ◌^◌, Result, Ok, Err, IfOk, refl, false, sym, ap, ◌∙◌, subst, arith, ℤ, pos, ◌≤ℤ◌, ◌<ℤ◌, true, FitsSigned, w32, to_z, of_z}
 use Rattle.std.specs.Int.{w128}
 use Rattle.std.proofs.lemmas.Int.{ints, to_z-of_z}
 use Rattle.mh_units.proofs.Integers.{same128}
 use Rattle.csa_terms.specs.Calendar.{due_day}
-use Rattle.set_core.specs.Answer.{is_calling_day}
+use Rattle.csa_calls.specs.declared.CallAmount.{CallAmount}
+use Rattle.csa_calls.specs.declared.CallAmount.TheVariants as amount
+use Rattle.bucket_cache.specs.Live.{Live}
+use Rattle.set_core.specs.Answer.{is_calling_day, noted}
+use Rattle.set_core.specs.declared.event.Event.{Event}
+use Rattle.set_core.specs.declared.reply.Reply.{Reply}
+use Rattle.std.specs.declared.alloc.AllocError.{AllocError}
 use Rattle.set_core.specs.declared.event.Event.TheVariants as event
-use Rattle.set_core.specs.Live.{traded, Caches}
-use Rattle.set_core.proofs.Caching.{always, caches_all, stays_worked_out}
+use Rattle.set_core.specs.Live.{traded, IsWorkedOut, StaysKept, Caches}
+use Rattle.set_core.proofs.Applies.{is_settled}
+use Rattle.set_core.proofs.Caching.{caches_all}
 use Rattle.set_core.proofs.Demands.{is_found, demand_does, on_err}
 use Rattle.set_core.proofs.calling.ask_call.Goals as goal
 
@@ -39,10 +46,20 @@ returns-clause-does c =
     (same128 c.booked-booked.result booked_fits ∙ c.booked-booked.ensures.value)
     c.call_on.result c.call_on.ensures.value c.call_on.ensures.after
 
+noted_asked : (made : ℕ) (due margin booked : ℤ) (a : CallAmount) → is_settled (noted made due margin booked a) ≡ false
+noted_asked made due margin booked (amount.Delivery cents) = refl
+noted_asked made due margin booked (amount.Return cents) = refl
+noted_asked made due margin booked (amount.Nothing excess) = refl
+
+caches_call : (old new : Live) (e : Event) (made : ℕ) (due margin booked : ℤ) (a : CallAmount) (result : Result Reply AllocError) → IfOk result (λ r. r ≡ noted made due margin booked a)
+    → traded new ≡ traded old → IsWorkedOut new → StaysKept old new → IfOk result (Caches old new e)
+caches_call old new e made due margin booked a (Err x) value same out stays = tt
+caches_call old new e made due margin booked a (Ok r) value same out stays = caches_all old new e r (ap is_settled value ∙ noted_asked made due margin booked a) same out stays
+
 pub returns-clause-caches : goal.returns-clause-caches
 returns-clause-caches c =
-    always c.call_on.result (Caches c.args.live.now c.ask_margin.new.live (event.AskCall c.args.moment))
-    (λ r. caches_all c.args.live.now c.ask_margin.new.live (event.AskCall c.args.moment) r c.in_ok-margin.ensures.all)
+    caches_call c.args.live.now c.ask_margin.new.live (event.AskCall c.args.moment) _ _ _ _ _ c.call_on.result c.call_on.ensures.value
+    c.in_ok-margin.ensures.trades c.in_ok-margin.ensures.all c.in_ok-margin.ensures.stays
 
 pub returns-clause-stays : goal.returns-clause-stays
-returns-clause-stays c = on_err c.call_on.result (stays_worked_out c.args.live.now c.ask_margin.new.live c.in_ok-margin.ensures.all)
+returns-clause-stays c = on_err c.call_on.result c.in_ok-margin.ensures.stays

@@ -1,12 +1,16 @@
-use Rattle.std.proofs.Common.{rules, ◌≡◌, sym, ap, ◌∙◌, subst, ◌+◌, ◌++◌, ◌∷◌, [], false}
+use Rattle.std.proofs.Common.{rules, ◌≡◌, refl, sym, ap, ◌∙◌, subst, ◌+◌, List, ◌++◌, ◌∷◌, [], false}
 use Rattle.held_cell.specs.Entries.{entry}
 use Rattle.set_core.specs.Kept.{IsKept}
-use Rattle.set_core.specs.Cached.{AreCached}
+use Rattle.simm_kinds.specs.declared.row.TradeRows.{TradeRows}
+use Rattle.simm_kinds.specs.Batch.{rows_of}
+use Rattle.bucket_cache.specs.Cached.{touches, is_cached}
+use Rattle.collateral_ledger.specs.Holdings.{Holdings}
+use Rattle.set_core.specs.Cached.{rows_moved_by, is_kept, AreCached}
 use Rattle.set_core.specs.Live.{traded}
 use Rattle.set_core.specs.Room.{is_full}
 use Rattle.set_core.specs.Set.{Set, IsAnswered}
 use Rattle.set_core.proofs.Applies.{Applied, applied, few_calls}
-use Rattle.set_core.proofs.Caching.{cached_next}
+use Rattle.set_core.proofs.Caching.{stays_same, cached_next, seen, keeps_more}
 use Rattle.set_core.proofs.set_state.SetState.apply.Goals as goal
 
 pub answer_twice-answers-requires : goal.answer_twice-answers-requires
@@ -31,16 +35,33 @@ invariant_of-self-2 c = (
       (cached_next c.self.inside.live c.answer_twice-answers.new.live c.args.caller c.self.inside.journal.items c.args.event c.in-Ok.reply c.self.invariant.0.book c.self.invariant.1 c.in-Ok.ensures.caches),
 )
 
-answered : (c : goal.After-push_reserved) (old : Set) → old ≡ record { params = c.self.inside.live.params; terms = c.self.inside.ledger.terms; journal = c.self.inside.journal.items } → IsAnswered old (record { params = c.answer_twice-answers.new.live.params; terms = c.answer_twice-answers.new.ledger.terms; journal = c.push_reserved.new.self.items }) c.args.caller c.args.event c.in-Ok.reply
-answered c old e =
-    subst (λ s. IsAnswered s (record { params = c.answer_twice-answers.new.live.params; terms = c.answer_twice-answers.new.ledger.terms; journal = c.push_reserved.new.self.items }) c.args.caller c.args.event c.in-Ok.reply) (sym e)
-    (record {
-      room = had_room c;
-      value = (it c).value;
-      after = ap (λ p. record { params = p; terms = c.answer_twice-answers.new.ledger.terms; journal = c.push_reserved.new.self.items }) (it c).params
-          ∙ ap (λ t. record { params = c.self.inside.live.params; terms = t; journal = c.push_reserved.new.self.items }) (it c).terms
-          ∙ ap (λ log. record { params = c.self.inside.live.params; terms = c.self.inside.ledger.terms; journal = log }) (pushed c);
-    })
+answered : (c : goal.After-push_reserved) → IsAnswered (seen c.self.inside.live c.self.inside.ledger.terms c.self.inside.journal.items) (seen c.answer_twice-answers.new.live c.answer_twice-answers.new.ledger.terms c.push_reserved.new.self.items) c.args.caller c.args.event c.in-Ok.reply
+answered c = record {
+  room = had_room c;
+  value = (it c).value;
+  after = λ i. record {
+    params = (it c).params i;
+    terms = (it c).terms i;
+    journal = pushed c i;
+    is_fresh = c.in-Ok.ensures.caches.fresh i;
+    kept = c.answer_twice-answers.new.live.kept.values;
+  };
+  cached = λ at measure.
+      c.in-Ok.ensures.caches.cached at measure
+      ∙ ap (λ (trades : List TradeRows). is_kept (is_cached c.self.inside.live.kept.values at measure) (touches at measure (rows_moved_by trades c.args.event)) (touches at measure (rows_of trades)) c.in-Ok.reply)
+      c.self.invariant.0.book;
+}
 
 pub returns-clause-answered : goal.returns-clause-answered
-returns-clause-answered c = answered c c.args.self.now (sym c.self.view_is)
+returns-clause-answered c =
+    subst (λ (s : Set). IsAnswered s (seen c.answer_twice-answers.new.live c.answer_twice-answers.new.ledger.terms c.push_reserved.new.self.items) c.args.caller c.args.event c.in-Ok.reply) c.self.view_is (answered c)
+
+pub returns-then-is_err-clause-unchanged : goal.returns-then-is_err-clause-unchanged
+returns-then-is_err-clause-unchanged c =
+    keeps_more c.args.self.now c.self.inside.live c.self.inside.live c.self.inside.ledger.terms c.self.inside.ledger.terms c.self.inside.journal.items c.reserve.new.self.items
+    c.self.view_is refl refl c.reserve.ensures.items (stays_same c.self.inside.live c.self.inside.live refl)
+
+pub returns-in_default-clause-unchanged : goal.returns-in_default-clause-unchanged
+returns-in_default-clause-unchanged c =
+    keeps_more c.args.self.now c.self.inside.live c.answer_twice-answers.new.live c.self.inside.ledger.terms c.answer_twice-answers.new.ledger.terms c.self.inside.journal.items c.reserve.new.self.items
+    c.self.view_is c.in_default.ensures.trades (ap (λ (held : Holdings). held.terms) c.in_default.ensures.collateral) c.reserve.ensures.items c.in_default.ensures.stays

@@ -32,3 +32,12 @@ invariant_of-result c = (
       (subst (λ (log : Log). IsKept (live_none c.args.params) (held_none c.args.terms) 0 log) (sym c.new-3.ensures.items) (kept_none c.args.params c.args.terms))),
   subst (λ (log : Log). AreCached c.in_ok-live.live log) (sym c.new-3.ensures.items) (cached_none c.in_ok-live.live c.in_ok-live.ensures.book c.in_ok-live.ensures.fresh),
 )
+
+pub returns : goal.returns
+returns c = λ i. record {
+  params = c.in_ok-live.ensures.params i;
+  terms = (c.new-2.ensures i).terms;
+  journal = c.new-3.ensures.items i;
+  is_fresh = c.in_ok-live.ensures.fresh i;
+  kept = c.in_ok-live.ensures.none i;
+}
