@@ -75,6 +75,13 @@ return_of e s x t s-is x-is refused called =
 
 -- ---- each answer is what it says
 
+-- what is returned is some
+some_returned : (e : ℤ) (t : Agreement) → IsRounding t.rounding → e <ℤ pos 0 → not (int_eq (multiple_down (neg_ℤ e) t.rounding) (pos 0)) ≡ true → pos 0 <ℤ multiple_down (neg_ℤ e) t.rounding
+some_returned e t unit below h = by (multiple_down (neg_ℤ e) t.rounding) (multiple_down-from_zero (neg_ℤ e) t.rounding unit.low (omega (arith, ints))) h
+  where
+    by : (x : ℤ) → pos 0 ≤ℤ x → not (int_eq x (pos 0)) ≡ true → pos 0 <ℤ x
+    by x from k = by_lt_z {P = pos 0 <ℤ x} (pos 0) x (λ more. more) (λ most. let none : x ≡ pos 0 = omega (arith, ints) in absurd (false≢true (sym (ap not ((signed_Decides x (pos 0)).1 none)) ∙ k)))
+
 no_delivery : (e : ℤ) (t : Agreement) → is_delivery e t ≡ false → pos 0 <ℤ e → e <ℤ t.mta_delivery
 no_delivery e t h above = by (int_le t.mta_delivery e) refl
   where
@@ -100,7 +107,8 @@ call_for_is e t unit = by (is_delivery e t) (is_return e t) refl refl
     by false true d-is r-is =
         let both = and_parts (int_lt e (pos 0) && int_le t.mta_return (neg_ℤ e)) (not (int_eq (multiple_down (neg_ℤ e) t.rounding) (pos 0))) r-is in
         let parts = and_parts (int_lt e (pos 0)) (int_le t.mta_return (neg_ℤ e)) both.0 in
-        record { below = lt_from e (pos 0) parts.0; minimum = le_from t.mta_return (neg_ℤ e) parts.1; rounded = multiple_down_is (neg_ℤ e) t.rounding unit.low }
+        let below = lt_from e (pos 0) parts.0 in
+        record { below = below; minimum = le_from t.mta_return (neg_ℤ e) parts.1; rounded = multiple_down_is (neg_ℤ e) t.rounding unit.low; some = some_returned e t unit below both.1 }
     by false false d-is r-is = record { whole = refl; no_delivery = no_delivery e t d-is; no_return = no_return e t unit r-is }
 
 -- ---- amounts
@@ -120,11 +128,8 @@ call_for_amount e most t unit room = by (is_delivery e t) (is_return e t) refl r
         let parts = and_parts (int_lt e (pos 0)) (int_le t.mta_return (neg_ℤ e)) both.0 in
         let below = lt_from e (pos 0) parts.0 in
         let rule = multiple_down_is (neg_ℤ e) t.rounding unit.low in
-        let from = multiple_down-from_zero (neg_ℤ e) t.rounding unit.low (omega (arith, ints)) in
-        record { low = some_cent (multiple_down (neg_ℤ e) t.rounding) from both.1; high = omega (arith, ints, rule.within) }
-      where
-        some_cent : (x : ℤ) → pos 0 ≤ℤ x → not (int_eq x (pos 0)) ≡ true → pos 1 ≤ℤ x
-        some_cent x from h = by_lt_z {P = pos 1 ≤ℤ x} (pos 0) x (λ more. omega (arith, ints)) (λ most. let none : x ≡ pos 0 = omega (arith, ints) in absurd (false≢true (sym (ap not ((signed_Decides x (pos 0)).1 none)) ∙ h)))
+        let some = some_returned e t unit below both.1 in
+        record { low = omega (arith, ints); high = omega (arith, ints, unit.high, rule.within) }
     by false false d-is r-is = tt
 
 -- ---- the same of an answer that equals the rule's

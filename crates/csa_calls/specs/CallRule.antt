@@ -67,6 +67,7 @@ pub record IsReturn (excess : ℤ) (terms : Agreement) (amount : ℤ) : Type 0 w
   pub below : excess <ℤ pos 0
   pub minimum : terms.mta_return ≤ℤ neg_ℤ excess
   pub rounded : IsGreatestMultiple (neg_ℤ excess) terms.rounding amount
+  pub some : pos 0 <ℤ amount
 
 -- no call: what is missing stays below the minimum of a delivery, what is too much below that of a return or below the unit
 pub record IsNoCall (excess : ℤ) (terms : Agreement) (shown : ℤ) : Type 0 where
