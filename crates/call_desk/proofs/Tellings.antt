@@ -1,5 +1,5 @@
 -- Notices told in a row.
-use Rattle.std.proofs.Common.{◌≡◌, ℕ, ◌+◌, ◌<◌, List, [], ◌∷◌, ◌++◌, Option, Some, None, length, take, get_or, option_map, Result, Ok, refl, sym, ap, subst, ◌∙◌, append_assoc, arith}
+use Rattle.std.proofs.Common.{◌≡◌, ℕ, ◌+◌, ◌<◌, List, [], ◌∷◌, ◌++◌, Option, Some, None, length, length-append, take, get_or, option_map, Result, Ok, refl, sym, ap, subst, ◌∙◌, append_assoc, arith}
 use Rattle.std.proofs.lemmas.List.{append-nil, take_more}
 use Rattle.call_desk.specs.declared.notice.Notice.{Notice}
 use Rattle.call_desk.specs.declared.fault.DeskFault.{DeskFault}
@@ -16,13 +16,14 @@ added_none (Some held) = ap (λ (zs : List Notice). Some zs) (sym (append-nil he
 
 -- before the first notice
 pub told_none : (seen : DeskSeen) → WasTold seen seen []
-told_none seen = record { faults = omega arith; wants = omega arith; list = added_none seen.told }
+told_none seen = record { faults = omega arith; wants = omega arith; tellings = omega arith; list = added_none seen.told }
 
 -- notices after notices
 told_then : (old mid new : DeskSeen) (xs ys : List Notice) → WasTold old mid xs → WasTold mid new ys → WasTold old new (xs ++ ys)
 told_then old mid new xs ys a b = record {
   faults = omega arith;
   wants = omega arith;
+  tellings = omega (arith, a.tellings, b.tellings, length-append xs ys);
   list = b.list ∙ (ap (λ (t : Option (List Notice)). option_map (λ held. held ++ ys) t) a.list ∙ added_twice old.told xs ys);
 }
 
@@ -36,4 +37,4 @@ told_more old mid new xs i notice inside is a b =
 pub told_one : (old new : DeskSeen) (notice : Notice) (result : Result (Unit {0}) DeskFault) (u : Unit {0}) → result ≡ Ok u → Tells old new notice result → WasTold old new (notice ∷ [])
 told_one old new notice result u is t =
     let done : Tells old new notice (Ok u) = subst (λ (r : Result (Unit {0}) DeskFault). Tells old new notice r) is t in
-    record { faults = done.faults; wants = done.wants; list = done.ok }
+    record { faults = done.faults; wants = done.wants; tellings = done.counted; list = done.ok }

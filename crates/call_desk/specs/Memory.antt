@@ -1,5 +1,5 @@
 -- What a desk over memory is, as contracts see it, and which of its calls fail.
-use Rattle.std.specs.Prelude.{ℕ, ◌==◌, Bool, true, false, List, [], ◌∷◌, ◌++◌, Some, Result, Ok, Err}
+use Rattle.std.specs.Prelude.{ℕ, ◌==◌, Bool, true, false, List, [], ◌∷◌, ◌++◌, Some, Result, Ok, Err, length}
 use Rattle.std.specs.List.{list_any}
 use Rattle.mh_io.specs.Faults.{added_faults}
 use Rattle.call_desk.specs.declared.notice.Notice.{Notice}
@@ -23,7 +23,7 @@ uncalled failing wanting = record { told = []; failing = failing; wanting = want
 
 -- it tells all that it was told
 abbrev pub memory_seen : MemoryDesk → DeskSeen
-memory_seen desk = record { faults = desk.faults; wants = desk.wants; told = Some desk.told }
+memory_seen desk = record { faults = desk.faults; wants = desk.wants; tellings = length desk.told; told = Some desk.told }
 
 -- the number of the next call; past its last value the number stands
 abbrev pub next_call : MemoryDesk → ℕ

@@ -6,18 +6,22 @@ use crate::notice::Notice;
 
 /// Where calls are told of.
 ///
-/// A desk counts its faults and its wants of memory, each at most to 2^64 - 1. A count never falls, and stays at that value
-/// once it is there. A desk may tell the notices that it was told.
+/// A desk counts its faults, its wants of memory and the notices that it was told, each at most to 2^64 - 1. A count never falls,
+/// and stays at that value once it is there. A desk may tell the notices that it was told.
 pub trait Desk: Drop {
     ghost seen: { Self → DeskSeen };
 
-    /// Tells the desk of a call. On a fault it was not told.
+    /// Tells the desk of a call, which it counts. On a fault it was not told.
     ///
     /// # Errors
     ///
     /// `Failed` only where the count of faults rose in this call, `Memory` only where the count of wants did.
     fn tell(&mut self, notice: &Notice) -> Result<(), DeskFault>
         ensures { Tells (seen self.old) (seen self.new) notice.now result };
+
+    /// How many notices the desk was told. It takes no memory.
+    fn tellings(&self) -> u64
+        ensures { result ≡ (seen self.now).tellings };
 
     /// Lends the notices that the desk was told, in order; None where it doesn't tell them. It takes no memory.
     fn told_list(&self) -> Option<&[Notice]>

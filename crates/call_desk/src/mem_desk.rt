@@ -1,4 +1,4 @@
-ghost use Rattle.std.specs.Prelude.{◌≡◌, [], ◌∷◌, ◌++◌, Some, false, option_map, OnOk, OnErr};
+ghost use Rattle.std.specs.Prelude.{◌≡◌, [], ◌∷◌, ◌++◌, Some, false, length, option_map, OnOk, OnErr};
 ghost use Rattle.call_desk.specs.Desk.{Tells};
 ghost use Rattle.call_desk.specs.Memory.{uncalled, memory_seen, is_failing, has_failed, is_wanting, after_tell};
 
@@ -85,6 +85,12 @@ impl Desk for MemDesk {
             return Err(DeskFault::Memory);
         }
         Ok(())
+    }
+
+    fn tellings(&self) -> u64
+        ensures { result ≡ length self.now.told }
+    {
+        self.told.len() as u64
     }
 
     fn told_list(&self) -> Option<&[Notice]>

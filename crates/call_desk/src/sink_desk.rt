@@ -19,6 +19,7 @@ pub struct SinkDesk<K> {
     sink: K,
     line: Text,
     wants: u64,
+    tellings: u64,
 }
 
 impl<K> SinkDesk<K> {
@@ -26,11 +27,13 @@ impl<K> SinkDesk<K> {
     pub fn new(alloc: Global, sink: K) -> SinkDesk<K>
         ensures sink { result.sink ≡ sink }
         ensures wants { result.wants ≡ 0 }
+        ensures tellings { result.tellings ≡ 0 }
     {
         SinkDesk {
             sink,
             line: Text::new(alloc),
             wants: 0,
+            tellings: 0,
         }
     }
 
@@ -45,10 +48,11 @@ impl<K> SinkDesk<K> {
 impl<K: Sink + Drop> Desk for SinkDesk<K> {
     ghost use Rattle.call_desk.specs.Desk.{counts_alone};
 
-    ghost seen = { λ d. counts_alone (K.seen d.sink).faults d.wants };
+    ghost seen = { λ d. counts_alone (K.seen d.sink).faults d.wants d.tellings };
 
     fn tell(&mut self, notice: &Notice) -> Result<(), DeskFault>
-        ensures tells { Tells (counts_alone (K.seen self.old.sink).faults self.old.wants) (counts_alone (K.seen self.new.sink).faults self.new.wants) notice.now result }
+        ensures tells { Tells (counts_alone (K.seen self.old.sink).faults self.old.wants self.old.tellings)
+            (counts_alone (K.seen self.new.sink).faults self.new.wants self.new.tellings) notice.now result }
         ensures holds { OnOk result (Appends (K.seen self.old.sink).holds (K.seen self.new.sink).holds (notice_text notice.now)) }
         ensures cut { result ≡ Err DeskFault.Failed → (put : ℕ) × BreaksOff (K.seen self.old.sink) (K.seen self.new.sink) (notice_text notice.now) put }
         ensures stands { result ≡ Err DeskFault.Memory → self.new.sink ≡ self.old.sink }
@@ -59,9 +63,18 @@ impl<K: Sink + Drop> Desk for SinkDesk<K> {
             return Err(DeskFault::Memory);
         }
         match put_all(&mut self.sink, self.line.as_slice()) {
-            Ok(()) => Ok(()),
+            Ok(()) => {
+                self.tellings = self.tellings.saturating_add(1);
+                Ok(())
+            }
             Err(_) => Err(DeskFault::Failed),
         }
+    }
+
+    fn tellings(&self) -> u64
+        ensures { result ≡ self.now.tellings }
+    {
+        self.tellings
     }
 
     fn told_list(&self) -> Option<&[Notice]>

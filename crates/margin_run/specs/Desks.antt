@@ -25,9 +25,10 @@ pub record AreUntold {B : Type 0} (d : Desks B) : Type 0 where
   pub desks : d.after ≡ d.before
   pub retired : d.retired ≡ d.retired_before
 
--- Each desk was told the notices in order, up to its first fault: those without a fault were told all and keep their
--- order; each of the others was told a shorter front, its count of faults or of wants rose, and they stand in order behind
--- the desks that were retired before (*Publishes*).
+-- Each desk was told the notices in order, up to its first fault, and its count of tellings rose by as many as it was told,
+-- whether or not it lends its list: those without a fault were told all and keep their order; each of the others was told
+-- a shorter front, its count of faults or of wants rose, and they stand in order behind the desks that were retired before
+-- (*Publishes*).
 pub record AreTold {B : Type 0} (notices : List Notice) (d : Desks B) : Type 0 where
   pub published : Published
   pub outcomes : List (Outcome B)
