@@ -53,6 +53,7 @@ fn a_desk_over_a_sink_writes_lines(rt: HostRuntime) -> Result<(), AllocError> {
         assert!(rt; told == answer, "{held}");
         assert!(rt; desk.sink().bytes() == held.as_bytes(), "{held}");
         assert!(rt; desk.told_list().is_none());
+        assert!(rt; desk.tellings() == u64::from(answer.is_ok()));
     }
     Ok(())
 }

@@ -10,6 +10,7 @@ use std::process::Abort;
 struct Outbox {
     messages: Vec<Text>,
     places: usize,
+    left: u64,
     faults: u64,
     wants: u64,
 }
@@ -37,7 +38,7 @@ fn leave(messages: &mut Vec<Text>, notice: &Notice) -> Result<(), AllocError> {
 impl Desk for Outbox {
     ghost use Rattle.call_desk.specs.Desk.{counts_alone};
 
-    ghost seen = { λ d. counts_alone d.faults d.wants };
+    ghost seen = { λ d. counts_alone d.faults d.wants d.left };
 
     fn tell(&mut self, notice: &Notice) -> Result<(), DeskFault> {
         if self.messages.len() >= self.places {
@@ -48,7 +49,12 @@ impl Desk for Outbox {
             self.wants = self.wants.saturating_add(1);
             return Err(DeskFault::Memory);
         }
+        self.left = self.left.saturating_add(1);
         Ok(())
+    }
+
+    fn tellings(&self) -> u64 {
+        self.left
     }
 
     fn told_list(&self) -> Option<&[Notice]> {
@@ -60,6 +66,7 @@ fn empty_outbox(alloc: Global) -> Outbox {
     Outbox {
         messages: Vec::new(alloc),
         places: 1,
+        left: 0,
         faults: 0,
         wants: 0,
     }
@@ -83,6 +90,7 @@ fn a_full_outbox_fails(rt: HostRuntime) {
     let again = outbox.tell(&notice(&rt, Flow::Delivery, 240_000, 19_786));
     assert!(rt; again == Err(DeskFault::Failed));
     assert!(rt; outbox.messages.len() == 1 && outbox.faults == 1 && outbox.wants == 0);
+    assert!(rt; outbox.tellings() == 1);
 }
 
 #[test]
@@ -107,5 +115,7 @@ fn a_full_outbox_is_retired(rt: HostRuntime) -> Result<(), AllocError> {
     };
     assert!(rt; published == wanted);
     assert!(rt; desks.len() == 1 && retired.len() == 2);
+    assert!(rt; desks.iter().all(|desk| desk.tellings() == 2));
+    assert!(rt; retired.iter().all(|desk| desk.tellings() == 1));
     Ok(())
 }
