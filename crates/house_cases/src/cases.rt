@@ -3,7 +3,7 @@ use anyhow::{Context, Result, bail};
 use std::alloc::Global;
 
 /// How a directive begins. Behind a colon stand numbers; for N its range, and for a file how often it has which others.
-const FORMS: [&str; 13] = [
+const FORMS: [&str; 14] = [
     "N: ",
     "any order",
     "bytes of a put: ",
@@ -16,6 +16,7 @@ const FORMS: [&str; 13] = [
     "no desk",
     "order: ",
     "puts that fail: ",
+    "quiet desk",
     "reads of ",
 ];
 

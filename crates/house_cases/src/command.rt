@@ -2,6 +2,7 @@ ghost use Rattle.std.specs.Prelude.{◌<◌, ◌^◌};
 ghost use Rattle.std.specs.Vec.{vec_len};
 
 use call_desk::{Desk, push_notice};
+use itoa::Buffer;
 use margin_top::{Gate, Status, margin_house};
 use mh_io::{Folder, MemSink};
 use mh_units::Text;
@@ -55,11 +56,18 @@ pub fn run_line<R: Threads + Wait + Sync, F: Folder, G: Gate>(
     Ok(run_words(rt, alloc, &words, folder, out, desks, retired, gate))
 }
 
-/// Adds the lines of the notices that a desk was told.
+/// Adds the lines of the notices that a desk was told; of one that doesn't lend them how many it was told.
 pub fn push_told(text: &mut Text, desk: &Box<dyn Desk>) -> Result<(), AllocError> {
-    if let Some(told) = desk.told_list() {
-        for notice in told {
-            push_notice(text, notice)?;
+    match desk.told_list() {
+        Some(told) => {
+            for notice in told {
+                push_notice(text, notice)?;
+            }
+        }
+        None => {
+            text.extend(b"TOLD\t")?;
+            text.extend(Buffer::new().format(desk.tellings()).as_bytes())?;
+            text.push(b'\n')?;
         }
     }
     Ok(())

@@ -72,6 +72,10 @@ fn run_told<R: Threads + Wait + Sync>(
     let command = case.command;
     let status = run_line(threads, alloc, command, folder, out, desks, retired, &gate)?;
     ensure!(!gate.was_in_vain(), "a call waits in vain");
+    ensure!(
+        gate.was_kept(),
+        "the calls answered are not those of the order"
+    );
     Ok(status)
 }
 

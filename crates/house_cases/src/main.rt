@@ -8,6 +8,7 @@ mod cases;
 mod command;
 mod directed;
 mod ordered;
+mod quiet_desk;
 mod setting;
 mod sweep;
 

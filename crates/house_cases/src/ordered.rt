@@ -37,6 +37,11 @@ impl InOrder {
     pub fn was_in_vain(&self) -> bool {
         self.in_vain.load(Ordering::SeqCst)
     }
+
+    /// Whether each call of the order was answered, and no other.
+    pub fn was_kept(&self) -> bool {
+        self.feeds.is_empty() || self.answered.load(Ordering::SeqCst) == self.feeds.len()
+    }
 }
 
 impl Gate for InOrder {
