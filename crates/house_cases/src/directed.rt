@@ -2,7 +2,8 @@
 use crate::cases::Case;
 use crate::command::{push_told, run_line};
 use crate::ordered::InOrder;
-use crate::setting::{desks, folder, sink};
+use crate::quiet_desk::QuietDesk;
+use crate::setting::{desk_of, folder, sink};
 use crate::sweep::{Group, Seen};
 use anyhow::{Context, Result, ensure};
 use call_desk::Desk;
@@ -79,8 +80,8 @@ fn run_told<R: Threads + Wait + Sync>(
     Ok(status)
 }
 
-/// Runs the command of a case over a folder and into a sink, with its calls in an order. No fault is handed out while
-/// desks are there, so that these are dropped in one place.
+/// Runs the command of a case over a folder and into a sink, with a desk for each directive of one, and its calls in an
+/// order.
 fn run_over<R: Threads + Wait + Sync>(
     threads: &R,
     alloc: Global,
@@ -89,7 +90,15 @@ fn run_over<R: Threads + Wait + Sync>(
     folder: &mut MemFolder,
     out: &mut MemSink,
 ) -> Result<(Status, Text)> {
-    let mut desks = desks(alloc, case)?;
+    let mut desks: Vec<Box<dyn Desk>> = Vec::new(alloc);
+    for directive in case.directives {
+        if directive.starts_with("desk") {
+            desks.push(Box::new(alloc, desk_of(alloc, case, directive)?)?)?;
+        } else if let Some(rest) = directive.strip_prefix("quiet ") {
+            let desk = QuietDesk::new(desk_of(alloc, case, rest)?);
+            desks.push(Box::new(alloc, desk)?)?;
+        }
+    }
     let mut retired = Vec::new(alloc);
     let status = run_told(
         threads,

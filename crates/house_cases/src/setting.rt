@@ -1,8 +1,7 @@
 //! What a command runs over and into, as its directives say.
 use crate::cases::Case;
-use crate::quiet_desk::QuietDesk;
 use anyhow::{Context, Result};
-use call_desk::{Desk, MemDesk};
+use call_desk::MemDesk;
 use mh_io::{MemFolder, MemSink};
 use mh_units::Bytes;
 use std::alloc::Global;
@@ -97,22 +96,8 @@ pub fn sink(alloc: Global, case: Case<'_>) -> Result<MemSink> {
 }
 
 /// The desk of a directive without the word `quiet`.
-fn desk_of(alloc: Global, case: Case<'_>, directive: &str) -> Result<MemDesk> {
+pub fn desk_of(alloc: Global, case: Case<'_>, directive: &str) -> Result<MemDesk> {
     let failing = case.numbers_of(alloc, directive, "desk, calls that fail: ")?;
     let wanting = case.numbers_of(alloc, directive, "desk, calls that find no memory: ")?;
     Ok(MemDesk::new(failing, wanting))
-}
-
-/// A desk for each directive of one.
-pub fn desks(alloc: Global, case: Case<'_>) -> Result<Vec<Box<dyn Desk>>> {
-    let mut desks: Vec<Box<dyn Desk>> = Vec::new(alloc);
-    for directive in case.directives {
-        if directive.starts_with("desk") {
-            desks.push(Box::new(alloc, desk_of(alloc, case, directive)?)?)?;
-        } else if let Some(rest) = directive.strip_prefix("quiet ") {
-            let desk = QuietDesk::new(desk_of(alloc, case, rest)?);
-            desks.push(Box::new(alloc, desk)?)?;
-        }
-    }
-    Ok(desks)
 }
