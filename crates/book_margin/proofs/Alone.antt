@@ -2,37 +2,37 @@
 use Rattle.std.proofs.Common.{◌≡◌, ◌^◌, ℕ, List, [], ◌∷◌, map, Bool, true, false, not, ◌&&◌, Option, None, refl, sym, ap, ◌∙◌, ℤ, pos, ◌+ℤ◌, ◌*ℤ◌}
 use Rattle.std.specs.List.{filter}
 use Rattle.std.proofs.lemmas.Bool.{false≢true}
-use Rattle.mh_units.specs.Rounding.{up}
-use Rattle.simm_kinds.specs.declared.kinds.ProductClass.{ProductClass}
-use Rattle.simm_kinds.specs.declared.kinds.RiskClass.{RiskClass}
-use Rattle.simm_kinds.specs.declared.kinds.RiskClass.TheVariants as class
-use Rattle.simm_kinds.specs.declared.kinds.BucketId.TheVariants as id
-use Rattle.simm_kinds.specs.declared.bucket.Bucket.{Bucket}
-use Rattle.simm_kinds.specs.declared.factor.Factor.{Factor}
-use Rattle.simm_kinds.specs.declared.factor.Factor.TheVariants as factor
-use Rattle.simm_kinds.specs.declared.key.FactorKey.{FactorKey}
-use Rattle.simm_kinds.specs.Factors.{class_of}
-use Rattle.simm_kinds.specs.Order.{same_product, same_class, name_cmp, same_name}
-use Rattle.simm_rules.specs.Params.{Params}
-use Rattle.simm_rules.specs.Lookups.{six}
-use Rattle.simm_rules.specs.Sums.{different}
-use Rattle.simm_rules.specs.Net.{Sensitivity}
-use Rattle.simm_rules.specs.Risks.{Risk, risk, CreditClass, Qualifying, Non_qualifying, PricedClass, Equities, Commodities, Amount, select}
-use Rattle.simm_rules.specs.Bucket.{combined}
-use Rattle.simm_rules.specs.Across.{Part, outer, margin_over}
-use Rattle.simm_rules.specs.Curvature.{curvature_part, curvature_over}
-use Rattle.simm_rules.specs.Rates.{RateIn, VolatilityIn, as_rate, as_rate_volatility, currency_value, currency_vega_value, currency_curvature_value, across_currencies, rate_margin}
-use Rattle.simm_rules.specs.Credit.{as_credit, as_credit_volatility, credit_params, listed_credit, credit_value, credit_vega_value, credit_curvature_value, credit_margin}
-use Rattle.simm_rules.specs.BaseCorrelation.{as_index, base_value, base_margin}
-use Rattle.simm_rules.specs.Priced.{as_price, as_price_volatility, priced_params, listed_priced, price_value, price_vega_value, price_curvature_value, price_margin}
-use Rattle.simm_rules.specs.ForeignExchange.{as_currency, as_pair_volatility, is_own_currency, fx_value, fx_vega_value, fx_curvature_value, fx_margin}
-use Rattle.simm_rules.specs.Simm.{class_margin_of}
-use Rattle.factor_book.specs.declared.at.ClassAt.{ClassAt}
-use Rattle.factor_book.specs.declared.holding.Holding.{Holding}
-use Rattle.name_delta.specs.Names.{priced_risk_class}
-use Rattle.name_delta.specs.Points.{credit_risk_class}
-use Rattle.name_delta.specs.Values.{nets_in}
-use Rattle.class_delta.proofs.Alone.{select_alone}
+use Rattle.kept_buckets.specs.MhUnits.Rounding.{up}
+use Rattle.kept_buckets.specs.SimmKinds.declared.kinds.ProductClass.{ProductClass}
+use Rattle.kept_buckets.specs.SimmKinds.declared.kinds.RiskClass.{RiskClass}
+use Rattle.kept_buckets.specs.SimmKinds.declared.kinds.RiskClass.TheVariants as class
+use Rattle.kept_buckets.specs.SimmKinds.declared.kinds.BucketId.TheVariants as id
+use Rattle.kept_buckets.specs.SimmKinds.declared.bucket.Bucket.{Bucket}
+use Rattle.kept_buckets.specs.SimmKinds.declared.factor.Factor.{Factor}
+use Rattle.kept_buckets.specs.SimmKinds.declared.factor.Factor.TheVariants as factor
+use Rattle.kept_buckets.specs.SimmKinds.declared.key.FactorKey.{FactorKey}
+use Rattle.kept_buckets.specs.SimmKinds.Factors.{class_of}
+use Rattle.kept_buckets.specs.SimmKinds.Order.{same_product, same_class, name_cmp, same_name}
+use Rattle.kept_buckets.specs.SimmRules.Params.{Params}
+use Rattle.kept_buckets.specs.SimmRules.Lookups.{six}
+use Rattle.kept_buckets.specs.SimmRules.Sums.{different}
+use Rattle.kept_buckets.specs.SimmRules.Net.{Sensitivity}
+use Rattle.kept_buckets.specs.SimmRules.Risks.{Risk, risk, CreditClass, Qualifying, Non_qualifying, PricedClass, Equities, Commodities, Amount, select}
+use Rattle.kept_buckets.specs.SimmRules.Bucket.{combined}
+use Rattle.kept_buckets.specs.SimmRules.Across.{Part, outer, margin_over}
+use Rattle.kept_buckets.specs.SimmRules.Curvature.{curvature_part, curvature_over}
+use Rattle.kept_buckets.specs.SimmRules.Rates.{RateIn, VolatilityIn, as_rate, as_rate_volatility, currency_value, currency_vega_value, currency_curvature_value, across_currencies, rate_margin}
+use Rattle.kept_buckets.specs.SimmRules.Credit.{as_credit, as_credit_volatility, credit_params, listed_credit, credit_value, credit_vega_value, credit_curvature_value, credit_margin}
+use Rattle.kept_buckets.specs.SimmRules.BaseCorrelation.{as_index, base_value, base_margin}
+use Rattle.kept_buckets.specs.SimmRules.Priced.{as_price, as_price_volatility, priced_params, listed_priced, price_value, price_vega_value, price_curvature_value, price_margin}
+use Rattle.kept_buckets.specs.SimmRules.ForeignExchange.{as_currency, as_pair_volatility, is_own_currency, fx_value, fx_vega_value, fx_curvature_value, fx_margin}
+use Rattle.kept_buckets.specs.SimmRules.Simm.{class_margin_of}
+use Rattle.kept_buckets.specs.FactorBook.declared.at.ClassAt.{ClassAt}
+use Rattle.kept_buckets.specs.FactorBook.declared.holding.Holding.{Holding}
+use Rattle.class_volatility.specs.NameDelta.Names.{priced_risk_class}
+use Rattle.class_volatility.specs.NameDelta.Points.{credit_risk_class}
+use Rattle.class_volatility.specs.NameDelta.Values.{nets_in}
+use Rattle.class_volatility.proofs.ClassDelta.Alone.{select_alone}
 use Rattle.kept_buckets.specs.Touched.{is_of_class}
 use Rattle.book_margin.specs.Classes.{class_factors}
 

@@ -2,20 +2,20 @@
 use Rattle.std.proofs.Common.{◌≡◌, List, Option, Some, refl, sym, ◌∙◌, subst, Result, Ok, Err}
 use Rattle.std.specs.Prelude.{IsSome, IfSome, IfOk, OnOk}
 use Rattle.std.specs.List.{AllByRecursion}
-use Rattle.mh_units.specs.declared.quantities.Cents.{Cents}
-use Rattle.simm_kinds.specs.declared.kinds.ProductClass.{ProductClass}
-use Rattle.simm_kinds.specs.declared.kinds.ProductClass.TheVariants as product
-use Rattle.simm_kinds.specs.declared.kinds.RiskClass.{RiskClass}
-use Rattle.simm_kinds.specs.declared.kinds.RiskClass.TheVariants as class
-use Rattle.simm_kinds.specs.declared.key.FactorKey.{FactorKey}
-use Rattle.simm_rules.specs.declared.values.ClassMargins.{ClassMargins}
-use Rattle.simm_rules.specs.Params.{Params}
-use Rattle.simm_rules.specs.Parts.{cents}
-use Rattle.simm_rules.specs.Net.{Sensitivity}
-use Rattle.simm_rules.specs.Simm.{products, classes, class_margin_of}
-use Rattle.factor_book.specs.declared.at.ClassAt.{ClassAt}
-use Rattle.factor_book.specs.declared.holding.Holding.{Holding}
-use Rattle.name_delta.specs.Values.{nets_in}
+use Rattle.kept_buckets.specs.MhUnits.declared.quantities.Cents.{Cents}
+use Rattle.kept_buckets.specs.SimmKinds.declared.kinds.ProductClass.{ProductClass}
+use Rattle.kept_buckets.specs.SimmKinds.declared.kinds.ProductClass.TheVariants as product
+use Rattle.kept_buckets.specs.SimmKinds.declared.kinds.RiskClass.{RiskClass}
+use Rattle.kept_buckets.specs.SimmKinds.declared.kinds.RiskClass.TheVariants as class
+use Rattle.kept_buckets.specs.SimmKinds.declared.key.FactorKey.{FactorKey}
+use Rattle.kept_buckets.specs.SimmRules.declared.values.ClassMargins.{ClassMargins}
+use Rattle.kept_buckets.specs.SimmRules.Params.{Params}
+use Rattle.kept_buckets.specs.SimmRules.Parts.{cents}
+use Rattle.kept_buckets.specs.SimmRules.Net.{Sensitivity}
+use Rattle.kept_buckets.specs.SimmRules.Simm.{products, classes, class_margin_of}
+use Rattle.kept_buckets.specs.FactorBook.declared.at.ClassAt.{ClassAt}
+use Rattle.kept_buckets.specs.FactorBook.declared.holding.Holding.{Holding}
+use Rattle.class_volatility.specs.NameDelta.Values.{nets_in}
 use Rattle.class_combine.specs.declared.whole.ProductClasses.{ProductClasses}
 use Rattle.class_combine.specs.Classes.{class_in, IsClassMargin}
 use Rattle.class_combine.specs.Whole.{classes_in, AreProductClasses}

@@ -1,11 +1,11 @@
 -- The buckets of a class with their values, as they are lent.
 use Rattle.std.proofs.Common.{◌≡◌, List, sym, subst}
-use Rattle.simm_kinds.specs.declared.key.FactorKey.{FactorKey}
-use Rattle.simm_rules.specs.Params.{Params}
-use Rattle.factor_book.specs.declared.at.ClassAt.{ClassAt}
-use Rattle.factor_book.specs.declared.holding.Holding.{Holding}
-use Rattle.class_delta.specs.Delta.{AreDeltaParts}
-use Rattle.class_delta.proofs.Valued.{Whole}
+use Rattle.kept_buckets.specs.SimmKinds.declared.key.FactorKey.{FactorKey}
+use Rattle.kept_buckets.specs.SimmRules.Params.{Params}
+use Rattle.kept_buckets.specs.FactorBook.declared.at.ClassAt.{ClassAt}
+use Rattle.kept_buckets.specs.FactorBook.declared.holding.Holding.{Holding}
+use Rattle.class_volatility.specs.ClassDelta.Delta.{AreDeltaParts}
+use Rattle.class_volatility.proofs.ClassDelta.Valued.{Whole}
 use Rattle.class_volatility.specs.Vega.{AreVegaParts}
 use Rattle.class_volatility.specs.Curvature.{AreCurvatureParts}
 use Rattle.book_margin.specs.Classes.{AreClassParts}

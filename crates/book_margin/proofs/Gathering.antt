@@ -4,24 +4,24 @@ use Rattle.std.specs.Prelude.{is_some, IsSome}
 use Rattle.std.specs.List.{AllByRecursion}
 use Rattle.std.proofs.SliceLists.{all_by_recursion_push}
 use Rattle.std.proofs.lemmas.List.{take_more, take_all}
-use Rattle.simm_kinds.specs.declared.kinds.BucketId.{BucketId}
-use Rattle.simm_kinds.specs.declared.key.FactorKey.{FactorKey}
-use Rattle.simm_rules.specs.declared.values.BucketMargin.{BucketMargin}
-use Rattle.simm_rules.specs.Params.{Params}
-use Rattle.factor_book.specs.declared.at.BucketAt.{BucketAt}
-use Rattle.factor_book.specs.declared.at.ClassAt.{ClassAt}
-use Rattle.factor_book.specs.declared.at.SideAt.{SideAt}
-use Rattle.factor_book.specs.declared.holding.Holding.{Holding}
-use Rattle.factor_book.specs.declared.place.Place.{Place}
-use Rattle.factor_book.specs.Places.{factors_at, place_in, buckets_on}
-use Rattle.factor_book.proofs.Sorting.{each_weaker}
+use Rattle.kept_buckets.specs.SimmKinds.declared.kinds.BucketId.{BucketId}
+use Rattle.kept_buckets.specs.SimmKinds.declared.key.FactorKey.{FactorKey}
+use Rattle.kept_buckets.specs.SimmRules.declared.values.BucketMargin.{BucketMargin}
+use Rattle.kept_buckets.specs.SimmRules.Params.{Params}
+use Rattle.kept_buckets.specs.FactorBook.declared.at.BucketAt.{BucketAt}
+use Rattle.kept_buckets.specs.FactorBook.declared.at.ClassAt.{ClassAt}
+use Rattle.kept_buckets.specs.FactorBook.declared.at.SideAt.{SideAt}
+use Rattle.kept_buckets.specs.FactorBook.declared.holding.Holding.{Holding}
+use Rattle.kept_buckets.specs.FactorBook.declared.place.Place.{Place}
+use Rattle.kept_buckets.specs.FactorBook.Places.{factors_at, place_in, buckets_on}
+use Rattle.kept_buckets.proofs.FactorBook.Sorting.{each_weaker}
 use Rattle.class_volatility.specs.Vega.{volatility_buckets, vega_value, IsVegaSized, volatility_side, volatility_place}
 use Rattle.class_volatility.specs.Curvature.{curvature_value, IsCurvatureSized}
-use Rattle.class_delta.specs.Buckets.{delta_side, delta_place, delta_buckets, bucket_at}
-use Rattle.class_delta.specs.Delta.{delta_at, IsSizedAt}
-use Rattle.class_delta.specs.Values.{AreValuedBy}
-use Rattle.class_delta.proofs.OnSide.{each_on}
-use Rattle.class_delta.proofs.Valued.{Whole, value_next}
+use Rattle.class_volatility.specs.ClassDelta.Buckets.{delta_side, delta_place, delta_buckets, bucket_at}
+use Rattle.class_volatility.specs.ClassDelta.Delta.{delta_at, IsSizedAt}
+use Rattle.class_volatility.specs.ClassDelta.Values.{AreValuedBy}
+use Rattle.class_volatility.proofs.ClassDelta.OnSide.{each_on}
+use Rattle.class_volatility.proofs.ClassDelta.Valued.{Whole, value_next}
 use Rattle.kept_buckets.specs.declared.value.VolatilityMargins.{VolatilityMargins}
 use Rattle.kept_buckets.specs.Dirty.{steps_left}
 use Rattle.kept_buckets.specs.Kept.{Kept, value_at}

@@ -6,3 +6,5 @@ pub mod Renewed
 pub mod Gathering
 pub mod Untouched
 pub mod Classes
+pub use Rattle.kept_buckets.proofs.SimmKinds as SimmKinds
+pub use Rattle.kept_buckets.proofs.FactorBook as FactorBook

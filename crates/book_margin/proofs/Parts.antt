@@ -2,15 +2,15 @@
 use Rattle.std.proofs.Common.{◌≡◌, ◌*◌, ◌^◌, ◌≤◌, ℕ, List, ℤ, pos, ◌+ℤ◌, ◌≤ℤ◌, unsigned_abs, FitsSigned, refl, sym, ◌∙◌, subst, arith, lit≤}
 use Rattle.std.specs.Int.{w128}
 use Rattle.std.proofs.lemmas.Int.{ints}
-use Rattle.simm_kinds.specs.declared.kinds.RiskClass.{RiskClass}
-use Rattle.simm_kinds.specs.declared.kinds.RiskClass.TheVariants as class
-use Rattle.simm_rules.specs.Params.{Params}
-use Rattle.simm_rules.specs.Net.{Sensitivity}
-use Rattle.simm_rules.specs.Simm.{class_margin_of}
+use Rattle.kept_buckets.specs.SimmKinds.declared.kinds.RiskClass.{RiskClass}
+use Rattle.kept_buckets.specs.SimmKinds.declared.kinds.RiskClass.TheVariants as class
+use Rattle.kept_buckets.specs.SimmRules.Params.{Params}
+use Rattle.kept_buckets.specs.SimmRules.Net.{Sensitivity}
+use Rattle.kept_buckets.specs.SimmRules.Simm.{class_margin_of}
 use Rattle.class_combine.specs.Classes.{IsClassMargin}
 use Rattle.class_combine.proofs.Products.{passed, plus, added}
 use Rattle.class_volatility.specs.Curvature.{class_curvature_of}
-use Rattle.class_delta.specs.Class.{class_delta_of}
+use Rattle.class_volatility.specs.ClassDelta.Class.{class_delta_of}
 use Rattle.class_volatility.specs.Vega.{class_vega_of}
 use Rattle.book_margin.specs.Classes.{base_of}
 

@@ -3,26 +3,26 @@ use Rattle.std.proofs.Common.{◌≡◌, ◌≢◌, ℕ, ◌+◌, ◌*◌, ◌�
 use Rattle.std.specs.Prelude.{is_some, IsSome, IfSome, sum_by, option_map}
 use Rattle.std.specs.BTreeMap.{is_at}
 use Rattle.std.proofs.lemmas.Bool.{and_parts, and_from, eqb-true, eq-eqb}
-use Rattle.mh_units.specs.declared.quantities.Cents.{Cents}
-use Rattle.simm_kinds.specs.declared.kinds.Measure.{Measure}
-use Rattle.simm_kinds.specs.declared.kinds.Measure.TheVariants as measure
-use Rattle.simm_kinds.specs.declared.key.FactorKey.{FactorKey}
-use Rattle.simm_kinds.specs.Order.{same_product, same_class, product_place, class_place}
-use Rattle.simm_kinds.proofs.Orders.{one_product, one_class}
-use Rattle.simm_rules.specs.declared.values.BucketMargin.{BucketMargin}
-use Rattle.simm_rules.specs.Params.{Params}
-use Rattle.factor_book.specs.declared.at.BucketAt.{BucketAt}
-use Rattle.factor_book.specs.declared.at.ClassAt.{ClassAt}
-use Rattle.factor_book.specs.declared.holding.Holding.{Holding}
-use Rattle.factor_book.specs.declared.place.BookSide.TheVariants as side
-use Rattle.factor_book.specs.declared.place.Place.{Place}
-use Rattle.factor_book.specs.Place.{place_cmp}
-use Rattle.factor_book.specs.Places.{factors_at, by_place}
-use Rattle.factor_book.proofs.Standing.{one_place, own_place}
+use Rattle.kept_buckets.specs.MhUnits.declared.quantities.Cents.{Cents}
+use Rattle.kept_buckets.specs.SimmKinds.declared.kinds.Measure.{Measure}
+use Rattle.kept_buckets.specs.SimmKinds.declared.kinds.Measure.TheVariants as measure
+use Rattle.kept_buckets.specs.SimmKinds.declared.key.FactorKey.{FactorKey}
+use Rattle.kept_buckets.specs.SimmKinds.Order.{same_product, same_class, product_place, class_place}
+use Rattle.kept_buckets.proofs.SimmKinds.Orders.{one_product, one_class}
+use Rattle.kept_buckets.specs.SimmRules.declared.values.BucketMargin.{BucketMargin}
+use Rattle.kept_buckets.specs.SimmRules.Params.{Params}
+use Rattle.kept_buckets.specs.FactorBook.declared.at.BucketAt.{BucketAt}
+use Rattle.kept_buckets.specs.FactorBook.declared.at.ClassAt.{ClassAt}
+use Rattle.kept_buckets.specs.FactorBook.declared.holding.Holding.{Holding}
+use Rattle.kept_buckets.specs.FactorBook.declared.place.BookSide.TheVariants as side
+use Rattle.kept_buckets.specs.FactorBook.declared.place.Place.{Place}
+use Rattle.kept_buckets.specs.FactorBook.Place.{place_cmp}
+use Rattle.kept_buckets.specs.FactorBook.Places.{factors_at, by_place}
+use Rattle.kept_buckets.proofs.FactorBook.Standing.{one_place, own_place}
 use Rattle.class_volatility.specs.Vega.{vega_value, IsVegaSized, volatility_place}
 use Rattle.class_volatility.specs.Curvature.{curvature_value, IsCurvatureSized}
-use Rattle.class_delta.specs.Buckets.{delta_place, bucket_at}
-use Rattle.class_delta.specs.Delta.{delta_at, IsSizedAt}
+use Rattle.class_volatility.specs.ClassDelta.Buckets.{delta_place, bucket_at}
+use Rattle.class_volatility.specs.ClassDelta.Delta.{delta_at, IsSizedAt}
 use Rattle.kept_buckets.specs.declared.value.KeptValue.{KeptValue}
 use Rattle.kept_buckets.specs.declared.value.KeptValue.TheVariants as value
 use Rattle.kept_buckets.specs.declared.value.VolatilityMargins.{VolatilityMargins}

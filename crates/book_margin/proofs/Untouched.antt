@@ -3,26 +3,26 @@ use Rattle.std.proofs.Common.{◌≡◌, ◌≢◌, List, [], ◌∷◌, Bool, t
 use Rattle.std.specs.Prelude.{is_some, IsSome, IfSome}
 use Rattle.std.specs.List.{list_any}
 use Rattle.std.proofs.lemmas.Bool.{and_parts}
-use Rattle.mh_units.specs.declared.quantities.Cents.{Cents}
-use Rattle.simm_kinds.specs.declared.key.FactorKey.{FactorKey}
-use Rattle.simm_kinds.specs.declared.row.CrifRow.{CrifRow}
-use Rattle.simm_kinds.specs.Factors.{class_of, side_of, bucket_of}
-use Rattle.simm_kinds.specs.Order.{same_product, same_class, same_bucket_id}
-use Rattle.simm_rules.specs.declared.values.BucketMargin.{BucketMargin}
-use Rattle.simm_rules.specs.Params.{Params}
-use Rattle.simm_rules.specs.Net.{Sensitivity, sensitivities}
-use Rattle.simm_rules.specs.Simm.{class_margin_of}
-use Rattle.factor_book.specs.declared.at.BucketAt.{BucketAt}
-use Rattle.factor_book.specs.declared.at.ClassAt.{ClassAt}
-use Rattle.factor_book.specs.declared.holding.Holding.{Holding}
-use Rattle.factor_book.specs.declared.place.Place.{Place}
-use Rattle.factor_book.specs.Place.{book_side}
-use Rattle.factor_book.specs.Places.{same_side, stands_at, factors_at}
-use Rattle.name_delta.specs.Values.{nets_in}
+use Rattle.kept_buckets.specs.MhUnits.declared.quantities.Cents.{Cents}
+use Rattle.kept_buckets.specs.SimmKinds.declared.key.FactorKey.{FactorKey}
+use Rattle.kept_buckets.specs.SimmKinds.declared.row.CrifRow.{CrifRow}
+use Rattle.kept_buckets.specs.SimmKinds.Factors.{class_of, side_of, bucket_of}
+use Rattle.kept_buckets.specs.SimmKinds.Order.{same_product, same_class, same_bucket_id}
+use Rattle.kept_buckets.specs.SimmRules.declared.values.BucketMargin.{BucketMargin}
+use Rattle.kept_buckets.specs.SimmRules.Params.{Params}
+use Rattle.kept_buckets.specs.SimmRules.Net.{Sensitivity, sensitivities}
+use Rattle.kept_buckets.specs.SimmRules.Simm.{class_margin_of}
+use Rattle.kept_buckets.specs.FactorBook.declared.at.BucketAt.{BucketAt}
+use Rattle.kept_buckets.specs.FactorBook.declared.at.ClassAt.{ClassAt}
+use Rattle.kept_buckets.specs.FactorBook.declared.holding.Holding.{Holding}
+use Rattle.kept_buckets.specs.FactorBook.declared.place.Place.{Place}
+use Rattle.kept_buckets.specs.FactorBook.Place.{book_side}
+use Rattle.kept_buckets.specs.FactorBook.Places.{same_side, stands_at, factors_at}
+use Rattle.class_volatility.specs.NameDelta.Values.{nets_in}
 use Rattle.class_volatility.specs.Vega.{vega_value, IsVegaSized, volatility_place}
 use Rattle.class_volatility.specs.Curvature.{curvature_value, IsCurvatureSized}
-use Rattle.class_delta.specs.Buckets.{delta_place, bucket_at}
-use Rattle.class_delta.specs.Delta.{delta_at, IsSizedAt}
+use Rattle.class_volatility.specs.ClassDelta.Buckets.{delta_place, bucket_at}
+use Rattle.class_volatility.specs.ClassDelta.Delta.{delta_at, IsSizedAt}
 use Rattle.kept_buckets.specs.declared.value.KeptValue.{KeptValue}
 use Rattle.kept_buckets.specs.declared.value.KeptValue.TheVariants as value
 use Rattle.kept_buckets.specs.Kept.{Kept, value_at, margin_at}

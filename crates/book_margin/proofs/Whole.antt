@@ -1,18 +1,18 @@
 -- The margin of the rows of a book is that of the factors that they net to, with their add-ons.
 use Rattle.std.proofs.Common.{◌≡◌, List, refl, ap, ◌∙◌, ℤ}
-use Rattle.simm_kinds.specs.declared.kinds.ProductClass.{ProductClass}
-use Rattle.simm_kinds.specs.declared.kinds.ProductClass.TheVariants as product
-use Rattle.simm_kinds.specs.declared.key.FactorKey.{FactorKey}
-use Rattle.simm_kinds.specs.declared.row.CrifRow.{CrifRow}
-use Rattle.simm_rules.specs.declared.values.ClassMargins.{ClassMargins}
-use Rattle.simm_rules.specs.declared.values.Breakdown.{Breakdown}
-use Rattle.simm_rules.specs.Parts.{cents}
-use Rattle.simm_rules.specs.Params.{Params}
-use Rattle.simm_rules.specs.Net.{sensitivities, in_product, netted}
-use Rattle.simm_rules.specs.AddOns.{fixed_amounts, notional_add_on}
-use Rattle.simm_rules.specs.Simm.{simm}
-use Rattle.factor_book.specs.declared.holding.Holding.{Holding}
-use Rattle.name_delta.specs.Values.{nets_in}
+use Rattle.kept_buckets.specs.SimmKinds.declared.kinds.ProductClass.{ProductClass}
+use Rattle.kept_buckets.specs.SimmKinds.declared.kinds.ProductClass.TheVariants as product
+use Rattle.kept_buckets.specs.SimmKinds.declared.key.FactorKey.{FactorKey}
+use Rattle.kept_buckets.specs.SimmKinds.declared.row.CrifRow.{CrifRow}
+use Rattle.kept_buckets.specs.SimmRules.declared.values.ClassMargins.{ClassMargins}
+use Rattle.kept_buckets.specs.SimmRules.declared.values.Breakdown.{Breakdown}
+use Rattle.kept_buckets.specs.SimmRules.Parts.{cents}
+use Rattle.kept_buckets.specs.SimmRules.Params.{Params}
+use Rattle.kept_buckets.specs.SimmRules.Net.{sensitivities, in_product, netted}
+use Rattle.kept_buckets.specs.SimmRules.AddOns.{fixed_amounts, notional_add_on}
+use Rattle.kept_buckets.specs.SimmRules.Simm.{simm}
+use Rattle.kept_buckets.specs.FactorBook.declared.holding.Holding.{Holding}
+use Rattle.class_volatility.specs.NameDelta.Values.{nets_in}
 use Rattle.class_combine.specs.declared.additional.AddOns.{AddOns}
 use Rattle.class_combine.specs.declared.whole.ProductClasses.{ProductClasses}
 use Rattle.class_combine.specs.Multipliers.{multiplied_in}

@@ -2,24 +2,24 @@
 -- (ISDA SIMM methodology, structure: margins are per product class and risk class.)
 use Rattle.std.specs.Prelude.{List, ℤ, pos}
 use Rattle.std.specs.List.{filter}
-use Rattle.simm_kinds.specs.declared.kinds.ProductClass.{ProductClass}
-use Rattle.simm_kinds.specs.declared.kinds.ProductClass.TheVariants as product
-use Rattle.simm_kinds.specs.declared.kinds.RiskClass.{RiskClass}
-use Rattle.simm_kinds.specs.declared.kinds.RiskClass.TheVariants as class
-use Rattle.simm_kinds.specs.declared.kinds.BucketId.{BucketId}
-use Rattle.simm_kinds.specs.declared.key.FactorKey.{FactorKey}
-use Rattle.simm_rules.specs.declared.values.BucketMargin.{BucketMargin}
-use Rattle.simm_rules.specs.declared.values.ClassMargins.{ClassMargins}
-use Rattle.simm_rules.specs.Params.{Params}
-use Rattle.simm_rules.specs.Parts.{cents}
-use Rattle.simm_rules.specs.Net.{Sensitivity}
-use Rattle.simm_rules.specs.BaseCorrelation.{base_margin}
-use Rattle.simm_rules.specs.Simm.{class_margin_of}
-use Rattle.factor_book.specs.declared.at.ClassAt.{ClassAt}
-use Rattle.factor_book.specs.declared.holding.Holding.{Holding}
-use Rattle.book_range.specs.Bounded.{IsMarginable}
-use Rattle.name_delta.specs.Values.{nets_in}
-use Rattle.class_delta.specs.Delta.{AreDeltaParts}
+use Rattle.kept_buckets.specs.SimmKinds.declared.kinds.ProductClass.{ProductClass}
+use Rattle.kept_buckets.specs.SimmKinds.declared.kinds.ProductClass.TheVariants as product
+use Rattle.kept_buckets.specs.SimmKinds.declared.kinds.RiskClass.{RiskClass}
+use Rattle.kept_buckets.specs.SimmKinds.declared.kinds.RiskClass.TheVariants as class
+use Rattle.kept_buckets.specs.SimmKinds.declared.kinds.BucketId.{BucketId}
+use Rattle.kept_buckets.specs.SimmKinds.declared.key.FactorKey.{FactorKey}
+use Rattle.kept_buckets.specs.SimmRules.declared.values.BucketMargin.{BucketMargin}
+use Rattle.kept_buckets.specs.SimmRules.declared.values.ClassMargins.{ClassMargins}
+use Rattle.kept_buckets.specs.SimmRules.Params.{Params}
+use Rattle.kept_buckets.specs.SimmRules.Parts.{cents}
+use Rattle.kept_buckets.specs.SimmRules.Net.{Sensitivity}
+use Rattle.kept_buckets.specs.SimmRules.BaseCorrelation.{base_margin}
+use Rattle.kept_buckets.specs.SimmRules.Simm.{class_margin_of}
+use Rattle.kept_buckets.specs.FactorBook.declared.at.ClassAt.{ClassAt}
+use Rattle.kept_buckets.specs.FactorBook.declared.holding.Holding.{Holding}
+use Rattle.class_volatility.specs.BookRange.Bounded.{IsMarginable}
+use Rattle.class_volatility.specs.NameDelta.Values.{nets_in}
+use Rattle.class_volatility.specs.ClassDelta.Delta.{AreDeltaParts}
 use Rattle.class_volatility.specs.Vega.{AreVegaParts}
 use Rattle.class_volatility.specs.Curvature.{AreCurvatureParts}
 use Rattle.class_combine.specs.declared.whole.ProductClasses.{ProductClasses}

@@ -1,23 +1,23 @@
 -- What is kept of a book rightly: each value is that of its bucket, each margin that of its class.
 use Rattle.std.specs.Prelude.{◌≡◌, ◌≢◌, List, [], Option, Some, None, IsSome, IfSome, if◌then◌else◌, ℤ}
-use Rattle.mh_units.specs.declared.quantities.Cents.{Cents}
-use Rattle.simm_kinds.specs.declared.kinds.BucketId.{BucketId}
-use Rattle.simm_kinds.specs.declared.kinds.Measure.{Measure}
-use Rattle.simm_kinds.specs.declared.kinds.Measure.TheVariants as measure
-use Rattle.simm_kinds.specs.declared.key.FactorKey.{FactorKey}
-use Rattle.simm_rules.specs.declared.values.BucketMargin.{BucketMargin}
-use Rattle.simm_rules.specs.Params.{Params}
-use Rattle.simm_rules.specs.Simm.{class_margin_of}
-use Rattle.factor_book.specs.declared.at.BucketAt.{BucketAt}
-use Rattle.factor_book.specs.declared.at.ClassAt.{ClassAt}
-use Rattle.factor_book.specs.declared.holding.Holding.{Holding}
-use Rattle.factor_book.specs.declared.place.Place.{Place}
-use Rattle.factor_book.specs.Places.{factors_at}
-use Rattle.name_delta.specs.Values.{nets_in}
+use Rattle.kept_buckets.specs.MhUnits.declared.quantities.Cents.{Cents}
+use Rattle.kept_buckets.specs.SimmKinds.declared.kinds.BucketId.{BucketId}
+use Rattle.kept_buckets.specs.SimmKinds.declared.kinds.Measure.{Measure}
+use Rattle.kept_buckets.specs.SimmKinds.declared.kinds.Measure.TheVariants as measure
+use Rattle.kept_buckets.specs.SimmKinds.declared.key.FactorKey.{FactorKey}
+use Rattle.kept_buckets.specs.SimmRules.declared.values.BucketMargin.{BucketMargin}
+use Rattle.kept_buckets.specs.SimmRules.Params.{Params}
+use Rattle.kept_buckets.specs.SimmRules.Simm.{class_margin_of}
+use Rattle.kept_buckets.specs.FactorBook.declared.at.BucketAt.{BucketAt}
+use Rattle.kept_buckets.specs.FactorBook.declared.at.ClassAt.{ClassAt}
+use Rattle.kept_buckets.specs.FactorBook.declared.holding.Holding.{Holding}
+use Rattle.kept_buckets.specs.FactorBook.declared.place.Place.{Place}
+use Rattle.kept_buckets.specs.FactorBook.Places.{factors_at}
+use Rattle.class_volatility.specs.NameDelta.Values.{nets_in}
 use Rattle.class_volatility.specs.Vega.{vega_value, IsVegaSized, volatility_place}
 use Rattle.class_volatility.specs.Curvature.{curvature_value, IsCurvatureSized}
-use Rattle.class_delta.specs.Buckets.{delta_place, bucket_at}
-use Rattle.class_delta.specs.Delta.{delta_at, IsSizedAt}
+use Rattle.class_volatility.specs.ClassDelta.Buckets.{delta_place, bucket_at}
+use Rattle.class_volatility.specs.ClassDelta.Delta.{delta_at, IsSizedAt}
 use Rattle.class_combine.specs.Classes.{IsClassMargin}
 use Rattle.kept_buckets.specs.declared.value.KeptValue.{KeptValue}
 use Rattle.kept_buckets.specs.declared.value.KeptValue.TheVariants as value

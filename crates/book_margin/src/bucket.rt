@@ -1,21 +1,21 @@
 //! The values of one bucket: what is kept of it, or else worked out and kept.
 ghost use Rattle.std.specs.Prelude.{◌≡◌, ◌≢◌, ◌+◌, ◌≤◌, [], None, IsSome, IfOk, OnOk};
-ghost use Rattle.factor_book.specs.Places.{factors_at};
-ghost use Rattle.book_range.specs.Bounded.{IsMarginable};
-ghost use Rattle.class_delta.specs.Buckets.{bucket_at, delta_place};
+ghost use Rattle.kept_buckets.specs.FactorBook.Places.{factors_at};
+ghost use Rattle.class_volatility.specs.BookRange.Bounded.{IsMarginable};
+ghost use Rattle.class_volatility.specs.ClassDelta.Buckets.{bucket_at, delta_place};
 ghost use Rattle.class_volatility.specs.Vega.{volatility_place};
 ghost use Rattle.kept_buckets.specs.Dirty.{steps_left};
 ghost use Rattle.kept_buckets.specs.Kept.{value_at};
 ghost use Rattle.book_margin.specs.Right.{AreRight, IsDelta, AreVolatility, Renews};
 
-use class_delta::{bucket_at, delta_bucket};
+use class_combine::simm_params::Params;
+use class_volatility::class_delta::{bucket_at, delta_bucket};
+use class_volatility::pair_sum::Steps;
 use class_volatility::{curvature_bucket, vega_bucket};
-use factor_book::{ClassAt, Factors};
+use kept_buckets::factor_book::{ClassAt, Factors};
+use kept_buckets::simm_kinds::BucketId;
+use kept_buckets::simm_rules::BucketMargin;
 use kept_buckets::{KeptBuckets, VolatilityMargins, kept_values_save_steps};
-use pair_sum::Steps;
-use simm_kinds::BucketId;
-use simm_params::Params;
-use simm_rules::BucketMargin;
 use std::alloc::{AllocError, Global};
 use std::sync::ledger::Ledger;
 

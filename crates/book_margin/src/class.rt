@@ -1,27 +1,27 @@
 //! The margin of one risk class in a product class.
 ghost use Rattle.std.specs.Prelude.{◌≡◌, ◌+◌, ◌*◌, ◌^◌, ◌≤◌, List, IsSome, IsOk, IfOk, OnOk, pos, ◌≤ℤ◌};
-ghost use Rattle.simm_kinds.specs.declared.key.FactorKey.{FactorKey};
-ghost use Rattle.simm_rules.specs.Simm.{class_margin_of};
-ghost use Rattle.factor_book.specs.declared.holding.Holding.{Holding};
-ghost use Rattle.name_delta.specs.Values.{nets_in};
+ghost use Rattle.kept_buckets.specs.SimmKinds.declared.key.FactorKey.{FactorKey};
+ghost use Rattle.kept_buckets.specs.SimmRules.Simm.{class_margin_of};
+ghost use Rattle.kept_buckets.specs.FactorBook.declared.holding.Holding.{Holding};
+ghost use Rattle.class_volatility.specs.NameDelta.Values.{nets_in};
 ghost use Rattle.class_combine.specs.Classes.{IsClassMargin};
-ghost use Rattle.book_range.specs.Bounded.{IsMarginable};
-ghost use Rattle.class_delta.specs.Delta.{AreDeltaParts, AreBookDeltas};
+ghost use Rattle.class_volatility.specs.BookRange.Bounded.{IsMarginable};
+ghost use Rattle.class_volatility.specs.ClassDelta.Delta.{AreDeltaParts, AreBookDeltas};
 ghost use Rattle.kept_buckets.specs.Dirty.{steps_left};
 ghost use Rattle.kept_buckets.specs.Kept.{margin_at};
 ghost use Rattle.book_margin.specs.Classes.{base_of, AreClassParts, AreBookParts};
 ghost use Rattle.book_margin.specs.Right.{AreRight, IsMargin, IsWhole, Renews};
 
 use crate::buckets::{delta_parts, volatility_parts};
-use class_delta::{base_from, delta_from};
+use class_combine::simm_params::Params;
+use class_volatility::class_delta::{base_from, delta_from};
+use class_volatility::pair_sum::Steps;
 use class_volatility::{curvature_from, vega_from};
-use factor_book::{ClassAt, Factors};
 use kept_buckets::KeptBuckets;
-use mh_units::Cents;
-use pair_sum::Steps;
-use simm_kinds::{BucketId, RiskClass};
-use simm_params::Params;
-use simm_rules::BucketMargin;
+use kept_buckets::factor_book::{ClassAt, Factors};
+use kept_buckets::mh_units::Cents;
+use kept_buckets::simm_kinds::{BucketId, RiskClass};
+use kept_buckets::simm_rules::BucketMargin;
 use std::alloc::{AllocError, Global};
 use std::sync::ledger::Ledger;
 

@@ -1,22 +1,22 @@
 //! What the margins of classes hang on, and what is kept rightly as a book changes.
 ghost use Rattle.std.specs.Prelude.{◌≡◌, List, Some, None, IfSome};
-ghost use Rattle.simm_kinds.specs.declared.key.FactorKey.{FactorKey};
-ghost use Rattle.simm_kinds.specs.declared.row.CrifRow.{CrifRow as Row};
-ghost use Rattle.simm_kinds.specs.declared.kinds.Measure.{Measure};
-ghost use Rattle.simm_rules.specs.Params.{Params};
-ghost use Rattle.simm_rules.specs.Simm.{class_margin_of};
-ghost use Rattle.factor_book.specs.declared.at.BucketAt.{BucketAt};
-ghost use Rattle.factor_book.specs.declared.at.ClassAt.{ClassAt};
-ghost use Rattle.factor_book.specs.declared.holding.Holding.{Holding};
-ghost use Rattle.factor_book.specs.declared.place.Place.{Place};
-ghost use Rattle.name_delta.specs.Values.{nets_in};
+ghost use Rattle.kept_buckets.specs.SimmKinds.declared.key.FactorKey.{FactorKey};
+ghost use Rattle.kept_buckets.specs.SimmKinds.declared.row.CrifRow.{CrifRow as Row};
+ghost use Rattle.kept_buckets.specs.SimmKinds.declared.kinds.Measure.{Measure};
+ghost use Rattle.kept_buckets.specs.SimmRules.Params.{Params};
+ghost use Rattle.kept_buckets.specs.SimmRules.Simm.{class_margin_of};
+ghost use Rattle.kept_buckets.specs.FactorBook.declared.at.BucketAt.{BucketAt};
+ghost use Rattle.kept_buckets.specs.FactorBook.declared.at.ClassAt.{ClassAt};
+ghost use Rattle.kept_buckets.specs.FactorBook.declared.holding.Holding.{Holding};
+ghost use Rattle.kept_buckets.specs.FactorBook.declared.place.Place.{Place};
+ghost use Rattle.class_volatility.specs.NameDelta.Values.{nets_in};
 ghost use Rattle.kept_buckets.specs.Cached.{cached_in};
 ghost use Rattle.kept_buckets.specs.Kept.{Kept, value_at, margin_at};
 ghost use Rattle.kept_buckets.specs.Touched.{Forgets, SameElsewhere};
 ghost use Rattle.book_margin.specs.Classes.{class_factors};
 ghost use Rattle.book_margin.specs.Right.{AreRight, value_in};
 
-use class_delta::delta_hangs_on_its_factors;
+use class_volatility::class_delta::delta_hangs_on_its_factors;
 use class_volatility::{curvature_hangs_on_its_factors, vega_hangs_on_its_factors};
 
 /// The margin of a risk class in a product class hangs on its own factors alone, of both sides: two books that have the same

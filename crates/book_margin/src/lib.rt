@@ -17,3 +17,10 @@ pub use laws::{
 };
 pub use margin::{margin_in_range, margin_over_kept};
 pub use renewal::renew;
+
+// what the crates above reach through this one
+pub use class_combine;
+pub use class_combine::simm_params;
+pub use class_volatility::{book_range, pair_sum};
+pub use kept_buckets;
+pub use kept_buckets::{factor_book, simm_kinds, simm_rules};

@@ -1,24 +1,24 @@
 //! The margin of a whole book, over what is kept of it or by itself.
 ghost use Rattle.std.specs.Prelude.{◌≡◌, ◌+◌, ◌<◌, ◌≤◌, List, IsOk, IfOk, OnOk};
-ghost use Rattle.simm_kinds.specs.declared.row.CrifRow.{CrifRow as Row};
-ghost use Rattle.simm_rules.specs.Simm.{simm};
-ghost use Rattle.factor_book.specs.Factors.{factors_of};
+ghost use Rattle.kept_buckets.specs.SimmKinds.declared.row.CrifRow.{CrifRow as Row};
+ghost use Rattle.kept_buckets.specs.SimmRules.Simm.{simm};
+ghost use Rattle.kept_buckets.specs.FactorBook.Factors.{factors_of};
 ghost use Rattle.class_combine.specs.Sums.{AreOfBook, StandFor};
 ghost use Rattle.class_combine.specs.Whole.{IsTotal};
-ghost use Rattle.book_range.specs.Bounded.{IsMarginable};
+ghost use Rattle.class_volatility.specs.BookRange.Bounded.{IsMarginable};
 ghost use Rattle.kept_buckets.specs.Dirty.{steps_left};
 ghost use Rattle.book_margin.specs.Right.{AreRight, AreMarginsKept, IsFresh, Renews};
 
 use crate::laws::nothing_is_right;
 use crate::renewal::renew;
+use class_combine::simm_params::Params;
 use class_combine::{AddOnSums, add_ons, breakdown, product_margins};
-use factor_book::Factors;
+use class_volatility::name_delta::products_are_netted;
+use class_volatility::pair_sum::Steps;
 use kept_buckets::KeptBuckets;
-use name_delta::products_are_netted;
-use pair_sum::Steps;
-use simm_kinds::CrifRow;
-use simm_params::Params;
-use simm_rules::Breakdown;
+use kept_buckets::factor_book::Factors;
+use kept_buckets::simm_kinds::CrifRow;
+use kept_buckets::simm_rules::Breakdown;
 use std::alloc::{AllocError, Global};
 use std::marker::Brand;
 use std::sync::ledger::{Blank, Ledger};

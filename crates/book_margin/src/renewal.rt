@@ -1,10 +1,10 @@
 //! The margins of the risk classes in each product class: what is kept of them, and what is not is worked out and kept.
 ghost use Rattle.std.specs.Prelude.{◌≡◌, ◌+◌, ◌≤◌, Some, IsSome, IsOk, IfOk, OnOk};
-ghost use Rattle.simm_kinds.specs.declared.kinds.RiskClass.{RiskClass as Class};
-ghost use Rattle.factor_book.specs.declared.at.ClassAt.{ClassAt as At};
+ghost use Rattle.kept_buckets.specs.SimmKinds.declared.kinds.RiskClass.{RiskClass as Class};
+ghost use Rattle.kept_buckets.specs.FactorBook.declared.at.ClassAt.{ClassAt as At};
 ghost use Rattle.class_combine.specs.Classes.{class_in};
 ghost use Rattle.class_combine.specs.Whole.{classes_in, AreProductClasses};
-ghost use Rattle.book_range.specs.Bounded.{IsMarginable};
+ghost use Rattle.class_volatility.specs.BookRange.Bounded.{IsMarginable};
 ghost use Rattle.kept_buckets.specs.Dirty.{steps_left};
 ghost use Rattle.kept_buckets.specs.Kept.{margin_at};
 ghost use Rattle.book_margin.specs.Classes.{products_of};
@@ -12,13 +12,13 @@ ghost use Rattle.book_margin.specs.Right.{AreRight, AreMarginsKept, IsFresh, Ren
 
 use crate::class::renew_class;
 use class_combine::ProductClasses;
-use factor_book::{ClassAt, Factors};
+use class_combine::simm_params::Params;
+use class_volatility::pair_sum::Steps;
 use kept_buckets::KeptBuckets;
-use mh_units::Cents;
-use pair_sum::Steps;
-use simm_kinds::{ProductClass, RiskClass};
-use simm_params::Params;
-use simm_rules::ClassMargins;
+use kept_buckets::factor_book::{ClassAt, Factors};
+use kept_buckets::mh_units::Cents;
+use kept_buckets::simm_kinds::{ProductClass, RiskClass};
+use kept_buckets::simm_rules::ClassMargins;
 use std::alloc::{AllocError, Global};
 use std::sync::ledger::Ledger;
 

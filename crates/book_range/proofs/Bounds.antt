@@ -3,16 +3,16 @@ use Rattle.std.proofs.Common.{◌≡◌, ◌^◌, List, length, None, ap, ◌∙
 use Rattle.std.specs.List.{filter}
 use Rattle.std.proofs.lemmas.Int.{ints}
 use Rattle.std.proofs.lemmas.List.{length-map}
-use Rattle.mh_units.specs.Rounding.{up}
-use Rattle.mh_units.proofs.Integers.{mul-le_ℤ}
-use Rattle.mh_units.proofs.Roundings.{up_is}
-use Rattle.simm_kinds.specs.declared.row.CrifRow.{CrifRow}
-use Rattle.simm_kinds.specs.Factors.{bucket_of}
-use Rattle.simm_kinds.specs.Order.{same_bucket_id}
-use Rattle.simm_rules.specs.Params.{Params}
-use Rattle.simm_rules.specs.Net.{Sensitivity, sensitivities, in_product, keys_of}
-use Rattle.simm_rules.specs.Gross.{delta_size, vega_size}
-use Rattle.simm_rules.specs.Range.{on_side, range}
+use Rattle.simm_params.specs.MhUnits.Rounding.{up}
+use Rattle.simm_params.proofs.MhUnits.Integers.{mul-le_ℤ}
+use Rattle.simm_params.proofs.MhUnits.Roundings.{up_is}
+use Rattle.simm_params.specs.SimmKinds.declared.row.CrifRow.{CrifRow}
+use Rattle.simm_params.specs.SimmKinds.Factors.{bucket_of}
+use Rattle.simm_params.specs.SimmKinds.Order.{same_bucket_id}
+use Rattle.simm_params.specs.SimmRules.Params.{Params}
+use Rattle.simm_params.specs.SimmRules.Net.{Sensitivity, sensitivities, in_product, keys_of}
+use Rattle.simm_params.specs.SimmRules.Gross.{delta_size, vega_size}
+use Rattle.simm_params.specs.SimmRules.Range.{on_side, range}
 use Rattle.factor_book.specs.declared.place.Place.{Place}
 use Rattle.factor_book.specs.Factors.{factor_of, factors_in}
 use Rattle.factor_book.specs.Places.{stands_at, factors_at}

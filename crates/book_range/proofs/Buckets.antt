@@ -7,18 +7,18 @@ use Rattle.std.specs.declared.cmp.Ordering.TheVariants.{Equal}
 use Rattle.std.proofs.lemmas.Bool.{false≢true}
 use Rattle.std.proofs.lemmas.Cmp.{nat_list_cmp_total, on_total, alike_right, eq_by_cmp_equiv}
 use Rattle.std.proofs.lemmas.Int.{ints}
-use Rattle.simm_kinds.specs.declared.kinds.ProductClass.{ProductClass}
-use Rattle.simm_kinds.specs.declared.kinds.RiskClass.{RiskClass}
-use Rattle.simm_kinds.specs.declared.kinds.Side.{Side}
-use Rattle.simm_kinds.specs.declared.kinds.Side.TheVariants as kinds_side
-use Rattle.simm_kinds.specs.declared.kinds.BucketId.{BucketId}
-use Rattle.simm_kinds.specs.Factors.{class_of, side_of, bucket_of}
-use Rattle.simm_kinds.specs.Order.{same_product, same_class, same_bucket_id, bucket_id_cmp, bucket_id_numbers}
-use Rattle.simm_kinds.proofs.Variants.{is_eq-Equal}
-use Rattle.simm_rules.specs.declared.values.RangeKind.TheVariants as range_kind
-use Rattle.simm_rules.specs.Sums.{different}
-use Rattle.simm_rules.specs.Net.{Sensitivity, in_product}
-use Rattle.simm_rules.specs.Range.{Sided, Delta_side, Volatility_side, is_on, on_side, above, key_count, bucket_keys}
+use Rattle.simm_params.specs.SimmKinds.declared.kinds.ProductClass.{ProductClass}
+use Rattle.simm_params.specs.SimmKinds.declared.kinds.RiskClass.{RiskClass}
+use Rattle.simm_params.specs.SimmKinds.declared.kinds.Side.{Side}
+use Rattle.simm_params.specs.SimmKinds.declared.kinds.Side.TheVariants as kinds_side
+use Rattle.simm_params.specs.SimmKinds.declared.kinds.BucketId.{BucketId}
+use Rattle.simm_params.specs.SimmKinds.Factors.{class_of, side_of, bucket_of}
+use Rattle.simm_params.specs.SimmKinds.Order.{same_product, same_class, same_bucket_id, bucket_id_cmp, bucket_id_numbers}
+use Rattle.simm_params.proofs.SimmKinds.Variants.{is_eq-Equal}
+use Rattle.simm_params.specs.SimmRules.declared.values.RangeKind.TheVariants as range_kind
+use Rattle.simm_params.specs.SimmRules.Sums.{different}
+use Rattle.simm_params.specs.SimmRules.Net.{Sensitivity, in_product}
+use Rattle.simm_params.specs.SimmRules.Range.{Sided, Delta_side, Volatility_side, is_on, on_side, above, key_count, bucket_keys}
 use Rattle.factor_book.specs.declared.place.BookSide.{BookSide}
 use Rattle.factor_book.specs.declared.place.BookSide.TheVariants as side
 use Rattle.factor_book.specs.declared.place.Place.{Place}

@@ -15,16 +15,16 @@ use Rattle.std.proofs.lemmas.Map.Keys.{sorted_head, sorted_tail}
 use Rattle.std.proofs.lemmas.Map.Lookups.{CmpEqualImpliesEq, exact_unsigned}
 use Rattle.std.proofs.lemmas.Map.Views.{any-filter_same}
 use Rattle.std.proofs.lemmas.Simd.{map-map}
-use Rattle.simm_kinds.specs.declared.kinds.ProductClass.{ProductClass}
-use Rattle.simm_kinds.specs.declared.kinds.ProductClass.TheVariants as product
-use Rattle.simm_kinds.specs.declared.kinds.RiskClass.{RiskClass}
-use Rattle.simm_kinds.specs.declared.kinds.RiskClass.TheVariants as class
-use Rattle.simm_kinds.specs.declared.key.FactorKey.{FactorKey}
-use Rattle.simm_kinds.specs.Order.{product_place, class_place, bucket_id_cmp, same_product, same_class}
-use Rattle.simm_kinds.proofs.Orders.{one_product, one_class}
-use Rattle.simm_rules.specs.declared.values.RangeFault.{RangeFault}
-use Rattle.simm_rules.specs.Sums.{first_some}
-use Rattle.simm_rules.specs.Simm.{products, classes}
+use Rattle.simm_params.specs.SimmKinds.declared.kinds.ProductClass.{ProductClass}
+use Rattle.simm_params.specs.SimmKinds.declared.kinds.ProductClass.TheVariants as product
+use Rattle.simm_params.specs.SimmKinds.declared.kinds.RiskClass.{RiskClass}
+use Rattle.simm_params.specs.SimmKinds.declared.kinds.RiskClass.TheVariants as class
+use Rattle.simm_params.specs.SimmKinds.declared.key.FactorKey.{FactorKey}
+use Rattle.simm_params.specs.SimmKinds.Order.{product_place, class_place, bucket_id_cmp, same_product, same_class}
+use Rattle.simm_params.proofs.SimmKinds.Orders.{one_product, one_class}
+use Rattle.simm_params.specs.SimmRules.declared.values.RangeFault.{RangeFault}
+use Rattle.simm_params.specs.SimmRules.Sums.{first_some}
+use Rattle.simm_params.specs.SimmRules.Simm.{products, classes}
 use Rattle.factor_book.specs.declared.at.SideAt.{SideAt}
 use Rattle.factor_book.specs.declared.holding.Holding.{Holding}
 use Rattle.factor_book.specs.declared.place.BookSide.{BookSide}

@@ -8,23 +8,23 @@ use Rattle.std.specs.BTreeMap.{is_at}
 use Rattle.std.proofs.lemmas.Cmp.{alike_right}
 use Rattle.std.proofs.lemmas.List.Sorted.{length_permutation}
 use Rattle.std.proofs.lemmas.Simd.{map-map}
-use Rattle.mh_units.specs.Rounding.{up}
-use Rattle.simm_kinds.specs.declared.kinds.ProductClass.{ProductClass}
-use Rattle.simm_kinds.specs.declared.kinds.RiskClass.{RiskClass}
-use Rattle.simm_kinds.specs.declared.kinds.BucketId.{BucketId}
-use Rattle.simm_kinds.specs.declared.key.FactorKey.{FactorKey}
-use Rattle.simm_kinds.specs.declared.row.CrifRow.{CrifRow}
-use Rattle.simm_kinds.specs.Factors.{bucket_of}
-use Rattle.simm_kinds.specs.Order.{same_bucket_id, bucket_id_cmp, key_cmp}
-use Rattle.simm_kinds.proofs.Orders.{exact_keys}
-use Rattle.simm_rules.specs.declared.values.RangeFault.{RangeFault}
-use Rattle.simm_rules.specs.declared.values.RangeKind.TheVariants as range_kind
-use Rattle.simm_rules.specs.Params.{Params}
-use Rattle.simm_rules.specs.Sums.{different, first_some}
-use Rattle.simm_rules.specs.Net.{Sensitivity, sensitivities, in_product, keys_of}
-use Rattle.simm_rules.specs.Gross.{delta_size, vega_size}
-use Rattle.simm_rules.specs.Simm.{products, classes}
-use Rattle.simm_rules.specs.Range.{Delta_side, Volatility_side, on_side, above, key_count, bucket_keys, each_class, range}
+use Rattle.simm_params.specs.MhUnits.Rounding.{up}
+use Rattle.simm_params.specs.SimmKinds.declared.kinds.ProductClass.{ProductClass}
+use Rattle.simm_params.specs.SimmKinds.declared.kinds.RiskClass.{RiskClass}
+use Rattle.simm_params.specs.SimmKinds.declared.kinds.BucketId.{BucketId}
+use Rattle.simm_params.specs.SimmKinds.declared.key.FactorKey.{FactorKey}
+use Rattle.simm_params.specs.SimmKinds.declared.row.CrifRow.{CrifRow}
+use Rattle.simm_params.specs.SimmKinds.Factors.{bucket_of}
+use Rattle.simm_params.specs.SimmKinds.Order.{same_bucket_id, bucket_id_cmp, key_cmp}
+use Rattle.simm_params.proofs.SimmKinds.Orders.{exact_keys}
+use Rattle.simm_params.specs.SimmRules.declared.values.RangeFault.{RangeFault}
+use Rattle.simm_params.specs.SimmRules.declared.values.RangeKind.TheVariants as range_kind
+use Rattle.simm_params.specs.SimmRules.Params.{Params}
+use Rattle.simm_params.specs.SimmRules.Sums.{different, first_some}
+use Rattle.simm_params.specs.SimmRules.Net.{Sensitivity, sensitivities, in_product, keys_of}
+use Rattle.simm_params.specs.SimmRules.Gross.{delta_size, vega_size}
+use Rattle.simm_params.specs.SimmRules.Simm.{products, classes}
+use Rattle.simm_params.specs.SimmRules.Range.{Delta_side, Volatility_side, on_side, above, key_count, bucket_keys, each_class, range}
 use Rattle.simm_params.specs.Facts.{IsParams}
 use Rattle.factor_book.specs.declared.at.SideAt.{SideAt}
 use Rattle.factor_book.specs.declared.holding.Holding.{Holding}

@@ -3,29 +3,29 @@ use Rattle.std.proofs.Common.{◌≡◌, ℕ, List, [], ◌∷◌, ◌++◌, map
 use Rattle.std.specs.List.{filter, AllByRecursion}
 use Rattle.std.proofs.lemmas.Int.{ints}
 use Rattle.std.proofs.lemmas.List.Elements.{recursion_from_All}
-use Rattle.mh_units.proofs.Roundings.{up_mono}
-use Rattle.simm_kinds.specs.declared.kinds.ProductClass.{ProductClass}
-use Rattle.simm_kinds.specs.declared.kinds.RiskClass.{RiskClass}
-use Rattle.simm_kinds.specs.declared.kinds.RiskClass.TheVariants as class
-use Rattle.simm_kinds.specs.declared.kinds.BucketId.{BucketId}
-use Rattle.simm_kinds.specs.declared.row.CrifRow.{CrifRow}
-use Rattle.simm_kinds.specs.declared.row.TradeRows.{TradeRows}
-use Rattle.simm_kinds.specs.Batch.{rows_of}
-use Rattle.simm_kinds.specs.Factors.{class_of, side_of, bucket_of}
-use Rattle.simm_kinds.specs.Order.{same_product, same_class, same_bucket_id, bucket_id_cmp}
-use Rattle.simm_kinds.specs.Pair.{Pair}
-use Rattle.simm_rules.specs.declared.values.RangeKind.TheVariants as range_kind
-use Rattle.simm_rules.specs.Params.{CreditBucket, PricedBucket, Params}
-use Rattle.simm_rules.specs.Sums.{total_by, different}
-use Rattle.simm_rules.specs.Net.{Sensitivity, sensitivity, sensitivities, in_product}
-use Rattle.simm_rules.specs.Risks.{Risk, CreditClass, Qualifying, Non_qualifying, PricedClass, Equities, Commodities, select}
-use Rattle.simm_rules.specs.Rates.{RateIn, as_rate, as_rate_volatility, rate_weight}
-use Rattle.simm_rules.specs.Credit.{as_credit, as_credit_volatility, credit_params}
-use Rattle.simm_rules.specs.BaseCorrelation.{as_index}
-use Rattle.simm_rules.specs.Priced.{as_price, as_price_volatility, priced_params}
-use Rattle.simm_rules.specs.ForeignExchange.{as_currency, as_pair_volatility, is_high, fx_weight, fx_sigma, fx_threshold}
-use Rattle.simm_rules.specs.Gross.{size_by, credit_size, credit_volatility_size, price_size, price_volatility_size, delta_size, vega_size}
-use Rattle.simm_rules.specs.Range.{Sided, is_on, on_side, above, key_count, bucket_keys, range}
+use Rattle.simm_params.proofs.MhUnits.Roundings.{up_mono}
+use Rattle.simm_params.specs.SimmKinds.declared.kinds.ProductClass.{ProductClass}
+use Rattle.simm_params.specs.SimmKinds.declared.kinds.RiskClass.{RiskClass}
+use Rattle.simm_params.specs.SimmKinds.declared.kinds.RiskClass.TheVariants as class
+use Rattle.simm_params.specs.SimmKinds.declared.kinds.BucketId.{BucketId}
+use Rattle.simm_params.specs.SimmKinds.declared.row.CrifRow.{CrifRow}
+use Rattle.simm_params.specs.SimmKinds.declared.row.TradeRows.{TradeRows}
+use Rattle.simm_params.specs.SimmKinds.Batch.{rows_of}
+use Rattle.simm_params.specs.SimmKinds.Factors.{class_of, side_of, bucket_of}
+use Rattle.simm_params.specs.SimmKinds.Order.{same_product, same_class, same_bucket_id, bucket_id_cmp}
+use Rattle.simm_params.specs.SimmKinds.Pair.{Pair}
+use Rattle.simm_params.specs.SimmRules.declared.values.RangeKind.TheVariants as range_kind
+use Rattle.simm_params.specs.SimmRules.Params.{CreditBucket, PricedBucket, Params}
+use Rattle.simm_params.specs.SimmRules.Sums.{total_by, different}
+use Rattle.simm_params.specs.SimmRules.Net.{Sensitivity, sensitivity, sensitivities, in_product}
+use Rattle.simm_params.specs.SimmRules.Risks.{Risk, CreditClass, Qualifying, Non_qualifying, PricedClass, Equities, Commodities, select}
+use Rattle.simm_params.specs.SimmRules.Rates.{RateIn, as_rate, as_rate_volatility, rate_weight}
+use Rattle.simm_params.specs.SimmRules.Credit.{as_credit, as_credit_volatility, credit_params}
+use Rattle.simm_params.specs.SimmRules.BaseCorrelation.{as_index}
+use Rattle.simm_params.specs.SimmRules.Priced.{as_price, as_price_volatility, priced_params}
+use Rattle.simm_params.specs.SimmRules.ForeignExchange.{as_currency, as_pair_volatility, is_high, fx_weight, fx_sigma, fx_threshold}
+use Rattle.simm_params.specs.SimmRules.Gross.{size_by, credit_size, credit_volatility_size, price_size, price_volatility_size, delta_size, vega_size}
+use Rattle.simm_params.specs.SimmRules.Range.{Sided, is_on, on_side, above, key_count, bucket_keys, range}
 use Rattle.simm_params.specs.Facts.{IsParams, IsWeighed}
 use Rattle.simm_params.specs.Weighed.{AreRatesWeighed, IsWeighedCredit, IsWeighedPriced, AreWeighedCredit, AreWeighedPriced}
 use Rattle.book_range.proofs.Lists.{each_always, each_map, each_weaker}

@@ -2,7 +2,7 @@
 use Rattle.std.proofs.Common.{◌≡◌, ℕ, zero, suc, arith, ◌+◌, ◌<◌, List, [], ◌∷◌, ◌++◌, map, length, get_or, take, true, false, Option, Some, None, refl, sym, ap, ◌∙◌}
 use Rattle.std.specs.Prelude.{is_some}
 use Rattle.std.proofs.lemmas.List.{map_more}
-use Rattle.simm_rules.specs.Sums.{first_some}
+use Rattle.simm_params.specs.SimmRules.Sums.{first_some}
 use Rattle.book_range.specs.Faults.{either_first}
 
 pub first_some-cons : {A : Type 0} (o : Option A) (os : List (Option A)) → first_some (o ∷ os) ≡ either_first o (first_some os)

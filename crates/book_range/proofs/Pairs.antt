@@ -1,8 +1,8 @@
 -- The volatility of a pair by the categories of its currencies.
 use Rattle.std.proofs.Common.{◌≡◌, ℕ, Bool, true, false, ◌&&◌, ◌||◌, if◌then◌else◌, List, refl, ap, ◌∙◌}
-use Rattle.simm_kinds.specs.Pair.{Pair}
-use Rattle.simm_rules.specs.Params.{Params}
-use Rattle.simm_rules.specs.ForeignExchange.{is_high, fx_sigma}
+use Rattle.simm_params.specs.SimmKinds.Pair.{Pair}
+use Rattle.simm_params.specs.SimmRules.Params.{Params}
+use Rattle.simm_params.specs.SimmRules.ForeignExchange.{is_high, fx_sigma}
 use Rattle.simm_params.specs.declared.category.VolatilityCategory.{VolatilityCategory}
 use Rattle.simm_params.specs.declared.category.VolatilityCategory.TheVariants.{Regular, High}
 use Rattle.simm_params.specs.Categories.{volatility}

@@ -7,11 +7,11 @@ use Rattle.std.specs.List.{filter, flat_map, list_any, AllByRecursion}
 use Rattle.std.specs.List.Sorted.{IsStrictlySortedBy}
 use Rattle.std.proofs.lemmas.Bool.{false≢true, or_right}
 use Rattle.std.proofs.lemmas.Int.{ints}
-use Rattle.simm_kinds.specs.declared.key.FactorKey.{FactorKey}
-use Rattle.simm_kinds.specs.Order.{same_key, key_cmp}
-use Rattle.simm_kinds.proofs.Orders.{key_total, exact_keys}
-use Rattle.simm_rules.specs.Sums.{total_by}
-use Rattle.simm_rules.specs.Net.{Sensitivity, keys_of}
+use Rattle.simm_params.specs.SimmKinds.declared.key.FactorKey.{FactorKey}
+use Rattle.simm_params.specs.SimmKinds.Order.{same_key, key_cmp}
+use Rattle.simm_params.proofs.SimmKinds.Orders.{key_total, exact_keys}
+use Rattle.simm_params.specs.SimmRules.Sums.{total_by}
+use Rattle.simm_params.specs.SimmRules.Net.{Sensitivity, keys_of}
 use Rattle.factor_book.proofs.Sorting.{any_different, different_ascends}
 use Rattle.factor_book.proofs.Keys.{is_eq-Equal, same_key_refl}
 use Rattle.book_range.proofs.Lists.{each_weaker}

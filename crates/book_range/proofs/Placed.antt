@@ -1,11 +1,11 @@
 -- What a factor weighs at its place.
 use Rattle.std.proofs.Common.{◌≡◌, refl, subst}
-use Rattle.simm_kinds.specs.declared.bucket.Bucket.TheVariants as bucket
-use Rattle.simm_kinds.specs.declared.factor.Factor.{Factor}
-use Rattle.simm_kinds.specs.declared.factor.Factor.TheVariants as factor
-use Rattle.simm_kinds.specs.declared.key.FactorKey.{FactorKey}
-use Rattle.simm_kinds.specs.Factors.{class_of, side_of, bucket_of}
-use Rattle.simm_rules.specs.Params.{Params}
+use Rattle.simm_params.specs.SimmKinds.declared.bucket.Bucket.TheVariants as bucket
+use Rattle.simm_params.specs.SimmKinds.declared.factor.Factor.{Factor}
+use Rattle.simm_params.specs.SimmKinds.declared.factor.Factor.TheVariants as factor
+use Rattle.simm_params.specs.SimmKinds.declared.key.FactorKey.{FactorKey}
+use Rattle.simm_params.specs.SimmKinds.Factors.{class_of, side_of, bucket_of}
+use Rattle.simm_params.specs.SimmRules.Params.{Params}
 use Rattle.factor_book.specs.declared.place.Place.{Place}
 use Rattle.factor_book.specs.Place.{book_side, place_of}
 use Rattle.book_range.specs.Weights.{factor_weight}

@@ -3,18 +3,18 @@ use Rattle.std.proofs.Common.{ℕ, ◌^◌, ◌≤◌, List, [], ◌∷◌, Bool
 use Rattle.std.specs.List.{find, AllByRecursion}
 use Rattle.std.proofs.lemmas.Int.{ints}
 use Rattle.std.proofs.lemmas.List.Elements.{recursion_from_All}
-use Rattle.mh_units.proofs.Integers.{size_from_bounds}
-use Rattle.simm_kinds.specs.declared.bucket.Bucket.{Bucket}
-use Rattle.simm_kinds.specs.declared.bucket.Bucket.TheVariants as bucket
-use Rattle.simm_kinds.specs.declared.factor.Factor.{Factor}
-use Rattle.simm_kinds.specs.declared.factor.Factor.TheVariants as factor
-use Rattle.simm_kinds.specs.Order.{same_bucket}
-use Rattle.simm_rules.specs.Params.{Params}
-use Rattle.simm_rules.specs.Risks.{Rate, Curve, Inflation, Basis, CreditClass, Qualifying, Non_qualifying, PricedClass, Equities, Commodities}
-use Rattle.simm_rules.specs.Rates.{rate_weight}
-use Rattle.simm_rules.specs.Credit.{credit_params}
-use Rattle.simm_rules.specs.Priced.{priced_params}
-use Rattle.simm_rules.specs.ForeignExchange.{is_high, fx_weight, fx_threshold}
+use Rattle.simm_params.proofs.MhUnits.Integers.{size_from_bounds}
+use Rattle.simm_params.specs.SimmKinds.declared.bucket.Bucket.{Bucket}
+use Rattle.simm_params.specs.SimmKinds.declared.bucket.Bucket.TheVariants as bucket
+use Rattle.simm_params.specs.SimmKinds.declared.factor.Factor.{Factor}
+use Rattle.simm_params.specs.SimmKinds.declared.factor.Factor.TheVariants as factor
+use Rattle.simm_params.specs.SimmKinds.Order.{same_bucket}
+use Rattle.simm_params.specs.SimmRules.Params.{Params}
+use Rattle.simm_params.specs.SimmRules.Risks.{Rate, Curve, Inflation, Basis, CreditClass, Qualifying, Non_qualifying, PricedClass, Equities, Commodities}
+use Rattle.simm_params.specs.SimmRules.Rates.{rate_weight}
+use Rattle.simm_params.specs.SimmRules.Credit.{credit_params}
+use Rattle.simm_params.specs.SimmRules.Priced.{priced_params}
+use Rattle.simm_params.specs.SimmRules.ForeignExchange.{is_high, fx_weight, fx_threshold}
 use Rattle.simm_params.specs.Facts.{IsParams, IsWeighed}
 use Rattle.simm_params.specs.Weighed.{AreRatesWeighed, IsWeighedCredit, IsWeighedPriced, AreWeighedCredit, AreWeighedPriced}
 use Rattle.book_range.specs.Weights.{rate_found, credit_weight, credit_volatility, price_weight, price_volatility, factor_weight}

@@ -3,18 +3,18 @@ use Rattle.std.proofs.Common.{◌≡◌, ◌^◌, List, [], ◌∷◌, ◌++◌,
 use Rattle.std.specs.Prelude.{int_lt}
 use Rattle.std.specs.List.{flat_map, AllByRecursion}
 use Rattle.std.proofs.lemmas.Int.{ints}
-use Rattle.simm_kinds.specs.declared.kinds.ProductClass.{ProductClass}
-use Rattle.simm_kinds.specs.declared.kinds.RiskClass.{RiskClass}
-use Rattle.simm_kinds.specs.declared.row.CrifRow.{CrifRow}
-use Rattle.simm_rules.specs.declared.values.RangeKind.{RangeKind}
-use Rattle.simm_rules.specs.declared.values.RangeKind.TheVariants as range_kind
-use Rattle.simm_rules.specs.declared.values.RangeFault.{RangeFault}
-use Rattle.simm_rules.specs.Params.{Params}
-use Rattle.simm_rules.specs.Sums.{first_some}
-use Rattle.simm_rules.specs.Net.{Sensitivity, sensitivities, in_product}
-use Rattle.simm_rules.specs.Gross.{delta_gross, vega_gross}
-use Rattle.simm_rules.specs.Simm.{products, classes}
-use Rattle.simm_rules.specs.Range.{Sided, Delta_side, Volatility_side, on_side, above, key_count, bucket_keys, sides, each_class, range}
+use Rattle.simm_params.specs.SimmKinds.declared.kinds.ProductClass.{ProductClass}
+use Rattle.simm_params.specs.SimmKinds.declared.kinds.RiskClass.{RiskClass}
+use Rattle.simm_params.specs.SimmKinds.declared.row.CrifRow.{CrifRow}
+use Rattle.simm_params.specs.SimmRules.declared.values.RangeKind.{RangeKind}
+use Rattle.simm_params.specs.SimmRules.declared.values.RangeKind.TheVariants as range_kind
+use Rattle.simm_params.specs.SimmRules.declared.values.RangeFault.{RangeFault}
+use Rattle.simm_params.specs.SimmRules.Params.{Params}
+use Rattle.simm_params.specs.SimmRules.Sums.{first_some}
+use Rattle.simm_params.specs.SimmRules.Net.{Sensitivity, sensitivities, in_product}
+use Rattle.simm_params.specs.SimmRules.Gross.{delta_gross, vega_gross}
+use Rattle.simm_params.specs.SimmRules.Simm.{products, classes}
+use Rattle.simm_params.specs.SimmRules.Range.{Sided, Delta_side, Volatility_side, on_side, above, key_count, bucket_keys, sides, each_class, range}
 use Rattle.book_range.proofs.Lists.{each_always, each_parts, each_append, each_flat, flat_each, of_product, of_class, none_all, all_none}
 
 not_chosen : {A : Type 0} (t : Bool) (x : A) → cond t (Some x) None ≡ None → t ≡ false

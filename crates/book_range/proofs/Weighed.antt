@@ -2,25 +2,25 @@
 use Rattle.std.proofs.Common.{◌≡◌, ℕ, List, [], ◌∷◌, Bool, true, false, ◌&&◌, if◌then◌else◌, Option, Some, None, refl, sym, ap, ◌∙◌, ℤ, pos, ◌+ℤ◌, ◌*ℤ◌, unsigned_abs, arith}
 use Rattle.std.specs.List.{find}
 use Rattle.std.proofs.lemmas.Int.{ints}
-use Rattle.mh_units.proofs.Integers.{mul-add_ℤ}
-use Rattle.simm_kinds.specs.declared.kinds.RiskClass.{RiskClass}
-use Rattle.simm_kinds.specs.declared.kinds.RiskClass.TheVariants as class
-use Rattle.simm_kinds.specs.declared.bucket.Bucket.{Bucket}
-use Rattle.simm_kinds.specs.declared.bucket.Bucket.TheVariants as bucket
-use Rattle.simm_kinds.specs.declared.factor.Factor.{Factor}
-use Rattle.simm_kinds.specs.declared.factor.Factor.TheVariants as factor
-use Rattle.simm_kinds.specs.Factors.{class_of, side_of}
-use Rattle.simm_kinds.specs.Order.{same_class, same_bucket}
-use Rattle.simm_rules.specs.Params.{CreditBucket, PricedBucket, Params}
-use Rattle.simm_rules.specs.Sums.{total_by}
-use Rattle.simm_rules.specs.Net.{Sensitivity}
-use Rattle.simm_rules.specs.Risks.{Risk, risk, CreditClass, Qualifying, Non_qualifying, PricedClass, Equities, Commodities, select}
-use Rattle.simm_rules.specs.Rates.{as_rate, as_rate_volatility, rate_weight}
-use Rattle.simm_rules.specs.Credit.{as_credit, as_credit_volatility, credit_params}
-use Rattle.simm_rules.specs.BaseCorrelation.{as_index}
-use Rattle.simm_rules.specs.Priced.{as_price, as_price_volatility, priced_params}
-use Rattle.simm_rules.specs.ForeignExchange.{as_currency, as_pair_volatility, fx_weight, fx_sigma}
-use Rattle.simm_rules.specs.Gross.{size_by, delta_size, vega_size}
+use Rattle.simm_params.proofs.MhUnits.Integers.{mul-add_ℤ}
+use Rattle.simm_params.specs.SimmKinds.declared.kinds.RiskClass.{RiskClass}
+use Rattle.simm_params.specs.SimmKinds.declared.kinds.RiskClass.TheVariants as class
+use Rattle.simm_params.specs.SimmKinds.declared.bucket.Bucket.{Bucket}
+use Rattle.simm_params.specs.SimmKinds.declared.bucket.Bucket.TheVariants as bucket
+use Rattle.simm_params.specs.SimmKinds.declared.factor.Factor.{Factor}
+use Rattle.simm_params.specs.SimmKinds.declared.factor.Factor.TheVariants as factor
+use Rattle.simm_params.specs.SimmKinds.Factors.{class_of, side_of}
+use Rattle.simm_params.specs.SimmKinds.Order.{same_class, same_bucket}
+use Rattle.simm_params.specs.SimmRules.Params.{CreditBucket, PricedBucket, Params}
+use Rattle.simm_params.specs.SimmRules.Sums.{total_by}
+use Rattle.simm_params.specs.SimmRules.Net.{Sensitivity}
+use Rattle.simm_params.specs.SimmRules.Risks.{Risk, risk, CreditClass, Qualifying, Non_qualifying, PricedClass, Equities, Commodities, select}
+use Rattle.simm_params.specs.SimmRules.Rates.{as_rate, as_rate_volatility, rate_weight}
+use Rattle.simm_params.specs.SimmRules.Credit.{as_credit, as_credit_volatility, credit_params}
+use Rattle.simm_params.specs.SimmRules.BaseCorrelation.{as_index}
+use Rattle.simm_params.specs.SimmRules.Priced.{as_price, as_price_volatility, priced_params}
+use Rattle.simm_params.specs.SimmRules.ForeignExchange.{as_currency, as_pair_volatility, fx_weight, fx_sigma}
+use Rattle.simm_params.specs.SimmRules.Gross.{size_by, delta_size, vega_size}
 use Rattle.simm_params.specs.Facts.{IsParams, IsCreditParams, IsPricedParams}
 use Rattle.factor_book.specs.declared.place.BookSide.{BookSide}
 use Rattle.factor_book.specs.declared.place.BookSide.TheVariants as side

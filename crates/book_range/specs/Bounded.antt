@@ -2,15 +2,15 @@
 -- (ISDA SIMM methodology gives no range: it is that of this house.)
 use Rattle.std.specs.Prelude.{◌≡◌, ◌^◌, ◌≤◌, List, length, true, pos, ◌≤ℤ◌}
 use Rattle.std.specs.List.{list_all}
-use Rattle.simm_kinds.specs.declared.kinds.ProductClass.{ProductClass}
-use Rattle.simm_kinds.specs.declared.kinds.RiskClass.{RiskClass}
-use Rattle.simm_kinds.specs.declared.key.FactorKey.{FactorKey}
-use Rattle.simm_kinds.specs.declared.row.CrifRow.{CrifRow}
-use Rattle.simm_kinds.specs.Batch.{is_in_range}
-use Rattle.simm_rules.specs.Params.{Params}
-use Rattle.simm_rules.specs.Net.{sensitivities, in_product}
-use Rattle.simm_rules.specs.Gross.{delta_size, vega_size}
-use Rattle.simm_rules.specs.Admits.{admits}
+use Rattle.simm_params.specs.SimmKinds.declared.kinds.ProductClass.{ProductClass}
+use Rattle.simm_params.specs.SimmKinds.declared.kinds.RiskClass.{RiskClass}
+use Rattle.simm_params.specs.SimmKinds.declared.key.FactorKey.{FactorKey}
+use Rattle.simm_params.specs.SimmKinds.declared.row.CrifRow.{CrifRow}
+use Rattle.simm_params.specs.SimmKinds.Batch.{is_in_range}
+use Rattle.simm_params.specs.SimmRules.Params.{Params}
+use Rattle.simm_params.specs.SimmRules.Net.{sensitivities, in_product}
+use Rattle.simm_params.specs.SimmRules.Gross.{delta_size, vega_size}
+use Rattle.simm_params.specs.SimmRules.Admits.{admits}
 use Rattle.factor_book.specs.declared.holding.Holding.{Holding}
 use Rattle.factor_book.specs.declared.place.Place.{Place}
 use Rattle.factor_book.specs.Factors.{factors_of}

@@ -1,17 +1,17 @@
 -- The tests of the range of a book, by the number of its rows, the factors that it nets to and its gross sizes.
 use Rattle.std.specs.Prelude.{ℕ, ◌≡◌, ◌^◌, List, map, length, true, Option, Some, None, pos}
 use Rattle.std.specs.List.{list_all}
-use Rattle.mh_units.specs.Rounding.{up}
-use Rattle.simm_kinds.specs.declared.kinds.ProductClass.{ProductClass}
-use Rattle.simm_kinds.specs.declared.key.FactorKey.{FactorKey}
-use Rattle.simm_kinds.specs.declared.row.CrifRow.{CrifRow}
-use Rattle.simm_kinds.specs.Batch.{is_in_range}
-use Rattle.simm_rules.specs.declared.values.RangeFault.{RangeFault}
-use Rattle.simm_rules.specs.declared.values.RangeKind.{RangeKind}
-use Rattle.simm_rules.specs.declared.values.RangeKind.TheVariants as range_kind
-use Rattle.simm_rules.specs.Sums.{first_some}
-use Rattle.simm_rules.specs.Simm.{products, classes}
-use Rattle.simm_rules.specs.Range.{above}
+use Rattle.simm_params.specs.MhUnits.Rounding.{up}
+use Rattle.simm_params.specs.SimmKinds.declared.kinds.ProductClass.{ProductClass}
+use Rattle.simm_params.specs.SimmKinds.declared.key.FactorKey.{FactorKey}
+use Rattle.simm_params.specs.SimmKinds.declared.row.CrifRow.{CrifRow}
+use Rattle.simm_params.specs.SimmKinds.Batch.{is_in_range}
+use Rattle.simm_params.specs.SimmRules.declared.values.RangeFault.{RangeFault}
+use Rattle.simm_params.specs.SimmRules.declared.values.RangeKind.{RangeKind}
+use Rattle.simm_params.specs.SimmRules.declared.values.RangeKind.TheVariants as range_kind
+use Rattle.simm_params.specs.SimmRules.Sums.{first_some}
+use Rattle.simm_params.specs.SimmRules.Simm.{products, classes}
+use Rattle.simm_params.specs.SimmRules.Range.{above}
 use Rattle.factor_book.specs.declared.at.SideAt.{SideAt}
 use Rattle.factor_book.specs.declared.holding.Holding.{Holding}
 use Rattle.factor_book.specs.declared.place.BookSide.{BookSide}

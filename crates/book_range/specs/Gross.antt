@@ -1,11 +1,11 @@
 -- The gross size of a side of a class, by the factors that a book nets to.
 use Rattle.std.specs.Prelude.{List, ℤ, ◌*ℤ◌}
 use Rattle.std.specs.List.{AllByRecursion}
-use Rattle.simm_kinds.specs.declared.kinds.ProductClass.{ProductClass}
-use Rattle.simm_kinds.specs.declared.kinds.RiskClass.{RiskClass}
-use Rattle.simm_kinds.specs.declared.key.FactorKey.{FactorKey}
-use Rattle.simm_rules.specs.Params.{Params}
-use Rattle.simm_rules.specs.Sums.{total_by}
+use Rattle.simm_params.specs.SimmKinds.declared.kinds.ProductClass.{ProductClass}
+use Rattle.simm_params.specs.SimmKinds.declared.kinds.RiskClass.{RiskClass}
+use Rattle.simm_params.specs.SimmKinds.declared.key.FactorKey.{FactorKey}
+use Rattle.simm_params.specs.SimmRules.Params.{Params}
+use Rattle.simm_params.specs.SimmRules.Sums.{total_by}
 use Rattle.factor_book.specs.declared.at.SideAt.{SideAt}
 use Rattle.factor_book.specs.declared.holding.Holding.{Holding}
 use Rattle.factor_book.specs.declared.place.BookSide.{BookSide}

@@ -1,17 +1,17 @@
 -- How the factors of a place weigh: all alike where their class has buckets that files list, or each by its own rate.
 use Rattle.std.specs.Prelude.{Option, Some, None, ◌^◌, ◌≤◌, ⊤, ℤ, pos, unsigned_abs}
-use Rattle.simm_kinds.specs.declared.kinds.RiskClass.{RiskClass}
-use Rattle.simm_kinds.specs.declared.kinds.RiskClass.TheVariants as class
-use Rattle.simm_kinds.specs.declared.kinds.BucketId.{BucketId}
-use Rattle.simm_kinds.specs.declared.kinds.BucketId.TheVariants as id
-use Rattle.simm_kinds.specs.declared.bucket.Bucket.{Bucket}
-use Rattle.simm_kinds.specs.declared.bucket.Bucket.TheVariants as bucket
-use Rattle.simm_kinds.specs.declared.factor.Factor.{Factor}
-use Rattle.simm_kinds.specs.declared.factor.Factor.TheVariants as factor
-use Rattle.simm_rules.specs.Params.{Params}
-use Rattle.simm_rules.specs.Risks.{Curve, Inflation, Basis, Qualifying, Non_qualifying, Equities, Commodities}
-use Rattle.simm_rules.specs.Rates.{rate_weight}
-use Rattle.simm_rules.specs.ForeignExchange.{fx_weight, fx_sigma}
+use Rattle.simm_params.specs.SimmKinds.declared.kinds.RiskClass.{RiskClass}
+use Rattle.simm_params.specs.SimmKinds.declared.kinds.RiskClass.TheVariants as class
+use Rattle.simm_params.specs.SimmKinds.declared.kinds.BucketId.{BucketId}
+use Rattle.simm_params.specs.SimmKinds.declared.kinds.BucketId.TheVariants as id
+use Rattle.simm_params.specs.SimmKinds.declared.bucket.Bucket.{Bucket}
+use Rattle.simm_params.specs.SimmKinds.declared.bucket.Bucket.TheVariants as bucket
+use Rattle.simm_params.specs.SimmKinds.declared.factor.Factor.{Factor}
+use Rattle.simm_params.specs.SimmKinds.declared.factor.Factor.TheVariants as factor
+use Rattle.simm_params.specs.SimmRules.Params.{Params}
+use Rattle.simm_params.specs.SimmRules.Risks.{Curve, Inflation, Basis, Qualifying, Non_qualifying, Equities, Commodities}
+use Rattle.simm_params.specs.SimmRules.Rates.{rate_weight}
+use Rattle.simm_params.specs.SimmRules.ForeignExchange.{fx_weight, fx_sigma}
 use Rattle.factor_book.specs.declared.place.BookSide.{BookSide}
 use Rattle.factor_book.specs.declared.place.BookSide.TheVariants as side
 use Rattle.book_range.specs.declared.weighing.Weighing.{Weighing}

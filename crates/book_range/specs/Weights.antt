@@ -1,16 +1,16 @@
 -- What the amounts to a factor weigh in the gross sizes of a book, in ten-thousandths: its risk weight on the delta side, its
 -- volatility on the other. A bucket that the file doesn't list weighs nothing.
 use Rattle.std.specs.Prelude.{Option, Some, None, ℤ, pos}
-use Rattle.simm_kinds.specs.declared.bucket.Bucket.{Bucket}
-use Rattle.simm_kinds.specs.declared.bucket.Bucket.TheVariants as bucket
-use Rattle.simm_kinds.specs.declared.factor.Factor.{Factor}
-use Rattle.simm_kinds.specs.declared.factor.Factor.TheVariants as factor
-use Rattle.simm_rules.specs.Params.{Params}
-use Rattle.simm_rules.specs.Risks.{Curve, Inflation, Basis, CreditClass, Qualifying, Non_qualifying, PricedClass, Equities, Commodities}
-use Rattle.simm_rules.specs.Rates.{rate_weight}
-use Rattle.simm_rules.specs.Credit.{credit_params}
-use Rattle.simm_rules.specs.Priced.{priced_params}
-use Rattle.simm_rules.specs.ForeignExchange.{fx_weight, fx_sigma}
+use Rattle.simm_params.specs.SimmKinds.declared.bucket.Bucket.{Bucket}
+use Rattle.simm_params.specs.SimmKinds.declared.bucket.Bucket.TheVariants as bucket
+use Rattle.simm_params.specs.SimmKinds.declared.factor.Factor.{Factor}
+use Rattle.simm_params.specs.SimmKinds.declared.factor.Factor.TheVariants as factor
+use Rattle.simm_params.specs.SimmRules.Params.{Params}
+use Rattle.simm_params.specs.SimmRules.Risks.{Curve, Inflation, Basis, CreditClass, Qualifying, Non_qualifying, PricedClass, Equities, Commodities}
+use Rattle.simm_params.specs.SimmRules.Rates.{rate_weight}
+use Rattle.simm_params.specs.SimmRules.Credit.{credit_params}
+use Rattle.simm_params.specs.SimmRules.Priced.{priced_params}
+use Rattle.simm_params.specs.SimmRules.ForeignExchange.{fx_weight, fx_sigma}
 use Rattle.simm_params.specs.ListedBuckets.{credit_bucket_of, priced_bucket_of}
 
 -- the rate of a bucket, where it is listed

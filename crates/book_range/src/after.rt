@@ -1,9 +1,9 @@
 //! The range of a book after a batch, whose rows came, and before the rows that they replace are taken.
 ghost use Rattle.std.specs.Prelude.{◌≡◌, ◌∷◌, [], List, length, is_some};
-ghost use Rattle.simm_kinds.specs.declared.key.FactorKey.{FactorKey};
-ghost use Rattle.simm_kinds.specs.declared.row.CrifRow.{CrifRow as Row};
-ghost use Rattle.simm_kinds.specs.Batch.{rows_of};
-ghost use Rattle.simm_rules.specs.Range.{range};
+ghost use Rattle.simm_params.specs.SimmKinds.declared.key.FactorKey.{FactorKey};
+ghost use Rattle.simm_params.specs.SimmKinds.declared.row.CrifRow.{CrifRow as Row};
+ghost use Rattle.simm_params.specs.SimmKinds.Batch.{rows_of};
+ghost use Rattle.simm_params.specs.SimmRules.Range.{range};
 ghost use Rattle.factor_book.specs.declared.holding.Holding.{Holding};
 ghost use Rattle.factor_book.specs.Factors.{IsWithout};
 ghost use Rattle.book_range.specs.After.{AreFewElsewhere, IsAfter};
@@ -13,9 +13,9 @@ ghost use Rattle.book_range.specs.Firsts.{fault_at, fault_of, earlier as earlier
 use crate::faults::{bucket_fault, count_fault, gross_fault};
 use crate::sizes::GrossSizes;
 use factor_book::{Factors, Place};
-use simm_kinds::{CrifRow, TradeRows};
 use simm_params::Params;
-use simm_rules::RangeFault;
+use simm_params::simm_kinds::{CrifRow, TradeRows};
+use simm_params::simm_rules::RangeFault;
 
 /// The first quantity that is above its limit, of the book that is left of `factors` without the rows of `leaving`: it has that
 /// many rows and these sizes, and of its buckets only those in which a row of `came` lies can have too many keys. `None` of a

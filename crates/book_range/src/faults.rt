@@ -1,13 +1,13 @@
 //! The quantities of a book beside their limits.
 ghost use Rattle.std.specs.Prelude.{◌≡◌};
-ghost use Rattle.simm_rules.specs.Range.{above as above_of};
+ghost use Rattle.simm_params.specs.SimmRules.Range.{above as above_of};
 ghost use Rattle.book_range.specs.Faults.{count_fault, bucket_fault, gross_kind, size_fault, product_fault, side_fault, gross_fault};
 
 use crate::sizes::GrossSizes;
 use factor_book::{BookSide, SideAt};
-use mh_units::div_up;
-use simm_kinds::{ProductClass, RiskClass};
-use simm_rules::{RangeFault, RangeKind};
+use simm_params::mh_units::div_up;
+use simm_params::simm_kinds::{ProductClass, RiskClass};
+use simm_params::simm_rules::{RangeFault, RangeKind};
 
 /// The most rows of a book.
 const MOST_ROWS: i128 = 200_000;

@@ -8,9 +8,9 @@ ghost use Rattle.book_range.specs.Sizes.{side_sizes, class_sizes, sizes_in};
 use crate::sizes::{ClassSizes, GrossSizes, SideSizes};
 use crate::weighing::Weighing;
 use factor_book::{BookSide, Factors, Place, PlaceFactors, SideAt};
-use mh_units::Rate4;
-use simm_kinds::{ProductClass, RiskClass};
 use simm_params::Params;
+use simm_params::mh_units::Rate4;
+use simm_params::simm_kinds::{ProductClass, RiskClass};
 
 /// The gross sizes of the factors of a book.
 pub fn gross_sizes(params: &Params, factors: &Factors) -> GrossSizes

@@ -1,10 +1,10 @@
 //! What a book in range keeps, and what the range of a book depends on.
 ghost use Rattle.std.specs.Prelude.{◌≡◌, ◌++◌, List, None, Bool, IsPermutation};
 ghost use Rattle.std.specs.List.{filter};
-ghost use Rattle.simm_kinds.specs.declared.row.CrifRow.{CrifRow as Row};
-ghost use Rattle.simm_kinds.specs.declared.row.TradeRows.{TradeRows as Trade};
-ghost use Rattle.simm_kinds.specs.Batch.{rows_of};
-ghost use Rattle.simm_rules.specs.Range.{range};
+ghost use Rattle.simm_params.specs.SimmKinds.declared.row.CrifRow.{CrifRow as Row};
+ghost use Rattle.simm_params.specs.SimmKinds.declared.row.TradeRows.{TradeRows as Trade};
+ghost use Rattle.simm_params.specs.SimmKinds.Batch.{rows_of};
+ghost use Rattle.simm_params.specs.SimmRules.Range.{range};
 ghost use Rattle.factor_book.specs.Factors.{factors_of};
 ghost use Rattle.book_range.specs.After.{AreFewElsewhere};
 ghost use Rattle.book_range.specs.Bounded.{IsBounded};

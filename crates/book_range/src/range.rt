@@ -1,7 +1,7 @@
 //! The first quantity of a book that is above its limit.
 ghost use Rattle.std.specs.Prelude.{◌≡◌, ◌≤◌, List, length};
-ghost use Rattle.simm_kinds.specs.declared.row.CrifRow.{CrifRow as Row};
-ghost use Rattle.simm_rules.specs.Range.{range};
+ghost use Rattle.simm_params.specs.SimmKinds.declared.row.CrifRow.{CrifRow as Row};
+ghost use Rattle.simm_params.specs.SimmRules.Range.{range};
 ghost use Rattle.factor_book.specs.Factors.{factors_of};
 ghost use Rattle.book_range.specs.Faults.{AreOf, keys_fault};
 
@@ -9,7 +9,7 @@ use crate::faults::{bucket_fault, count_fault, gross_fault};
 use crate::gross::gross_sizes;
 use factor_book::Factors;
 use simm_params::Params;
-use simm_rules::RangeFault;
+use simm_params::simm_rules::RangeFault;
 
 /// The first quantity that is above its limit, of a book of that many rows that nets to these factors; `None` of a book in
 /// range. It takes no memory.

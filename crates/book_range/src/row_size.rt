@@ -1,6 +1,6 @@
 //! What a row weighs in gross sizes.
 ghost use Rattle.std.specs.Prelude.{◌≡◌, ◌*◌, ◌^◌, ◌≤◌, true, IfSome, pos, ◌*ℤ◌, unsigned_abs};
-ghost use Rattle.simm_kinds.specs.Batch.{is_in_range};
+ghost use Rattle.simm_params.specs.SimmKinds.Batch.{is_in_range};
 ghost use Rattle.factor_book.specs.declared.at.SideAt.{SideAt as Side};
 ghost use Rattle.factor_book.specs.Place.{place_of};
 ghost use Rattle.book_range.specs.Sizes.{side_of_place, row_size, weighed_at};
@@ -9,9 +9,9 @@ ghost use Rattle.book_range.specs.Weights.{factor_weight};
 use crate::gross::weigh_size;
 use crate::weighing::Weighing;
 use factor_book::{Place, SideAt};
-use mh_units::Cents;
-use simm_kinds::{CrifRow, FactorKey};
 use simm_params::Params;
+use simm_params::mh_units::Cents;
+use simm_params::simm_kinds::{CrifRow, FactorKey};
 
 /// What a sensitivity weighs, and on which side.
 #[derive(Clone, Copy)]

@@ -2,16 +2,16 @@
 ghost use Rattle.std.specs.Prelude.{◌≡◌, ℕ, ◌+◌, ◌*◌, ◌^◌, ◌≤◌, ◌++◌, List, [], length, true, FitsSigned, ◌+ℤ◌, unsigned_abs};
 ghost use Rattle.std.specs.Int.{w128};
 ghost use Rattle.std.specs.List.{list_all};
-ghost use Rattle.simm_kinds.specs.declared.row.CrifRow.{CrifRow as Row};
-ghost use Rattle.simm_kinds.specs.Batch.{is_in_range};
-ghost use Rattle.simm_rules.specs.Params.{Params as Rules};
+ghost use Rattle.simm_params.specs.SimmKinds.declared.row.CrifRow.{CrifRow as Row};
+ghost use Rattle.simm_params.specs.SimmKinds.Batch.{is_in_range};
+ghost use Rattle.simm_params.specs.SimmRules.Params.{Params as Rules};
 ghost use Rattle.factor_book.specs.Factors.{factors_of};
 ghost use Rattle.book_range.specs.Sizes.{side_part, class_part, product_part, size_at, side_grown, class_grown, grown, sizes_in, HasSizeRoom, AreSized};
 
 use crate::row_size::row_size;
 use factor_book::{BookSide, SideAt};
-use simm_kinds::{CrifRow, ProductClass, RiskClass};
 use simm_params::Params;
+use simm_params::simm_kinds::{CrifRow, ProductClass, RiskClass};
 
 /// The gross sizes of the sides of a risk class, in ten-thousandths of a cent.
 #[derive(Clone, Copy)]

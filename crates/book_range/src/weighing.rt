@@ -1,14 +1,14 @@
 //! How the factors of a place weigh.
 ghost use Rattle.std.specs.Prelude.{◌≡◌, ◌^◌, ◌≤◌, unsigned_abs};
-ghost use Rattle.simm_kinds.specs.declared.factor.Factor.{Factor};
+ghost use Rattle.simm_params.specs.SimmKinds.declared.factor.Factor.{Factor};
 ghost use Rattle.book_range.specs.Weighing.{qualifying_weight, weight_in, weight_at, IsLow};
 
 use crate::weight::{
     ONE, credit_volatility, credit_weight, own_weight, price_volatility, price_weight,
 };
 use factor_book::{BookSide, Place};
-use mh_units::Rate4;
-use simm_kinds::{BucketId, Factor, RiskClass};
+use simm_params::mh_units::Rate4;
+use simm_params::simm_kinds::{BucketId, Factor, RiskClass};
 use simm_params::{CreditKind, Params, PricedKind};
 
 /// How the factors of a place weigh, in ten-thousandths: by risk weights, or on the side of volatilities by these, of which

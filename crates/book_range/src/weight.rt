@@ -1,12 +1,12 @@
 //! What the amounts to a factor weigh in gross sizes.
 ghost use Rattle.std.specs.Prelude.{◌≡◌, ◌^◌, ◌≤◌, unsigned_abs};
-ghost use Rattle.simm_rules.specs.ForeignExchange.{fx_weight, fx_sigma};
+ghost use Rattle.simm_params.specs.SimmRules.ForeignExchange.{fx_weight, fx_sigma};
 ghost use Rattle.simm_params.specs.ClassKinds.{credit_class, priced_class};
 ghost use Rattle.book_range.specs.Weights.{credit_weight, credit_volatility, price_weight, price_volatility};
 ghost use Rattle.book_range.specs.Weighing.{own_weight, listed_id, bucket_weight};
 
-use mh_units::Rate4;
-use simm_kinds::{Bucket, BucketId, Currency, CurrencyPair, Factor};
+use simm_params::mh_units::Rate4;
+use simm_params::simm_kinds::{Bucket, BucketId, Currency, CurrencyPair, Factor};
 use simm_params::{CreditKind, Params, PricedKind};
 
 /// A weight of 1.

@@ -6,13 +6,13 @@ use Rattle.std.proofs.lemmas.List.{length-append}
 use Rattle.std.proofs.lemmas.List.Elements.{filter-append}
 use Rattle.std.proofs.lemmas.List.Sorted.{sum_by-IsPermutation}
 use Rattle.std.proofs.lemmas.List.Sums.{sum_by-cons}
-use Rattle.simm_kinds.specs.declared.row.CrifRow.{CrifRow}
-use Rattle.simm_kinds.specs.Order.{same_name}
-use Rattle.simm_rules.specs.Risks.{Amount}
-use Rattle.simm_rules.specs.Sums.{total_by}
-use Rattle.simm_rules.specs.AddOns.{fixed_amount, fixed_amounts, notional, notional_of}
-use Rattle.factor_book.proofs.Sums.{total_by-append, total_by-IsPermutation}
-use Rattle.class_combine.specs.Sums.{count_of, sums_of}
+use Rattle.book_margin.specs.SimmKinds.declared.row.CrifRow.{CrifRow}
+use Rattle.book_margin.specs.SimmKinds.Order.{same_name}
+use Rattle.book_margin.specs.SimmRules.Risks.{Amount}
+use Rattle.book_margin.specs.SimmRules.Sums.{total_by}
+use Rattle.book_margin.specs.SimmRules.AddOns.{fixed_amount, fixed_amounts, notional, notional_of}
+use Rattle.book_margin.proofs.FactorBook.Sums.{total_by-append, total_by-IsPermutation}
+use Rattle.book_margin.specs.ClassCombine.Sums.{count_of, sums_of}
 use Rattle.bucket_cache.proofs.Exchanges.{AddOnsMove}
 
 module _ (name : List ℕ) where

@@ -1,14 +1,14 @@
 -- A batch that is a book of its own.
 use Rattle.std.proofs.Common.{◌≡◌, ◌∙◌, ◌<◌, ◌+◌, ◌^◌, ℕ, suc, List, [], ◌∷◌, length, drop, get_or, find, Some, option_map, Bool, true, cond, None, ap, sym, refl, arith, add-one, drop-cons}
 use Rattle.std.specs.List.{list_all, flat_map}
-use Rattle.simm_kinds.specs.declared.row.CrifRow.{CrifRow}
-use Rattle.simm_kinds.specs.declared.row.TradeRows.{TradeRows}
-use Rattle.simm_kinds.specs.Batch.{rows_of, is_in_range, IsBatch}
-use Rattle.simm_kinds.specs.Order.{same_name}
-use Rattle.simm_rules.specs.Params.{Params}
-use Rattle.simm_rules.specs.AddOns.{multiplier, notional_factor}
-use Rattle.simm_rules.specs.Admits.{admits}
-use Rattle.simm_rules.specs.Range.{range}
+use Rattle.book_margin.specs.SimmKinds.declared.row.CrifRow.{CrifRow}
+use Rattle.book_margin.specs.SimmKinds.declared.row.TradeRows.{TradeRows}
+use Rattle.book_margin.specs.SimmKinds.Batch.{rows_of, is_in_range, IsBatch}
+use Rattle.book_margin.specs.SimmKinds.Order.{same_name}
+use Rattle.book_margin.specs.SimmRules.Params.{Params}
+use Rattle.book_margin.specs.SimmRules.AddOns.{multiplier, notional_factor}
+use Rattle.book_margin.specs.SimmRules.Admits.{admits}
+use Rattle.book_margin.specs.SimmRules.Range.{range}
 use Rattle.bucket_cache.specs.Live.{rows_or_none, rows_in}
 use Rattle.bucket_cache.specs.Sums.{book_sums}
 use Rattle.bucket_cache.specs.Held.{IsMarginBook}

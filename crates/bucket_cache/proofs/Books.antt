@@ -3,7 +3,7 @@ use Rattle.std.proofs.Common.{◌≡◌, ℕ, zero, suc, ◌<◌, List, [], ◌�
 use Rattle.std.specs.List.{list_all}
 use Rattle.std.proofs.lemmas.Bool.{and_parts}
 use Rattle.std.proofs.lemmas.List.Folds.{list_all-append}
-use Rattle.simm_kinds.specs.declared.row.CrifRow.{CrifRow}
+use Rattle.book_margin.specs.SimmKinds.declared.row.CrifRow.{CrifRow}
 use Rattle.bucket_cache.specs.declared.lent.LentRows.{LentRows}
 use Rattle.bucket_cache.specs.Lent.{all_rows}
 

@@ -6,24 +6,24 @@ use Rattle.std.specs.List.Sorted.{IsPermutation}
 use Rattle.std.proofs.lemmas.List.{length-append}
 use Rattle.std.proofs.lemmas.List.Folds.{list_any-append}
 use Rattle.std.proofs.lemmas.List.Sorted.{length_permutation, list_any-IsPermutation}
-use Rattle.simm_kinds.specs.declared.key.FactorKey.{FactorKey}
-use Rattle.simm_kinds.specs.declared.row.CrifRow.{CrifRow}
-use Rattle.simm_kinds.specs.declared.row.TradeRows.{TradeRows}
-use Rattle.simm_kinds.specs.Batch.{rows_of, is_in_range, IsBatch}
-use Rattle.simm_kinds.specs.Order.{same_name}
-use Rattle.simm_kinds.specs.Repeats.{repeats}
-use Rattle.simm_rules.specs.Params.{Params}
-use Rattle.simm_rules.specs.Net.{Sensitivity, sensitivity, sensitivities}
-use Rattle.simm_rules.specs.Range.{range}
-use Rattle.factor_book.specs.declared.holding.Holding.{Holding}
-use Rattle.factor_book.specs.Factors.{factors_of}
-use Rattle.factor_book.specs.Places.{stands_at}
-use Rattle.class_combine.specs.Sums.{sums_of}
-use Rattle.book_range.specs.declared.sizes.GrossSizes.{GrossSizes}
-use Rattle.book_range.specs.Sizes.{sizes_in}
-use Rattle.book_range.specs.After.{AreFewElsewhere, IsAfter}
-use Rattle.kept_buckets.specs.Kept.{Kept, value_at, margin_at}
-use Rattle.kept_buckets.specs.Touched.{has_key, is_of_class, Forgets, SameElsewhere}
+use Rattle.book_margin.specs.SimmKinds.declared.key.FactorKey.{FactorKey}
+use Rattle.book_margin.specs.SimmKinds.declared.row.CrifRow.{CrifRow}
+use Rattle.book_margin.specs.SimmKinds.declared.row.TradeRows.{TradeRows}
+use Rattle.book_margin.specs.SimmKinds.Batch.{rows_of, is_in_range, IsBatch}
+use Rattle.book_margin.specs.SimmKinds.Order.{same_name}
+use Rattle.book_margin.specs.SimmKinds.Repeats.{repeats}
+use Rattle.book_margin.specs.SimmRules.Params.{Params}
+use Rattle.book_margin.specs.SimmRules.Net.{Sensitivity, sensitivity, sensitivities}
+use Rattle.book_margin.specs.SimmRules.Range.{range}
+use Rattle.book_margin.specs.FactorBook.declared.holding.Holding.{Holding}
+use Rattle.book_margin.specs.FactorBook.Factors.{factors_of}
+use Rattle.book_margin.specs.FactorBook.Places.{stands_at}
+use Rattle.book_margin.specs.ClassCombine.Sums.{sums_of}
+use Rattle.book_margin.specs.BookRange.declared.sizes.GrossSizes.{GrossSizes}
+use Rattle.book_margin.specs.BookRange.Sizes.{sizes_in}
+use Rattle.book_margin.specs.BookRange.After.{AreFewElsewhere, IsAfter}
+use Rattle.book_margin.specs.KeptBuckets.Kept.{Kept, value_at, margin_at}
+use Rattle.book_margin.specs.KeptBuckets.Touched.{has_key, is_of_class, Forgets, SameElsewhere}
 use Rattle.book_margin.specs.Right.{AreRight}
 use Rattle.bucket_cache.specs.declared.sums.Sums.{Sums}
 use Rattle.bucket_cache.specs.Entries.{names_of, lent_names}

@@ -5,13 +5,13 @@ use Rattle.std.proofs.lemmas.Bool.{and_parts, and_from}
 use Rattle.std.proofs.lemmas.Grind.{flat_map-append}
 use Rattle.std.proofs.lemmas.List.{length-append, take_more, take_all, drop_all}
 use Rattle.std.proofs.lemmas.List.Folds.{list_all-append}
-use Rattle.simm_kinds.specs.declared.row.CrifRow.{CrifRow}
-use Rattle.simm_kinds.specs.Batch.{is_in_range}
-use Rattle.simm_rules.specs.Params.{Params}
-use Rattle.factor_book.specs.Factors.{factors_of}
-use Rattle.class_combine.specs.Sums.{sums_of}
-use Rattle.book_range.specs.declared.sizes.GrossSizes.{GrossSizes}
-use Rattle.book_range.specs.Sizes.{sizes_in, AreSized}
+use Rattle.book_margin.specs.SimmKinds.declared.row.CrifRow.{CrifRow}
+use Rattle.book_margin.specs.SimmKinds.Batch.{is_in_range}
+use Rattle.book_margin.specs.SimmRules.Params.{Params}
+use Rattle.book_margin.specs.FactorBook.Factors.{factors_of}
+use Rattle.book_margin.specs.ClassCombine.Sums.{sums_of}
+use Rattle.book_margin.specs.BookRange.declared.sizes.GrossSizes.{GrossSizes}
+use Rattle.book_margin.specs.BookRange.Sizes.{sizes_in, AreSized}
 use Rattle.bucket_cache.specs.declared.lent.LentRows.{LentRows}
 use Rattle.bucket_cache.specs.declared.sums.Sums.{Sums}
 use Rattle.bucket_cache.specs.Entries.{lent_lists}

@@ -1,7 +1,7 @@
 -- The rows of the trades of a batch, by their places.
 use Rattle.std.proofs.Common.{◌≡◌, ℕ, ◌+◌, ◌<◌, List, [], ◌∷◌, ◌++◌, length, get_or, take, zero, suc, sym, ap, ◌∙◌, arith}
 use Rattle.std.proofs.lemmas.List.{take_more, map-append}
-use Rattle.simm_kinds.specs.declared.row.TradeRows.{TradeRows}
+use Rattle.book_margin.specs.SimmKinds.declared.row.TradeRows.{TradeRows}
 use Rattle.bucket_cache.specs.declared.held_rows.HeldTrade.{HeldTrade}
 use Rattle.bucket_cache.specs.RowsAt.{rows_at}
 use Rattle.bucket_cache.specs.Entries.{held_trade, held_trades}

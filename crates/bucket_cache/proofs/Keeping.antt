@@ -1,17 +1,17 @@
 -- What a live margin keeps stays its book's.
 use Rattle.std.proofs.Common.{◌≡◌, ◌∙◌, ℕ, List, [], Bool, true, true≢false, Option, Some, None, IfSome, IfNone, OnSome, sym, ap, subst, is_some}
 use Rattle.std.specs.List.{list_all, flat_map}
-use Rattle.simm_kinds.specs.declared.row.CrifRow.{CrifRow}
-use Rattle.simm_kinds.specs.declared.row.TradeRows.{TradeRows}
-use Rattle.simm_kinds.specs.Batch.{rows_of, is_in_range, IsBatch}
-use Rattle.simm_rules.specs.declared.values.Breakdown.{Breakdown}
-use Rattle.simm_rules.specs.Params.{Params}
-use Rattle.simm_rules.specs.AddOns.{multiplier, notional_factor}
-use Rattle.simm_rules.specs.Range.{range}
-use Rattle.factor_book.specs.Factors.{factors_of}
-use Rattle.class_combine.specs.Sums.{AreOfBook, StandFor}
-use Rattle.book_range.specs.Bounded.{IsBounded, IsMarginable}
-use Rattle.kept_buckets.specs.Kept.{Kept}
+use Rattle.book_margin.specs.SimmKinds.declared.row.CrifRow.{CrifRow}
+use Rattle.book_margin.specs.SimmKinds.declared.row.TradeRows.{TradeRows}
+use Rattle.book_margin.specs.SimmKinds.Batch.{rows_of, is_in_range, IsBatch}
+use Rattle.book_margin.specs.SimmRules.declared.values.Breakdown.{Breakdown}
+use Rattle.book_margin.specs.SimmRules.Params.{Params}
+use Rattle.book_margin.specs.SimmRules.AddOns.{multiplier, notional_factor}
+use Rattle.book_margin.specs.SimmRules.Range.{range}
+use Rattle.book_margin.specs.FactorBook.Factors.{factors_of}
+use Rattle.book_margin.specs.ClassCombine.Sums.{AreOfBook, StandFor}
+use Rattle.book_margin.specs.BookRange.Bounded.{IsBounded, IsMarginable}
+use Rattle.book_margin.specs.KeptBuckets.Kept.{Kept}
 use Rattle.book_margin.specs.Right.{AreRight, Renews}
 use Rattle.bucket_cache.specs.declared.sums.Sums.{Sums}
 use Rattle.bucket_cache.specs.Entries.{trades_of}

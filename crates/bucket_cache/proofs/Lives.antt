@@ -3,15 +3,15 @@ use Rattle.std.proofs.Common.{◌≡◌, ℕ, ◌<◌, ◌≤◌, List, [], ◌�
 use Rattle.std.specs.List.{list_all, list_any, filter, flat_map}
 use Rattle.std.proofs.lemmas.Bool.{or_parts, or_from, and_parts, and_from, ltb-false}
 use Rattle.std.proofs.lemmas.List.Folds.{length-flat_map-take}
-use Rattle.simm_kinds.specs.declared.fault.MakeFault.TheVariants as fault
-use Rattle.simm_kinds.specs.declared.row.CrifRow.{CrifRow}
-use Rattle.simm_kinds.specs.declared.row.TradeRows.{TradeRows}
-use Rattle.simm_kinds.specs.Batch.{rows_of, IsBatch, has_repeats, is_misplaced, is_in_range, factor_names, multiplied}
-use Rattle.simm_kinds.specs.Order.{same_name, same_product}
-use Rattle.simm_kinds.specs.Repeats.{repeats}
-use Rattle.simm_rules.specs.Params.{Params}
-use Rattle.simm_rules.specs.Admits.{admits}
-use Rattle.simm_rules.specs.Range.{range}
+use Rattle.book_margin.specs.SimmKinds.declared.fault.MakeFault.TheVariants as fault
+use Rattle.book_margin.specs.SimmKinds.declared.row.CrifRow.{CrifRow}
+use Rattle.book_margin.specs.SimmKinds.declared.row.TradeRows.{TradeRows}
+use Rattle.book_margin.specs.SimmKinds.Batch.{rows_of, IsBatch, has_repeats, is_misplaced, is_in_range, factor_names, multiplied}
+use Rattle.book_margin.specs.SimmKinds.Order.{same_name, same_product}
+use Rattle.book_margin.specs.SimmKinds.Repeats.{repeats}
+use Rattle.book_margin.specs.SimmRules.Params.{Params}
+use Rattle.book_margin.specs.SimmRules.Admits.{admits}
+use Rattle.book_margin.specs.SimmRules.Range.{range}
 use Rattle.bucket_cache.specs.Live.{put_trades, without, first_unadmitted, has_factors_once, IsLive}
 use Rattle.bucket_cache.specs.Entries.{names_of, trade_of, trades_of}
 use Rattle.bucket_cache.proofs.Parameters.{each_once, factors_once}

@@ -5,14 +5,14 @@ use Rattle.std.proofs.Math.Dec.{eqb-suc-zero}
 use Rattle.std.proofs.lemmas.Bool.{or_parts, and_parts, and_from, false_from_ne_true}
 use Rattle.std.proofs.lemmas.Grind.{flat_map-append}
 use Rattle.std.proofs.lemmas.List.Folds.{list_all-append}
-use Rattle.simm_kinds.specs.declared.row.CrifRow.{CrifRow}
-use Rattle.simm_kinds.specs.declared.row.CrifRow.TheVariants as row
-use Rattle.simm_kinds.specs.declared.row.TradeRows.{TradeRows}
-use Rattle.simm_kinds.specs.Batch.{rows_of, factor_names, is_param, is_misplaced}
-use Rattle.simm_kinds.specs.Order.{same_name}
-use Rattle.simm_kinds.specs.Repeats.{repeats}
-use Rattle.simm_kinds.proofs.Repeated.{repeats_front}
-use Rattle.simm_rules.specs.AddOns.{multiplier, notional_factor}
+use Rattle.book_margin.specs.SimmKinds.declared.row.CrifRow.{CrifRow}
+use Rattle.book_margin.specs.SimmKinds.declared.row.CrifRow.TheVariants as row
+use Rattle.book_margin.specs.SimmKinds.declared.row.TradeRows.{TradeRows}
+use Rattle.book_margin.specs.SimmKinds.Batch.{rows_of, factor_names, is_param, is_misplaced}
+use Rattle.book_margin.specs.SimmKinds.Order.{same_name}
+use Rattle.book_margin.specs.SimmKinds.Repeats.{repeats}
+use Rattle.book_margin.proofs.SimmKinds.Repeated.{repeats_front}
+use Rattle.book_margin.specs.SimmRules.AddOns.{multiplier, notional_factor}
 use Rattle.bucket_cache.specs.Live.{has_factors_once, rows_or_none, rows_in}
 use Rattle.bucket_cache.specs.Entries.{names_of}
 use Rattle.bucket_cache.proofs.Maps.{same_name-equal}

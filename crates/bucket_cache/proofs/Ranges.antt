@@ -2,22 +2,22 @@
 use Rattle.std.proofs.Common.{◌≡◌, ◌^◌, ℕ, ◌≤◌, List, [], ◌∷◌, ◌++◌, length, Bool, true, false, cond, Option, Some, None, refl, ap, ◌∙◌, ℤ, pos, ◌+ℤ◌, ◌≤ℤ◌, int_lt, arith}
 use Rattle.std.specs.List.{flat_map}
 use Rattle.std.proofs.lemmas.Int.{ints}
-use Rattle.mh_units.specs.Rounding.{up}
-use Rattle.simm_kinds.specs.declared.kinds.ProductClass.{ProductClass}
-use Rattle.simm_kinds.specs.declared.kinds.RiskClass.{RiskClass}
-use Rattle.simm_kinds.specs.declared.kinds.RiskClass.TheVariants as class
-use Rattle.simm_kinds.specs.declared.row.CrifRow.{CrifRow}
-use Rattle.simm_rules.specs.declared.values.RangeFault.{RangeFault}
-use Rattle.simm_rules.specs.declared.values.RangeKind.{RangeKind}
-use Rattle.simm_rules.specs.declared.values.RangeKind.TheVariants as range_kind
-use Rattle.simm_rules.specs.Params.{Params, CreditBucket, PricedBucket}
-use Rattle.simm_rules.specs.Sums.{total_by, first_some}
-use Rattle.simm_rules.specs.Risks.{CreditClass, Qualifying, Non_qualifying, PricedClass, Equities, Commodities, CreditPoint, select}
-use Rattle.simm_rules.specs.Credit.{as_credit, as_credit_volatility, credit_params}
-use Rattle.simm_rules.specs.Priced.{NameVolatility, as_price, as_price_volatility, priced_params}
-use Rattle.simm_rules.specs.Simm.{products, classes}
-use Rattle.simm_rules.specs.Gross.{size_by, credit_size, credit_volatility_size, price_size, price_volatility_size, delta_size, vega_size, delta_gross, vega_gross}
-use Rattle.simm_rules.specs.Range.{above, range}
+use Rattle.book_margin.specs.MhUnits.Rounding.{up}
+use Rattle.book_margin.specs.SimmKinds.declared.kinds.ProductClass.{ProductClass}
+use Rattle.book_margin.specs.SimmKinds.declared.kinds.RiskClass.{RiskClass}
+use Rattle.book_margin.specs.SimmKinds.declared.kinds.RiskClass.TheVariants as class
+use Rattle.book_margin.specs.SimmKinds.declared.row.CrifRow.{CrifRow}
+use Rattle.book_margin.specs.SimmRules.declared.values.RangeFault.{RangeFault}
+use Rattle.book_margin.specs.SimmRules.declared.values.RangeKind.{RangeKind}
+use Rattle.book_margin.specs.SimmRules.declared.values.RangeKind.TheVariants as range_kind
+use Rattle.book_margin.specs.SimmRules.Params.{Params, CreditBucket, PricedBucket}
+use Rattle.book_margin.specs.SimmRules.Sums.{total_by, first_some}
+use Rattle.book_margin.specs.SimmRules.Risks.{CreditClass, Qualifying, Non_qualifying, PricedClass, Equities, Commodities, CreditPoint, select}
+use Rattle.book_margin.specs.SimmRules.Credit.{as_credit, as_credit_volatility, credit_params}
+use Rattle.book_margin.specs.SimmRules.Priced.{NameVolatility, as_price, as_price_volatility, priced_params}
+use Rattle.book_margin.specs.SimmRules.Simm.{products, classes}
+use Rattle.book_margin.specs.SimmRules.Gross.{size_by, credit_size, credit_volatility_size, price_size, price_volatility_size, delta_size, vega_size, delta_gross, vega_gross}
+use Rattle.book_margin.specs.SimmRules.Range.{above, range}
 
 -- ---- the first of several answers
 

@@ -4,9 +4,9 @@ use Rattle.std.specs.List.{list_all}
 use Rattle.std.proofs.lemmas.Bool.{and_parts}
 use Rattle.std.proofs.lemmas.Bool.Decides.{nat_tests}
 use Rattle.std.proofs.lemmas.List.{length-append}
-use Rattle.simm_kinds.specs.declared.row.TradeRows.{TradeRows}
-use Rattle.simm_kinds.specs.Batch.{rows_of}
-use Rattle.simm_rules.specs.Params.{Params}
+use Rattle.book_margin.specs.SimmKinds.declared.row.TradeRows.{TradeRows}
+use Rattle.book_margin.specs.SimmKinds.Batch.{rows_of}
+use Rattle.book_margin.specs.SimmRules.Params.{Params}
 use Rattle.bucket_cache.specs.Live.{IsLive}
 use Rattle.bucket_cache.proofs.Ranges.{few_rows}
 

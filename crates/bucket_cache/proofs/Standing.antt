@@ -6,34 +6,34 @@ use Rattle.std.specs.BTreeMap.{is_at}
 use Rattle.std.specs.List.{filter, list_any}
 use Rattle.std.specs.Map.{lookup}
 use Rattle.std.proofs.lemmas.Bool.{true≢false, false≢true}
-use Rattle.simm_kinds.specs.declared.kinds.Measure.{Measure}
-use Rattle.simm_kinds.specs.declared.kinds.Measure.TheVariants as measure
-use Rattle.simm_kinds.specs.declared.key.FactorKey.{FactorKey}
-use Rattle.simm_kinds.specs.declared.row.CrifRow.{CrifRow}
-use Rattle.simm_kinds.specs.declared.row.TradeRows.{TradeRows}
-use Rattle.simm_kinds.specs.Batch.{rows_of}
-use Rattle.simm_kinds.specs.Order.{key_cmp}
-use Rattle.simm_rules.specs.declared.values.BucketMargin.{BucketMargin}
-use Rattle.simm_rules.specs.Net.{Sensitivity, sensitivities, keys_of}
-use Rattle.simm_rules.specs.Params.{Params}
-use Rattle.simm_rules.specs.Sums.{placed, put_in, different}
-use Rattle.factor_book.specs.declared.at.BucketAt.{BucketAt}
-use Rattle.factor_book.specs.declared.holding.Holding.{Holding}
-use Rattle.factor_book.specs.declared.place.BookSide.{BookSide}
-use Rattle.factor_book.specs.declared.place.BookSide.TheVariants as side
-use Rattle.factor_book.specs.declared.place.Place.{Place}
-use Rattle.factor_book.specs.Place.{place_cmp}
-use Rattle.factor_book.specs.Factors.{factor_of, factors_in, factors_of}
-use Rattle.factor_book.specs.Places.{stands_at, factors_at}
-use Rattle.factor_book.proofs.Grouping.{any_is}
-use Rattle.factor_book.proofs.Netting.{parts}
-use Rattle.factor_book.proofs.Standing.{own_place}
-use Rattle.kept_buckets.specs.declared.value.KeptValue.{KeptValue}
-use Rattle.kept_buckets.specs.declared.value.KeptValue.TheVariants as value
-use Rattle.kept_buckets.specs.declared.value.VolatilityMargins.{VolatilityMargins}
-use Rattle.kept_buckets.specs.Kept.{Kept, value_at}
-use Rattle.kept_buckets.specs.Cached.{place_on, is_measured, place_in, part_in, delta_in, volatility_in, cached_in}
-use Rattle.kept_buckets.specs.Touched.{lies_at, Forgets, SameElsewhere}
+use Rattle.book_margin.specs.SimmKinds.declared.kinds.Measure.{Measure}
+use Rattle.book_margin.specs.SimmKinds.declared.kinds.Measure.TheVariants as measure
+use Rattle.book_margin.specs.SimmKinds.declared.key.FactorKey.{FactorKey}
+use Rattle.book_margin.specs.SimmKinds.declared.row.CrifRow.{CrifRow}
+use Rattle.book_margin.specs.SimmKinds.declared.row.TradeRows.{TradeRows}
+use Rattle.book_margin.specs.SimmKinds.Batch.{rows_of}
+use Rattle.book_margin.specs.SimmKinds.Order.{key_cmp}
+use Rattle.book_margin.specs.SimmRules.declared.values.BucketMargin.{BucketMargin}
+use Rattle.book_margin.specs.SimmRules.Net.{Sensitivity, sensitivities, keys_of}
+use Rattle.book_margin.specs.SimmRules.Params.{Params}
+use Rattle.book_margin.specs.SimmRules.Sums.{placed, put_in, different}
+use Rattle.book_margin.specs.FactorBook.declared.at.BucketAt.{BucketAt}
+use Rattle.book_margin.specs.FactorBook.declared.holding.Holding.{Holding}
+use Rattle.book_margin.specs.FactorBook.declared.place.BookSide.{BookSide}
+use Rattle.book_margin.specs.FactorBook.declared.place.BookSide.TheVariants as side
+use Rattle.book_margin.specs.FactorBook.declared.place.Place.{Place}
+use Rattle.book_margin.specs.FactorBook.Place.{place_cmp}
+use Rattle.book_margin.specs.FactorBook.Factors.{factor_of, factors_in, factors_of}
+use Rattle.book_margin.specs.FactorBook.Places.{stands_at, factors_at}
+use Rattle.book_margin.proofs.FactorBook.Grouping.{any_is}
+use Rattle.book_margin.proofs.FactorBook.Netting.{parts}
+use Rattle.book_margin.proofs.FactorBook.Standing.{own_place}
+use Rattle.book_margin.specs.KeptBuckets.declared.value.KeptValue.{KeptValue}
+use Rattle.book_margin.specs.KeptBuckets.declared.value.KeptValue.TheVariants as value
+use Rattle.book_margin.specs.KeptBuckets.declared.value.VolatilityMargins.{VolatilityMargins}
+use Rattle.book_margin.specs.KeptBuckets.Kept.{Kept, value_at}
+use Rattle.book_margin.specs.KeptBuckets.Cached.{place_on, is_measured, place_in, part_in, delta_in, volatility_in, cached_in}
+use Rattle.book_margin.specs.KeptBuckets.Touched.{lies_at, Forgets, SameElsewhere}
 use Rattle.book_margin.specs.Right.{AreRight, IsFresh, Renews, IsRightDelta, IsRightVolatility}
 use Rattle.bucket_cache.specs.Live.{Live}
 use Rattle.bucket_cache.specs.Cached.{touches, is_cached, IsCached}

@@ -2,17 +2,17 @@
 use Rattle.std.specs.Prelude.{◌≡◌, ◌≢◌, List, [], Bool, true, ◌&&◌, is_some, IsSome}
 use Rattle.std.specs.Map.{lookup}
 use Rattle.std.specs.BTreeMap.{is_at}
-use Rattle.simm_kinds.specs.declared.kinds.Measure.{Measure}
-use Rattle.simm_kinds.specs.declared.row.CrifRow.{CrifRow}
-use Rattle.simm_kinds.specs.Batch.{rows_of}
-use Rattle.factor_book.specs.declared.at.BucketAt.{BucketAt}
-use Rattle.factor_book.specs.declared.place.Place.{Place}
-use Rattle.factor_book.specs.Factors.{factors_of}
-use Rattle.factor_book.specs.Place.{place_cmp}
-use Rattle.factor_book.specs.Places.{factors_at}
-use Rattle.kept_buckets.specs.declared.value.KeptValue.{KeptValue}
-use Rattle.kept_buckets.specs.Cached.{is_measured, place_in, part_in, cached_in}
-use Rattle.kept_buckets.specs.Touched.{lies_at}
+use Rattle.book_margin.specs.SimmKinds.declared.kinds.Measure.{Measure}
+use Rattle.book_margin.specs.SimmKinds.declared.row.CrifRow.{CrifRow}
+use Rattle.book_margin.specs.SimmKinds.Batch.{rows_of}
+use Rattle.book_margin.specs.FactorBook.declared.at.BucketAt.{BucketAt}
+use Rattle.book_margin.specs.FactorBook.declared.place.Place.{Place}
+use Rattle.book_margin.specs.FactorBook.Factors.{factors_of}
+use Rattle.book_margin.specs.FactorBook.Place.{place_cmp}
+use Rattle.book_margin.specs.FactorBook.Places.{factors_at}
+use Rattle.book_margin.specs.KeptBuckets.declared.value.KeptValue.{KeptValue}
+use Rattle.book_margin.specs.KeptBuckets.Cached.{is_measured, place_in, part_in, cached_in}
+use Rattle.book_margin.specs.KeptBuckets.Touched.{lies_at}
 use Rattle.bucket_cache.specs.Live.{Live}
 
 -- one of the rows lies in the bucket in a measure that it has; one of a volatility in vega and in curvature

@@ -2,9 +2,9 @@
 use Rattle.std.specs.Prelude.{ℕ, List, map, Bool}
 use denote.Bor.{Bor}
 use Rattle.std.specs.List.{list_any}
-use Rattle.simm_kinds.specs.declared.row.CrifRow.{CrifRow}
-use Rattle.simm_kinds.specs.declared.row.TradeRows.{TradeRows}
-use Rattle.simm_kinds.specs.Order.{same_name}
+use Rattle.book_margin.specs.SimmKinds.declared.row.CrifRow.{CrifRow}
+use Rattle.book_margin.specs.SimmKinds.declared.row.TradeRows.{TradeRows}
+use Rattle.book_margin.specs.SimmKinds.Order.{same_name}
 use Rattle.bucket_cache.specs.declared.lent.LentRows.{LentRows}
 use Rattle.bucket_cache.specs.declared.held_rows.HeldTrade.{HeldTrade}
 

@@ -1,21 +1,21 @@
 -- What a live margin keeps beside its trades.
 use Rattle.std.specs.Prelude.{◌≡◌, List, Option, None, IfSome, true, false}
 use Rattle.std.specs.List.{list_all, flat_map}
-use Rattle.simm_kinds.specs.declared.row.CrifRow.{CrifRow}
-use Rattle.simm_kinds.specs.declared.row.TradeRows.{TradeRows}
-use Rattle.simm_kinds.specs.Batch.{rows_of, factor_names, is_in_range}
-use Rattle.simm_kinds.specs.Order.{same_name}
-use Rattle.simm_kinds.specs.Repeats.{repeats}
-use Rattle.simm_rules.specs.declared.values.Breakdown.{Breakdown}
-use Rattle.simm_rules.specs.Params.{Params}
-use Rattle.simm_rules.specs.AddOns.{multiplier, notional_factor}
-use Rattle.simm_rules.specs.Admits.{admits}
-use Rattle.simm_rules.specs.Range.{range}
-use Rattle.simm_rules.specs.Simm.{simm}
-use Rattle.factor_book.specs.Factors.{factors_of}
-use Rattle.kept_buckets.specs.Kept.{Kept}
-use Rattle.kept_buckets.specs.Touched.{Forgets, SameElsewhere}
-use Rattle.class_combine.specs.Whole.{IsTotal}
+use Rattle.book_margin.specs.SimmKinds.declared.row.CrifRow.{CrifRow}
+use Rattle.book_margin.specs.SimmKinds.declared.row.TradeRows.{TradeRows}
+use Rattle.book_margin.specs.SimmKinds.Batch.{rows_of, factor_names, is_in_range}
+use Rattle.book_margin.specs.SimmKinds.Order.{same_name}
+use Rattle.book_margin.specs.SimmKinds.Repeats.{repeats}
+use Rattle.book_margin.specs.SimmRules.declared.values.Breakdown.{Breakdown}
+use Rattle.book_margin.specs.SimmRules.Params.{Params}
+use Rattle.book_margin.specs.SimmRules.AddOns.{multiplier, notional_factor}
+use Rattle.book_margin.specs.SimmRules.Admits.{admits}
+use Rattle.book_margin.specs.SimmRules.Range.{range}
+use Rattle.book_margin.specs.SimmRules.Simm.{simm}
+use Rattle.book_margin.specs.FactorBook.Factors.{factors_of}
+use Rattle.book_margin.specs.KeptBuckets.Kept.{Kept}
+use Rattle.book_margin.specs.KeptBuckets.Touched.{Forgets, SameElsewhere}
+use Rattle.book_margin.specs.ClassCombine.Whole.{IsTotal}
 use Rattle.book_margin.specs.Right.{AreRight, IsFresh}
 use Rattle.bucket_cache.specs.declared.sums.Sums.{Sums}
 use Rattle.bucket_cache.specs.Live.{IsLive}

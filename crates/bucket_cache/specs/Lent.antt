@@ -1,7 +1,7 @@
 -- Rows that are lent trade by trade.
 use Rattle.std.specs.Prelude.{List}
 use Rattle.std.specs.List.{flat_map}
-use Rattle.simm_kinds.specs.declared.row.CrifRow.{CrifRow}
+use Rattle.book_margin.specs.SimmKinds.declared.row.CrifRow.{CrifRow}
 use Rattle.bucket_cache.specs.declared.lent.LentRows.{LentRows}
 
 -- all rows of the trades, trade after trade

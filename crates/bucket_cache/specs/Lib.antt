@@ -5,3 +5,6 @@ pub mod Lent
 pub mod Sums
 pub mod Held
 pub mod Cached
+pub use Rattle.book_margin.specs.SimmRules as SimmRules
+pub use Rattle.book_margin.specs.FactorBook as FactorBook
+pub use Rattle.book_margin.specs.KeptBuckets as KeptBuckets

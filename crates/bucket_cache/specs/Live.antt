@@ -1,15 +1,15 @@
 -- What a live margin holds, and what a batch and a withdrawal make of it.
 use Rattle.std.specs.Prelude.{◌≡◌, ℕ, ◌+◌, zero, suc, List, [], ◌∷◌, ◌++◌, map, length, position, slice_get, find, Option, None, Some, option_map, Bool, true, false, not, ◌==◌, if◌then◌else◌}
 use Rattle.std.specs.List.{filter, flat_map, list_all, list_any}
-use Rattle.simm_kinds.specs.declared.row.CrifRow.{CrifRow}
-use Rattle.simm_kinds.specs.declared.row.TradeRows.{TradeRows}
-use Rattle.simm_kinds.specs.Batch.{rows_of, factor_names, is_misplaced, is_in_range}
-use Rattle.simm_kinds.specs.Order.{same_name}
-use Rattle.simm_kinds.specs.Repeats.{repeats}
-use Rattle.simm_rules.specs.Params.{Params}
-use Rattle.simm_rules.specs.Admits.{admits}
-use Rattle.simm_rules.specs.Range.{range}
-use Rattle.kept_buckets.specs.Kept.{Kept}
+use Rattle.book_margin.specs.SimmKinds.declared.row.CrifRow.{CrifRow}
+use Rattle.book_margin.specs.SimmKinds.declared.row.TradeRows.{TradeRows}
+use Rattle.book_margin.specs.SimmKinds.Batch.{rows_of, factor_names, is_misplaced, is_in_range}
+use Rattle.book_margin.specs.SimmKinds.Order.{same_name}
+use Rattle.book_margin.specs.SimmKinds.Repeats.{repeats}
+use Rattle.book_margin.specs.SimmRules.Params.{Params}
+use Rattle.book_margin.specs.SimmRules.Admits.{admits}
+use Rattle.book_margin.specs.SimmRules.Range.{range}
+use Rattle.book_margin.specs.KeptBuckets.Kept.{Kept}
 use Rattle.bucket_cache.specs.declared.place.RowPlace.{RowPlace}
 
 -- the parameters, the current trades with their rows, what is kept of their buckets, and whether nothing has changed since a margin

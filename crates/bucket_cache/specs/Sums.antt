@@ -1,16 +1,16 @@
 -- What the rows of a book come to, as rows come and go.
 use Rattle.std.specs.Prelude.{◌≡◌, ◌^◌, ◌<◌, List, ◌++◌, length, true, IsPermutation}
 use Rattle.std.specs.List.{list_all}
-use Rattle.simm_kinds.specs.declared.row.CrifRow.{CrifRow}
-use Rattle.simm_kinds.specs.Batch.{is_in_range}
-use Rattle.simm_rules.specs.Params.{Params}
-use Rattle.simm_kinds.specs.declared.key.FactorKey.{FactorKey}
-use Rattle.factor_book.specs.declared.holding.Holding.{Holding}
-use Rattle.factor_book.specs.Factors.{factors_of}
-use Rattle.class_combine.specs.Sums.{sums_of}
-use Rattle.book_range.specs.declared.sizes.GrossSizes.{GrossSizes}
-use Rattle.book_range.specs.Sizes.{sizes_in}
-use Rattle.book_range.specs.After.{AreFewElsewhere}
+use Rattle.book_margin.specs.SimmKinds.declared.row.CrifRow.{CrifRow}
+use Rattle.book_margin.specs.SimmKinds.Batch.{is_in_range}
+use Rattle.book_margin.specs.SimmRules.Params.{Params}
+use Rattle.book_margin.specs.SimmKinds.declared.key.FactorKey.{FactorKey}
+use Rattle.book_margin.specs.FactorBook.declared.holding.Holding.{Holding}
+use Rattle.book_margin.specs.FactorBook.Factors.{factors_of}
+use Rattle.book_margin.specs.ClassCombine.Sums.{sums_of}
+use Rattle.book_margin.specs.BookRange.declared.sizes.GrossSizes.{GrossSizes}
+use Rattle.book_margin.specs.BookRange.Sizes.{sizes_in}
+use Rattle.book_margin.specs.BookRange.After.{AreFewElsewhere}
 use Rattle.bucket_cache.specs.declared.sums.Sums.{Sums}
 
 -- how many rows there are, their factors, their gross sizes and the sums of their add-ons; all the same in any order

@@ -1,12 +1,12 @@
 //! Rows whose buckets the parameters don't list.
 ghost use Rattle.std.specs.Prelude.{◌≡◌, ◌^◌, ◌<◌, length, position, not};
-ghost use Rattle.simm_kinds.specs.Batch.{IsBatch};
-ghost use Rattle.simm_rules.specs.Admits.{admits};
+ghost use Rattle.book_margin.specs.SimmKinds.Batch.{IsBatch};
+ghost use Rattle.book_margin.specs.SimmRules.Admits.{admits};
 ghost use Rattle.bucket_cache.specs.Live.{unadmitted_row, first_unadmitted};
 
 use crate::place::RowPlace;
-use simm_kinds::{CrifRow, TradeRows};
-use simm_params::Params;
+use book_margin::simm_kinds::{CrifRow, TradeRows};
+use book_margin::simm_params::Params;
 
 /// The first row of a batch that the parameters don't admit. It takes no memory.
 pub fn first_unadmitted(params: &Params, trades: &[TradeRows]) -> Option<RowPlace>

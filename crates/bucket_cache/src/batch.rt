@@ -1,20 +1,20 @@
 //! The margin of a batch that is a book of its own.
 ghost use Rattle.std.specs.Prelude.{◌≡◌, ℕ, [], None, Some, Err, IfOk, OnOk};
-ghost use Rattle.simm_kinds.specs.Batch.{IsBatch, rows_of};
-ghost use Rattle.simm_rules.specs.declared.values.RangeFault.{RangeFault as Fault};
-ghost use Rattle.simm_rules.specs.Range.{range};
-ghost use Rattle.simm_rules.specs.Simm.{simm};
+ghost use Rattle.book_margin.specs.SimmKinds.Batch.{IsBatch, rows_of};
+ghost use Rattle.book_margin.specs.SimmRules.declared.values.RangeFault.{RangeFault as Fault};
+ghost use Rattle.book_margin.specs.SimmRules.Range.{range};
+ghost use Rattle.book_margin.specs.SimmRules.Simm.{simm};
 ghost use Rattle.bucket_cache.specs.Live.{first_unadmitted, rows_in};
 
 use crate::admitting::first_unadmitted;
 use crate::booking::{count_rows, net, sum_add_ons};
 use crate::fault::SubmitFault;
 use crate::lending::lend_batch;
+use book_margin::book_range::{range_bounds, range_fault};
 use book_margin::margin_in_range;
-use book_range::{range_bounds, range_fault};
-use simm_kinds::{CrifRow, TradeRows};
-use simm_params::Params;
-use simm_rules::Breakdown;
+use book_margin::simm_kinds::{CrifRow, TradeRows};
+use book_margin::simm_params::Params;
+use book_margin::simm_rules::Breakdown;
 use std::alloc::Global;
 
 /// The margin of a batch alone, with all of its parts: what a live margin without trades would answer once it took the batch in.

@@ -1,14 +1,14 @@
 //! The factors, the add-ons and the number of rows that are lent.
 ghost use Rattle.std.specs.Prelude.{◌≡◌, ◌^◌, ◌<◌, true, IfOk, length};
 ghost use Rattle.std.specs.List.{list_all};
-ghost use Rattle.simm_kinds.specs.Batch.{is_in_range};
-ghost use Rattle.factor_book.specs.Factors.{factors_of};
-ghost use Rattle.class_combine.specs.Sums.{sums_of};
+ghost use Rattle.book_margin.specs.SimmKinds.Batch.{is_in_range};
+ghost use Rattle.book_margin.specs.FactorBook.Factors.{factors_of};
+ghost use Rattle.book_margin.specs.ClassCombine.Sums.{sums_of};
 ghost use Rattle.bucket_cache.specs.Lent.{all_rows};
 
 use crate::lent::LentRows;
-use class_combine::AddOnSums;
-use factor_book::Factors;
+use book_margin::class_combine::AddOnSums;
+use book_margin::factor_book::Factors;
 use std::alloc::{AllocError, Global};
 
 /// How many rows are lent. It takes no memory.

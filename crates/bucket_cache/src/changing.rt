@@ -2,14 +2,14 @@
 ghost use Rattle.std.specs.Prelude.{◌≡◌, ◌+◌, ◌≤◌, ◌<◌, ◌^◌, ℕ, List, length, not, position, false, IfOk};
 ghost use Rattle.std.specs.List.{list_any, filter};
 ghost use Rattle.indexmap.specs.IndexMap.{spare};
-ghost use Rattle.simm_kinds.specs.Order.{same_name};
-ghost use Rattle.simm_kinds.specs.Repeats.{repeats};
+ghost use Rattle.book_margin.specs.SimmKinds.Order.{same_name};
+ghost use Rattle.book_margin.specs.SimmKinds.Repeats.{repeats};
 ghost use Rattle.bucket_cache.specs.Live.{put_trade, put_trades, is_current, first_unknown};
 ghost use Rattle.bucket_cache.specs.Entries.{trades_of, held_trade, held_trades, lent_names, is_among};
 
 use crate::held_rows::{HeldRows, HeldTrade};
+use book_margin::simm_kinds::Name;
 use indexmap::{IndexMap, IndexSet};
-use simm_kinds::Name;
 use std::alloc::{AllocError, Global};
 
 /// Puts the trades, for which there is room.

@@ -1,23 +1,23 @@
 //! What a batch makes of the sums of a book: its rows come, those that it replaces go, and the book is in range afterwards; or
 //! nothing changes. No other row is looked at.
 ghost use Rattle.std.specs.Prelude.{◌≡◌, ◌++◌, List, None, IfOk, OnErr, OnSome, IfNone};
-ghost use Rattle.simm_kinds.specs.declared.row.CrifRow.{CrifRow as Row};
-ghost use Rattle.simm_kinds.specs.Batch.{rows_of};
-ghost use Rattle.simm_rules.specs.Range.{range};
-ghost use Rattle.book_range.specs.Sizes.{sizes_in};
-ghost use Rattle.factor_book.specs.Factors.{factors_of};
+ghost use Rattle.book_margin.specs.SimmKinds.declared.row.CrifRow.{CrifRow as Row};
+ghost use Rattle.book_margin.specs.SimmKinds.Batch.{rows_of};
+ghost use Rattle.book_margin.specs.SimmRules.Range.{range};
+ghost use Rattle.book_margin.specs.BookRange.Sizes.{sizes_in};
+ghost use Rattle.book_margin.specs.FactorBook.Factors.{factors_of};
 ghost use Rattle.bucket_cache.specs.Lent.{all_rows};
 ghost use Rattle.bucket_cache.specs.Sums.{book_sums, IsExchange, IsNetted, AreWeighed};
 
 use crate::booking::{count_rows, net};
 use crate::lent::LentRows;
 use crate::sums::Sums;
-use book_range::{GrossSizes, range_after};
-use class_combine::sums_ignore_order;
-use factor_book::{Factors, order_is_free};
-use simm_kinds::TradeRows;
-use simm_params::Params;
-use simm_rules::RangeFault;
+use book_margin::book_range::{GrossSizes, range_after};
+use book_margin::class_combine::sums_ignore_order;
+use book_margin::factor_book::{Factors, order_is_free};
+use book_margin::simm_kinds::TradeRows;
+use book_margin::simm_params::Params;
+use book_margin::simm_rules::RangeFault;
 use std::alloc::{AllocError, Global};
 
 /// The rows of the batch come, and those of `gone` go. Where the book would be out of range then, the first quantity that is

@@ -2,7 +2,7 @@ ghost use Rattle.std.specs.Prelude.{◌≡◌};
 ghost use Rattle.bucket_cache.specs.declared.fault.SubmitFault.TheVariants as submit;
 ghost use Rattle.bucket_cache.specs.declared.fault.WithdrawFault.TheVariants as withdraw;
 
-use simm_rules::RangeFault;
+use book_margin::simm_rules::RangeFault;
 use std::alloc::AllocError;
 
 /// Why a batch is not accepted.

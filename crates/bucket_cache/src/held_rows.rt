@@ -2,7 +2,7 @@
 ghost use Rattle.std.specs.Prelude.{◌≡◌, IfOk};
 ghost use Rattle.bucket_cache.specs.Entries.{held_trades};
 
-use simm_kinds::{Batch, CrifRow, Name};
+use book_margin::simm_kinds::{Batch, CrifRow, Name};
 use std::alloc::{AllocError, Global};
 use std::marker::Model;
 
@@ -16,7 +16,7 @@ pub struct HeldRows {
 
 impl Model for HeldRows {
     ghost use Rattle.std.specs.Prelude.{◌<◌, List, length};
-    ghost use Rattle.simm_kinds.specs.declared.row.CrifRow.{CrifRow};
+    ghost use Rattle.book_margin.specs.SimmKinds.declared.row.CrifRow.{CrifRow};
     ghost use Rattle.bucket_cache.specs.RowsAt.{rows_at};
 
     ghost Value = { List CrifRow };

@@ -5,8 +5,8 @@ ghost use Rattle.bucket_cache.specs.Entries.{trades_of, lent_lists, row_lists};
 
 use crate::held_rows::HeldRows;
 use crate::lent::LentRows;
+use book_margin::simm_kinds::{CrifRow, Name, TradeRows};
 use indexmap::IndexMap;
-use simm_kinds::{CrifRow, Name, TradeRows};
 use std::alloc::{AllocError, Global};
 
 /// The rows of a batch.

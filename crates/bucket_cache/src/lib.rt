@@ -20,3 +20,6 @@ mod touching;
 pub use batch::batch_margin;
 pub use fault::{SubmitFault, WithdrawFault};
 pub use live::LiveMargin;
+
+// what the crates above reach through this one
+pub use book_margin::{pair_sum, simm_params, simm_rules};

@@ -1,20 +1,20 @@
 //! The margin of a book from its sums and what is kept of its buckets.
 ghost use Rattle.std.specs.Prelude.{◌≡◌, ◌+◌, ◌≤◌, List, IfOk, OnOk};
-ghost use Rattle.simm_kinds.specs.declared.row.CrifRow.{CrifRow as Row};
-ghost use Rattle.simm_rules.specs.Simm.{simm};
-ghost use Rattle.kept_buckets.specs.Dirty.{steps_left};
-ghost use Rattle.class_combine.specs.Whole.{IsTotal};
+ghost use Rattle.book_margin.specs.SimmKinds.declared.row.CrifRow.{CrifRow as Row};
+ghost use Rattle.book_margin.specs.SimmRules.Simm.{simm};
+ghost use Rattle.book_margin.specs.KeptBuckets.Dirty.{steps_left};
+ghost use Rattle.book_margin.specs.ClassCombine.Whole.{IsTotal};
 ghost use Rattle.book_margin.specs.Right.{AreRight, IsFresh, Renews};
 ghost use Rattle.bucket_cache.specs.Held.{IsMarginBook};
 
 use crate::sums::Sums;
+use book_margin::book_range::range_bounds;
+use book_margin::kept_buckets::KeptBuckets;
 use book_margin::margin_over_kept;
-use book_range::range_bounds;
-use kept_buckets::KeptBuckets;
-use pair_sum::Steps;
-use simm_kinds::CrifRow;
-use simm_params::Params;
-use simm_rules::Breakdown;
+use book_margin::pair_sum::Steps;
+use book_margin::simm_kinds::CrifRow;
+use book_margin::simm_params::Params;
+use book_margin::simm_rules::Breakdown;
 use std::alloc::{AllocError, Global};
 use std::sync::ledger::Ledger;
 

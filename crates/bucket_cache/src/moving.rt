@@ -1,11 +1,11 @@
 //! What a batch and a withdrawal make of all that is kept of a book beside its trades.
 ghost use Rattle.std.specs.Prelude.{◌≡◌, false, IfOk, OnOk, OnErr, OnSome, IfNone};
-ghost use Rattle.simm_kinds.specs.Batch.{IsBatch, rows_of};
-ghost use Rattle.simm_kinds.specs.Order.{same_name};
-ghost use Rattle.simm_kinds.specs.Repeats.{repeats};
-ghost use Rattle.simm_rules.specs.Range.{range};
-ghost use Rattle.factor_book.specs.Factors.{factors_of};
-ghost use Rattle.kept_buckets.specs.Touched.{Forgets};
+ghost use Rattle.book_margin.specs.SimmKinds.Batch.{IsBatch, rows_of};
+ghost use Rattle.book_margin.specs.SimmKinds.Order.{same_name};
+ghost use Rattle.book_margin.specs.SimmKinds.Repeats.{repeats};
+ghost use Rattle.book_margin.specs.SimmRules.Range.{range};
+ghost use Rattle.book_margin.specs.FactorBook.Factors.{factors_of};
+ghost use Rattle.book_margin.specs.KeptBuckets.Touched.{Forgets};
 ghost use Rattle.book_margin.specs.Right.{AreRight};
 ghost use Rattle.bucket_cache.specs.Live.{IsLive, put_trades, without, named, rows_moved};
 ghost use Rattle.bucket_cache.specs.Entries.{trades_of, lent_names};
@@ -17,15 +17,15 @@ use crate::held_rows::HeldRows;
 use crate::lending::{lend_batch, lend_named, lend_replaced};
 use crate::sums::Sums;
 use crate::touching::touch_lent;
+use book_margin::book_range::{elsewhere_few, range_order_is_free};
+use book_margin::class_combine::sums_ignore_order;
+use book_margin::factor_book::order_is_free;
+use book_margin::kept_buckets::{KeptBuckets, other_factors_stand, touches_add_up};
+use book_margin::simm_kinds::{Name, TradeRows};
+use book_margin::simm_params::Params;
+use book_margin::simm_rules::RangeFault;
 use book_margin::touched_stays_right;
-use book_range::{elsewhere_few, range_order_is_free};
-use class_combine::sums_ignore_order;
-use factor_book::order_is_free;
 use indexmap::IndexMap;
-use kept_buckets::{KeptBuckets, other_factors_stand, touches_add_up};
-use simm_kinds::{Name, TradeRows};
-use simm_params::Params;
-use simm_rules::RangeFault;
 use std::alloc::{AllocError, Global};
 
 /// The rows of a batch come to a book, and those of the trades that it replaces go. Where the book would be out of range then, the

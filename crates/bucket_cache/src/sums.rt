@@ -1,14 +1,14 @@
 //! What the rows of a book come to, kept as rows come and go.
 ghost use Rattle.std.specs.Prelude.{◌≡◌, ◌++◌, List, [], OnOk, OnErr};
-ghost use Rattle.simm_kinds.specs.declared.row.CrifRow.{CrifRow as Row};
-ghost use Rattle.simm_rules.specs.Params.{Params as Rules};
+ghost use Rattle.book_margin.specs.SimmKinds.declared.row.CrifRow.{CrifRow as Row};
+ghost use Rattle.book_margin.specs.SimmRules.Params.{Params as Rules};
 
 use crate::lent::LentRows;
-use book_range::GrossSizes;
-use class_combine::AddOnSums;
-use factor_book::Factors;
-use simm_kinds::CrifRow;
-use simm_params::Params;
+use book_margin::book_range::GrossSizes;
+use book_margin::class_combine::AddOnSums;
+use book_margin::factor_book::Factors;
+use book_margin::simm_kinds::CrifRow;
+use book_margin::simm_params::Params;
 use std::alloc::{AllocError, Global};
 
 /// What the range and the margin of a book are worked out from: how many rows it has, their factors, their gross sizes and the

@@ -3,8 +3,8 @@ use Rattle.std.proofs.Common.{◌≡◌, ℕ, ◌*◌, ◌^◌, List, [], ◌∷
 use Rattle.std.specs.List.{flat_map, AllByRecursion}
 use Rattle.std.specs.Int.{w128}
 use Rattle.std.proofs.lemmas.Int.{ints, fits_signed_from_abs}
-use Rattle.mh_units.proofs.Integers.{same128}
-use Rattle.simm_rules.specs.Sums.{total_by}
+use Rattle.simm_params.proofs.MhUnits.Integers.{same128}
+use Rattle.simm_params.specs.SimmRules.Sums.{total_by}
 use Rattle.class_combine.specs.Whole.{IsAddOn}
 use Rattle.class_combine.proofs.Products.{passed}
 

@@ -8,14 +8,14 @@ use Rattle.std.proofs.lemmas.Cmp.{nat_list_cmp_total}
 use Rattle.std.proofs.lemmas.Grind.{flat_map-append}
 use Rattle.std.proofs.lemmas.Int.{ints}
 use Rattle.std.proofs.lemmas.List.Elements.{filter-append}
-use Rattle.simm_kinds.specs.declared.row.CrifRow.{CrifRow}
-use Rattle.simm_kinds.specs.declared.row.CrifRow.TheVariants as row
-use Rattle.simm_kinds.specs.Order.{name_cmp, same_name}
-use Rattle.mh_units.specs.declared.quantities.Cents.{Cents}
-use Rattle.simm_rules.specs.Parts.{cents}
-use Rattle.simm_rules.specs.Risks.{Amount}
-use Rattle.simm_rules.specs.Sums.{total_by}
-use Rattle.simm_rules.specs.AddOns.{fixed_amount, fixed_amounts, notional, notional_of}
+use Rattle.simm_params.specs.SimmKinds.declared.row.CrifRow.{CrifRow}
+use Rattle.simm_params.specs.SimmKinds.declared.row.CrifRow.TheVariants as row
+use Rattle.simm_params.specs.SimmKinds.Order.{name_cmp, same_name}
+use Rattle.simm_params.specs.MhUnits.declared.quantities.Cents.{Cents}
+use Rattle.simm_params.specs.SimmRules.Parts.{cents}
+use Rattle.simm_params.specs.SimmRules.Risks.{Amount}
+use Rattle.simm_params.specs.SimmRules.Sums.{total_by}
+use Rattle.simm_params.specs.SimmRules.AddOns.{fixed_amount, fixed_amounts, notional, notional_of}
 use Rattle.class_combine.specs.declared.notional_sum.NotionalSum.{NotionalSum}
 use Rattle.class_combine.specs.Summed.{grown, shrunk, size_in, with_left}
 use Rattle.class_combine.specs.Sums.{count_of, sum_of, notionals_of, sums_of}

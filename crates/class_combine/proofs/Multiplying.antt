@@ -4,17 +4,17 @@ use Rattle.std.specs.List.{flat_map, list_all}
 use Rattle.std.specs.Option.{unwrap_or}
 use Rattle.std.specs.Int.{w128}
 use Rattle.std.proofs.lemmas.Int.{ints}
-use Rattle.mh_units.specs.Rounding.{up}
-use Rattle.mh_units.proofs.Roundings.{up_is}
-use Rattle.mh_units.proofs.Integers.{product_size}
-use Rattle.simm_kinds.specs.declared.kinds.ProductClass.{ProductClass}
-use Rattle.simm_kinds.specs.declared.row.CrifRow.{CrifRow}
-use Rattle.simm_kinds.specs.declared.row.CrifRow.TheVariants as row
-use Rattle.simm_kinds.specs.Batch.{is_in_range}
-use Rattle.simm_kinds.specs.Order.{same_product}
-use Rattle.simm_rules.specs.AddOns.{multiplier, multiplier_of}
-use Rattle.simm_rules.specs.Simm.{products}
-use Rattle.simm_rules.specs.Sums.{total_by}
+use Rattle.simm_params.specs.MhUnits.Rounding.{up}
+use Rattle.simm_params.proofs.MhUnits.Roundings.{up_is}
+use Rattle.simm_params.proofs.MhUnits.Integers.{product_size}
+use Rattle.simm_params.specs.SimmKinds.declared.kinds.ProductClass.{ProductClass}
+use Rattle.simm_params.specs.SimmKinds.declared.row.CrifRow.{CrifRow}
+use Rattle.simm_params.specs.SimmKinds.declared.row.CrifRow.TheVariants as row
+use Rattle.simm_params.specs.SimmKinds.Batch.{is_in_range}
+use Rattle.simm_params.specs.SimmKinds.Order.{same_product}
+use Rattle.simm_params.specs.SimmRules.AddOns.{multiplier, multiplier_of}
+use Rattle.simm_params.specs.SimmRules.Simm.{products}
+use Rattle.simm_params.specs.SimmRules.Sums.{total_by}
 use Rattle.class_combine.specs.declared.multipliers.ProductAmounts.{ProductAmounts}
 use Rattle.class_combine.specs.Classes.{IsProductMargin}
 use Rattle.class_combine.specs.Multipliers.{amount_in, multiplied_in, multiplier_at, IsMultiplier, IsMultiplied}

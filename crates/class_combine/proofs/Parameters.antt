@@ -4,10 +4,10 @@ use Rattle.std.specs.List.{flat_map, list_all}
 use Rattle.std.proofs.lemmas.Bool.{and_parts}
 use Rattle.std.proofs.lemmas.Grind.{flat_map-append}
 use Rattle.std.proofs.lemmas.List.{append-nil}
-use Rattle.simm_kinds.specs.declared.row.CrifRow.{CrifRow}
-use Rattle.simm_kinds.specs.declared.row.CrifRow.TheVariants as row
-use Rattle.simm_kinds.specs.Batch.{is_param}
-use Rattle.simm_rules.specs.AddOns.{multiplier, notional_factor}
+use Rattle.simm_params.specs.SimmKinds.declared.row.CrifRow.{CrifRow}
+use Rattle.simm_params.specs.SimmKinds.declared.row.CrifRow.TheVariants as row
+use Rattle.simm_params.specs.SimmKinds.Batch.{is_param}
+use Rattle.simm_params.specs.SimmRules.AddOns.{multiplier, notional_factor}
 use Rattle.class_combine.specs.Sums.{sums_of, StandFor}
 
 abbrev is_plain : CrifRow → Bool

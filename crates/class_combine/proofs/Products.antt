@@ -3,9 +3,9 @@ use Rattle.std.proofs.Common.{◌≡◌, ℕ, ◌+◌, ◌*◌, ◌^◌, ◌≤�
 use Rattle.std.specs.Int.{w128}
 use Rattle.std.proofs.lemmas.Int.{ints, fits_signed_from_abs}
 use Rattle.std.proofs.Math.IntN.{zero-*ℤ, *ℤ_comm}
-use Rattle.mh_units.specs.Rounding.{up, root}
-use Rattle.mh_units.proofs.Roundings.{up_is, root_is, IsRoot_unique}
-use Rattle.mh_units.proofs.Integers.{same128, product_size, unsigned_abs-add}
+use Rattle.simm_params.specs.MhUnits.Rounding.{up, root}
+use Rattle.simm_params.proofs.MhUnits.Roundings.{up_is, root_is, IsRoot_unique}
+use Rattle.simm_params.proofs.MhUnits.Integers.{same128, product_size, unsigned_abs-add}
 use Rattle.class_combine.specs.Classes.{IsClassMargin}
 
 -- a number as it is passed on

@@ -7,12 +7,12 @@ use Rattle.std.proofs.lemmas.Bool.{and_parts}
 use Rattle.std.proofs.lemmas.Int.{ints}
 use Rattle.std.proofs.lemmas.List.{append-nil, append_assoc, drop_all, drop_more, take_all, take_more}
 use Rattle.std.proofs.lemmas.List.Folds.{list_all-append}
-use Rattle.mh_units.specs.declared.quantities.Cents.{Cents}
-use Rattle.simm_kinds.specs.declared.row.CrifRow.{CrifRow}
-use Rattle.simm_kinds.specs.declared.row.CrifRow.TheVariants as row
-use Rattle.simm_kinds.specs.Batch.{is_in_range}
-use Rattle.simm_rules.specs.Parts.{cents}
-use Rattle.simm_rules.specs.AddOns.{fixed_amounts}
+use Rattle.simm_params.specs.MhUnits.declared.quantities.Cents.{Cents}
+use Rattle.simm_params.specs.SimmKinds.declared.row.CrifRow.{CrifRow}
+use Rattle.simm_params.specs.SimmKinds.declared.row.CrifRow.TheVariants as row
+use Rattle.simm_params.specs.SimmKinds.Batch.{is_in_range}
+use Rattle.simm_params.specs.SimmRules.Parts.{cents}
+use Rattle.simm_params.specs.SimmRules.AddOns.{fixed_amounts}
 use Rattle.class_combine.specs.declared.notional_sum.NotionalSum.{NotionalSum}
 use Rattle.class_combine.specs.declared.sums.AddOnSums.{AddOnSums}
 use Rattle.class_combine.specs.Summed.{CanGrow, CanShrink, grown, shrunk, with_left}

@@ -6,18 +6,18 @@ use Rattle.std.specs.List.{flat_map, list_any, list_all, AllByRecursion}
 use Rattle.std.proofs.lemmas.Bool.{or_parts}
 use Rattle.std.proofs.lemmas.Int.{ints, fits_signed_from_abs}
 use Rattle.std.proofs.lemmas.List.{map-append}
-use Rattle.mh_units.specs.declared.quantities.Rate4.{Rate4}
-use Rattle.mh_units.specs.Rounding.{up}
-use Rattle.mh_units.proofs.Integers.{same64, same128, mul-le_ℤ, product_size}
-use Rattle.mh_units.proofs.Roundings.{up_is, up_size}
-use Rattle.simm_kinds.specs.declared.row.CrifRow.{CrifRow}
-use Rattle.simm_kinds.specs.declared.row.CrifRow.TheVariants as row
-use Rattle.simm_kinds.specs.Batch.{is_in_range, factor_names}
-use Rattle.simm_kinds.specs.Order.{same_name}
-use Rattle.simm_kinds.specs.Repeats.{repeats}
-use Rattle.simm_rules.specs.Risks.{Amount}
-use Rattle.simm_rules.specs.Sums.{total_by}
-use Rattle.simm_rules.specs.AddOns.{notional, notional_factor, notional_of, notional_add_on}
+use Rattle.simm_params.specs.MhUnits.declared.quantities.Rate4.{Rate4}
+use Rattle.simm_params.specs.MhUnits.Rounding.{up}
+use Rattle.simm_params.proofs.MhUnits.Integers.{same64, same128, mul-le_ℤ, product_size}
+use Rattle.simm_params.proofs.MhUnits.Roundings.{up_is, up_size}
+use Rattle.simm_params.specs.SimmKinds.declared.row.CrifRow.{CrifRow}
+use Rattle.simm_params.specs.SimmKinds.declared.row.CrifRow.TheVariants as row
+use Rattle.simm_params.specs.SimmKinds.Batch.{is_in_range, factor_names}
+use Rattle.simm_params.specs.SimmKinds.Order.{same_name}
+use Rattle.simm_params.specs.SimmKinds.Repeats.{repeats}
+use Rattle.simm_params.specs.SimmRules.Risks.{Amount}
+use Rattle.simm_params.specs.SimmRules.Sums.{total_by}
+use Rattle.simm_params.specs.SimmRules.AddOns.{notional, notional_factor, notional_of, notional_add_on}
 use Rattle.class_combine.specs.declared.sums.AddOnSums.{AddOnSums}
 use Rattle.class_combine.specs.Notionals.{share_in, share_of, size_at, AreSizes, IsFactor, IsNotional}
 use Rattle.class_combine.specs.Summed.{size_in}

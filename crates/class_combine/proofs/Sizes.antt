@@ -4,14 +4,14 @@ use Rattle.std.specs.Int.{w128}
 use Rattle.std.specs.List.{flat_map, list_all, AllByRecursion}
 use Rattle.std.proofs.lemmas.Bool.{and_parts, leb-true}
 use Rattle.std.proofs.lemmas.Int.{ints, fits_signed_from_abs}
-use Rattle.mh_units.proofs.Integers.{same128}
-use Rattle.mh_units.specs.declared.quantities.Cents.{Cents}
-use Rattle.simm_kinds.specs.declared.row.CrifRow.{CrifRow}
-use Rattle.simm_kinds.specs.declared.row.CrifRow.TheVariants as row
-use Rattle.simm_kinds.specs.Batch.{is_in_range}
-use Rattle.simm_kinds.specs.Order.{same_name}
-use Rattle.simm_rules.specs.Risks.{Amount}
-use Rattle.simm_rules.specs.AddOns.{fixed_amount, fixed_amounts, notional, notional_of}
+use Rattle.simm_params.proofs.MhUnits.Integers.{same128}
+use Rattle.simm_params.specs.MhUnits.declared.quantities.Cents.{Cents}
+use Rattle.simm_params.specs.SimmKinds.declared.row.CrifRow.{CrifRow}
+use Rattle.simm_params.specs.SimmKinds.declared.row.CrifRow.TheVariants as row
+use Rattle.simm_params.specs.SimmKinds.Batch.{is_in_range}
+use Rattle.simm_params.specs.SimmKinds.Order.{same_name}
+use Rattle.simm_params.specs.SimmRules.Risks.{Amount}
+use Rattle.simm_params.specs.SimmRules.AddOns.{fixed_amount, fixed_amounts, notional, notional_of}
 use Rattle.class_combine.specs.Summed.{CanGrow, CanShrink}
 use Rattle.class_combine.specs.Sums.{count_of}
 use Rattle.class_combine.proofs.Adding.{total_most}

@@ -6,7 +6,7 @@ use Rattle.std.specs.FinMap.{FinMap, get, find, from_entries, get-insert, get-re
 use Rattle.std.proofs.lemmas.Cmp.{nat_list_cmp_total, tied_itself, eq_by_cmp_equiv}
 use Rattle.std.proofs.lemmas.Map.Lookups.{exact_bytes}
 use Rattle.std.proofs.lemmas.Map.Views.{tells_apart}
-use Rattle.simm_kinds.specs.Order.{name_cmp, same_name}
+use Rattle.simm_params.specs.SimmKinds.Order.{name_cmp, same_name}
 use Rattle.class_combine.specs.declared.notional_sum.NotionalSum.{NotionalSum}
 use Rattle.class_combine.specs.Summed.{with_left}
 

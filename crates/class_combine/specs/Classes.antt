@@ -1,11 +1,11 @@
 -- The margins of the risk classes of one product class, by risk class.
 use Rattle.std.specs.Prelude.{◌*◌, ◌^◌, ℤ, pos, ◌*ℤ◌, ◌≤ℤ◌}
-use Rattle.mh_units.specs.declared.quantities.Cents.{Cents}
-use Rattle.simm_kinds.specs.declared.kinds.RiskClass.{RiskClass}
-use Rattle.simm_kinds.specs.declared.kinds.RiskClass.TheVariants as class
-use Rattle.simm_rules.specs.declared.values.ClassMargins.{ClassMargins}
-use Rattle.simm_rules.specs.Params.{Params}
-use Rattle.simm_rules.specs.Simm.{psi, joined}
+use Rattle.simm_params.specs.MhUnits.declared.quantities.Cents.{Cents}
+use Rattle.simm_params.specs.SimmKinds.declared.kinds.RiskClass.{RiskClass}
+use Rattle.simm_params.specs.SimmKinds.declared.kinds.RiskClass.TheVariants as class
+use Rattle.simm_params.specs.SimmRules.declared.values.ClassMargins.{ClassMargins}
+use Rattle.simm_params.specs.SimmRules.Params.{Params}
+use Rattle.simm_params.specs.SimmRules.Simm.{psi, joined}
 
 abbrev pub class_in : ClassMargins → RiskClass → Cents
 class_in m class.IR = m.ir

@@ -1,14 +1,14 @@
 -- What the multipliers of product classes add, by the margins of the product classes.
 use Rattle.std.specs.Prelude.{◌*◌, ◌^◌, List, Option, Some, None, ℤ, pos, ◌≤ℤ◌, if◌then◌else◌}
-use Rattle.mh_units.specs.declared.quantities.Cents.{Cents}
-use Rattle.simm_kinds.specs.declared.kinds.ProductClass.{ProductClass}
-use Rattle.simm_kinds.specs.declared.kinds.ProductClass.TheVariants as product
-use Rattle.simm_kinds.specs.declared.row.CrifRow.{CrifRow}
-use Rattle.simm_kinds.specs.declared.row.CrifRow.TheVariants as row
-use Rattle.simm_kinds.specs.Order.{same_product}
-use Rattle.simm_rules.specs.Sums.{total_by}
-use Rattle.simm_rules.specs.AddOns.{multiplied}
-use Rattle.simm_rules.specs.Simm.{products}
+use Rattle.simm_params.specs.MhUnits.declared.quantities.Cents.{Cents}
+use Rattle.simm_params.specs.SimmKinds.declared.kinds.ProductClass.{ProductClass}
+use Rattle.simm_params.specs.SimmKinds.declared.kinds.ProductClass.TheVariants as product
+use Rattle.simm_params.specs.SimmKinds.declared.row.CrifRow.{CrifRow}
+use Rattle.simm_params.specs.SimmKinds.declared.row.CrifRow.TheVariants as row
+use Rattle.simm_params.specs.SimmKinds.Order.{same_product}
+use Rattle.simm_params.specs.SimmRules.Sums.{total_by}
+use Rattle.simm_params.specs.SimmRules.AddOns.{multiplied}
+use Rattle.simm_params.specs.SimmRules.Simm.{products}
 use Rattle.class_combine.specs.declared.multipliers.ProductAmounts.{ProductAmounts}
 use Rattle.class_combine.specs.Classes.{IsProductMargin}
 

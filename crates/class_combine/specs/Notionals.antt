@@ -2,12 +2,12 @@
 -- (ISDA SIMM methodology, additional initial margin: factors of notionals.)
 use Rattle.std.specs.Prelude.{ℕ, ◌*◌, ◌^◌, List, ℤ, pos, ◌*ℤ◌, ◌≤ℤ◌}
 use Rattle.std.specs.FinMap.{FinMap, get}
-use Rattle.mh_units.specs.Rounding.{up}
-use Rattle.simm_kinds.specs.declared.row.CrifRow.{CrifRow}
-use Rattle.simm_kinds.specs.Order.{name_cmp}
-use Rattle.simm_rules.specs.Risks.{Amount}
-use Rattle.simm_rules.specs.Sums.{total_by}
-use Rattle.simm_rules.specs.AddOns.{notional_factor}
+use Rattle.simm_params.specs.MhUnits.Rounding.{up}
+use Rattle.simm_params.specs.SimmKinds.declared.row.CrifRow.{CrifRow}
+use Rattle.simm_params.specs.SimmKinds.Order.{name_cmp}
+use Rattle.simm_params.specs.SimmRules.Risks.{Amount}
+use Rattle.simm_params.specs.SimmRules.Sums.{total_by}
+use Rattle.simm_params.specs.SimmRules.AddOns.{notional_factor}
 use Rattle.class_combine.specs.declared.notional_sum.NotionalSum.{NotionalSum}
 use Rattle.class_combine.specs.Summed.{size_in}
 

@@ -3,7 +3,7 @@
 use Rattle.std.specs.Prelude.{ℕ, ◌+◌, ◌-◌, ◌*◌, ◌^◌, ◌<◌, ◌≤◌, List, Option, Some, None, ℤ, pos, ◌+ℤ◌, ◌-ℤ◌, unsigned_abs, ◌==◌, if◌then◌else◌, refl}
 use Rattle.std.specs.Coded.{Coded, code_by, coded×, coded_ℤ, coded_ℕ}
 use Rattle.std.specs.FinMap.{FinMap, insert, remove}
-use Rattle.simm_kinds.specs.Order.{name_cmp}
+use Rattle.simm_params.specs.SimmKinds.Order.{name_cmp}
 use Rattle.class_combine.specs.declared.notional_sum.NotionalSum.{NotionalSum}
 
 -- one notional

@@ -3,12 +3,12 @@
 use Rattle.std.specs.Prelude.{ℕ, ◌≡◌, ◌+◌, ◌^◌, ◌<◌, ◌≤◌, List, ◌++◌, map, length, true, false}
 use Rattle.std.specs.List.{filter, flat_map, list_all}
 use Rattle.std.specs.FinMap.{FinMap, from_entries}
-use Rattle.simm_kinds.specs.declared.row.CrifRow.{CrifRow}
-use Rattle.simm_kinds.specs.Batch.{factor_names, is_in_range}
-use Rattle.simm_kinds.specs.Order.{name_cmp, same_name}
-use Rattle.simm_kinds.specs.Repeats.{repeats}
-use Rattle.simm_rules.specs.Parts.{cents}
-use Rattle.simm_rules.specs.AddOns.{fixed_amounts, multiplier, notional, notional_factor, notional_of}
+use Rattle.simm_params.specs.SimmKinds.declared.row.CrifRow.{CrifRow}
+use Rattle.simm_params.specs.SimmKinds.Batch.{factor_names, is_in_range}
+use Rattle.simm_params.specs.SimmKinds.Order.{name_cmp, same_name}
+use Rattle.simm_params.specs.SimmKinds.Repeats.{repeats}
+use Rattle.simm_params.specs.SimmRules.Parts.{cents}
+use Rattle.simm_params.specs.SimmRules.AddOns.{fixed_amounts, multiplier, notional, notional_factor, notional_of}
 use Rattle.class_combine.specs.declared.notional_sum.NotionalSum.{NotionalSum}
 use Rattle.class_combine.specs.declared.sums.AddOnSums.{AddOnSums}
 

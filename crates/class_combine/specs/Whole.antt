@@ -1,14 +1,14 @@
 -- A whole margin, by the margins of the risk classes in each product class, of the product classes and the add-ons.
 -- (ISDA SIMM methodology, structure: the margins of product classes add up; additional margins.)
 use Rattle.std.specs.Prelude.{◌*◌, ◌^◌, ℤ, pos, ◌+ℤ◌, ◌≤ℤ◌, ◌<ℤ◌}
-use Rattle.simm_kinds.specs.declared.kinds.ProductClass.{ProductClass}
-use Rattle.simm_kinds.specs.declared.kinds.ProductClass.TheVariants as product
-use Rattle.simm_rules.specs.declared.values.ClassMargins.{ClassMargins}
-use Rattle.simm_rules.specs.declared.values.Breakdown.{Breakdown}
-use Rattle.simm_rules.specs.Params.{Params}
-use Rattle.simm_rules.specs.Parts.{cents}
-use Rattle.simm_rules.specs.Sums.{total_by}
-use Rattle.simm_rules.specs.Simm.{products}
+use Rattle.simm_params.specs.SimmKinds.declared.kinds.ProductClass.{ProductClass}
+use Rattle.simm_params.specs.SimmKinds.declared.kinds.ProductClass.TheVariants as product
+use Rattle.simm_params.specs.SimmRules.declared.values.ClassMargins.{ClassMargins}
+use Rattle.simm_params.specs.SimmRules.declared.values.Breakdown.{Breakdown}
+use Rattle.simm_params.specs.SimmRules.Params.{Params}
+use Rattle.simm_params.specs.SimmRules.Parts.{cents}
+use Rattle.simm_params.specs.SimmRules.Sums.{total_by}
+use Rattle.simm_params.specs.SimmRules.Simm.{products}
 use Rattle.class_combine.specs.declared.whole.ProductClasses.{ProductClasses}
 use Rattle.class_combine.specs.declared.additional.AddOns.{AddOns}
 use Rattle.class_combine.specs.declared.multipliers.ProductAmounts.{ProductAmounts}

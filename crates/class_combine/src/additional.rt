@@ -1,6 +1,6 @@
 ghost use Rattle.std.specs.Prelude.{◌≡◌, List};
-ghost use Rattle.simm_kinds.specs.declared.row.CrifRow.{CrifRow as Row};
-ghost use Rattle.simm_rules.specs.AddOns.{fixed_amounts, notional_add_on};
+ghost use Rattle.simm_params.specs.SimmKinds.declared.row.CrifRow.{CrifRow as Row};
+ghost use Rattle.simm_params.specs.SimmRules.AddOns.{fixed_amounts, notional_add_on};
 ghost use Rattle.class_combine.specs.Multipliers.{multiplied_in, AreProductMargins};
 ghost use Rattle.class_combine.specs.Sums.{AreOfBook, StandFor};
 ghost use Rattle.class_combine.specs.Whole.{AreAddOns};
@@ -8,8 +8,8 @@ ghost use Rattle.class_combine.specs.Whole.{AreAddOns};
 use crate::multipliers::{ProductAmounts, multiplied_margins};
 use crate::notional::notional_add_on;
 use crate::sums::AddOnSums;
-use mh_units::Cents;
-use simm_kinds::CrifRow;
+use simm_params::mh_units::Cents;
+use simm_params::simm_kinds::CrifRow;
 
 /// The additional margins of a book.
 #[derive(Clone, Copy)]

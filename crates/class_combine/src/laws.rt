@@ -1,9 +1,9 @@
 //! What the sums of rows depend on, and which parameters stand for all rows of a book.
 ghost use Rattle.std.specs.Prelude.{◌≡◌, ◌++◌, List, ℕ, true, not};
 ghost use Rattle.std.specs.List.{list_all};
-ghost use Rattle.simm_kinds.specs.declared.row.CrifRow.{CrifRow as Row};
-ghost use Rattle.simm_kinds.specs.Batch.{is_param};
-ghost use Rattle.simm_rules.specs.AddOns.{fixed_amounts, notional_of};
+ghost use Rattle.simm_params.specs.SimmKinds.declared.row.CrifRow.{CrifRow as Row};
+ghost use Rattle.simm_params.specs.SimmKinds.Batch.{is_param};
+ghost use Rattle.simm_params.specs.SimmRules.AddOns.{fixed_amounts, notional_of};
 ghost use Rattle.class_combine.specs.Sums.{count_of, sums_of, StandFor};
 
 /// Rows have their sums whatever their order: rows with the same fixed amounts, and with the same size and number of notionals

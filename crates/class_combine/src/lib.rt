@@ -19,3 +19,6 @@ pub use multipliers::ProductAmounts;
 pub use product::product_margin;
 pub use sums::AddOnSums;
 pub use whole::{ProductClasses, breakdown, product_margins};
+
+// what the crates above reach through this one
+pub use simm_params;

@@ -1,14 +1,14 @@
 //! The add-on of product class multipliers.
 ghost use Rattle.std.specs.Prelude.{◌≡◌, true, option_map};
 ghost use Rattle.std.specs.List.{list_all};
-ghost use Rattle.simm_kinds.specs.Batch.{is_in_range};
-ghost use Rattle.simm_rules.specs.AddOns.{multiplied, multiplier_of};
+ghost use Rattle.simm_params.specs.SimmKinds.Batch.{is_in_range};
+ghost use Rattle.simm_params.specs.SimmRules.AddOns.{multiplied, multiplier_of};
 ghost use Rattle.class_combine.specs.Classes.{IsProductMargin};
 ghost use Rattle.class_combine.specs.Multipliers.{multiplier_at, multiplied_in, AreProductMargins, IsMultiplied, IsMultiplier};
 ghost use Rattle.class_combine.specs.Whole.{IsAddOn};
 
-use mh_units::{Cents, Rate4, div_up};
-use simm_kinds::{CrifRow, ProductClass};
+use simm_params::mh_units::{Cents, Rate4, div_up};
+use simm_params::simm_kinds::{CrifRow, ProductClass};
 
 /// The margins of the product classes.
 #[derive(Clone, Copy)]

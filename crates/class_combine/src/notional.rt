@@ -1,17 +1,17 @@
 //! The add-on of notional factors.
 ghost use Rattle.std.specs.Prelude.{◌≡◌, ◌^◌, List, true, pos, ◌*ℤ◌};
-ghost use Rattle.mh_units.specs.Rounding.{up};
-ghost use Rattle.simm_kinds.specs.declared.row.CrifRow.{CrifRow as Row};
-ghost use Rattle.simm_kinds.specs.Batch.{is_in_range};
-ghost use Rattle.simm_rules.specs.AddOns.{notional_add_on};
+ghost use Rattle.simm_params.specs.MhUnits.Rounding.{up};
+ghost use Rattle.simm_params.specs.SimmKinds.declared.row.CrifRow.{CrifRow as Row};
+ghost use Rattle.simm_params.specs.SimmKinds.Batch.{is_in_range};
+ghost use Rattle.simm_params.specs.SimmRules.AddOns.{notional_add_on};
 ghost use Rattle.class_combine.specs.Notionals.{share_in, size_at, AreSizes, IsFactor, IsNotional};
 ghost use Rattle.class_combine.specs.Sums.{AreOfBook, StandFor};
 ghost use Rattle.class_combine.specs.Whole.{IsAddOn};
 
 use crate::notionals::Notionals;
 use crate::sums::AddOnSums;
-use mh_units::{Cents, Rate4, div_up};
-use simm_kinds::CrifRow;
+use simm_params::mh_units::{Cents, Rate4, div_up};
+use simm_params::simm_kinds::CrifRow;
 
 /// A factor of 100 percent: factors are in percent, in ten-thousandths.
 const WHOLE: i128 = 1_000_000;

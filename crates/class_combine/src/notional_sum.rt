@@ -1,7 +1,7 @@
 ghost use Rattle.std.specs.Prelude.{◌≡◌, Some, pos, unsigned_abs};
 ghost use Rattle.class_combine.specs.Summed.{CanGrow, CanShrink, IsSmall, first, grown, shrunk};
 
-use mh_units::Cents;
+use simm_params::mh_units::Cents;
 
 /// What the notionals of one qualifier come to.
 #[derive(Clone, Copy)]

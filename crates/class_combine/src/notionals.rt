@@ -3,8 +3,8 @@ ghost use Rattle.std.specs.FinMap as table;
 ghost use Rattle.class_combine.specs.Summed.{CanGrow, CanShrink, IsSmall, grown, shrunk, size_in, with_left};
 
 use crate::notional_sum::NotionalSum;
-use mh_units::Cents;
-use simm_kinds::Name;
+use simm_params::mh_units::Cents;
+use simm_params::simm_kinds::Name;
 use std::alloc::{AllocError, Global};
 use std::collections::BTreeMap;
 use std::marker::Model;
@@ -18,7 +18,7 @@ pub struct Notionals {
 impl Model for Notionals {
     ghost use Rattle.std.specs.FinMap as table;
     ghost use Rattle.std.specs.Coded.{coded_ℕ, coded_list};
-    ghost use Rattle.simm_kinds.specs.Order.{name_cmp};
+    ghost use Rattle.simm_params.specs.SimmKinds.Order.{name_cmp};
     ghost use Rattle.class_combine.specs.declared.notional_sum.NotionalSum.{NotionalSum};
     ghost use Rattle.class_combine.specs.Summed.{sum_code};
 

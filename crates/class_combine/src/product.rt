@@ -1,13 +1,13 @@
 ghost use Rattle.std.specs.Prelude.{◌≡◌, ◌*◌, ◌^◌, ◌≤◌, pos, ◌≤ℤ◌, unsigned_abs};
-ghost use Rattle.simm_kinds.specs.declared.kinds.RiskClass.{RiskClass as Class};
-ghost use Rattle.simm_rules.specs.Simm.{classes as each_class, joined};
-ghost use Rattle.simm_rules.specs.Sums.{total_by, total_by_pairs};
+ghost use Rattle.simm_params.specs.SimmKinds.declared.kinds.RiskClass.{RiskClass as Class};
+ghost use Rattle.simm_params.specs.SimmRules.Simm.{classes as each_class, joined};
+ghost use Rattle.simm_params.specs.SimmRules.Sums.{total_by, total_by_pairs};
 ghost use Rattle.class_combine.specs.Classes.{class_in, class_pair, AreClassMargins};
 
-use mh_units::{Cents, div_up, least_root};
-use simm_kinds::RiskClass;
 use simm_params::Params;
-use simm_rules::ClassMargins;
+use simm_params::mh_units::{Cents, div_up, least_root};
+use simm_params::simm_kinds::RiskClass;
+use simm_params::simm_rules::ClassMargins;
 
 /// The margin of a product class that has these margins of its risk classes: the root of all ordered pairs of them, each by
 /// the correlation of the two classes, upwards to the cent.

@@ -1,12 +1,12 @@
 ghost use Rattle.std.specs.Prelude.{◌≡◌, ◌∷◌, ◌++◌, List, [], length, true, OnOk, OnErr};
 ghost use Rattle.std.specs.List.{list_all};
-ghost use Rattle.simm_kinds.specs.declared.row.CrifRow.{CrifRow as Row};
-ghost use Rattle.simm_kinds.specs.Batch.{is_in_range};
+ghost use Rattle.simm_params.specs.SimmKinds.declared.row.CrifRow.{CrifRow as Row};
+ghost use Rattle.simm_params.specs.SimmKinds.Batch.{is_in_range};
 ghost use Rattle.class_combine.specs.Sums.{sums_of, HasRoom, AreHeld, Holds};
 
 use crate::notionals::Notionals;
-use mh_units::Cents;
-use simm_kinds::CrifRow;
+use simm_params::mh_units::Cents;
+use simm_params::simm_kinds::CrifRow;
 use std::alloc::{AllocError, Global};
 
 /// What the add-ons of a book need of the rows that it holds: the sum of their fixed amounts, and for each qualifier the sum of

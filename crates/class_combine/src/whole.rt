@@ -5,9 +5,9 @@ ghost use Rattle.class_combine.specs.Whole.{margins_of, breakdown_of, AreProduct
 use crate::additional::AddOns;
 use crate::multipliers::ProductAmounts;
 use crate::product::product_margin;
-use mh_units::Cents;
 use simm_params::Params;
-use simm_rules::{Breakdown, ClassMargins, ProductMargin};
+use simm_params::mh_units::Cents;
+use simm_params::simm_rules::{Breakdown, ClassMargins, ProductMargin};
 
 /// The margins of the risk classes in each product class.
 #[derive(Clone, Copy)]

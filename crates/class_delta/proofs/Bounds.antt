@@ -4,31 +4,31 @@ use Rattle.std.specs.List.{AllByRecursion}
 use Rattle.std.proofs.lemmas.Int.{ints, unsigned_abs-mul}
 use Rattle.std.proofs.lemmas.List.{length-map}
 use Rattle.std.proofs.lemmas.List.Elements.{recursion_from_All}
-use Rattle.mh_units.specs.Rounding.{away}
-use Rattle.mh_units.proofs.Integers.{add-mul_ℤ}
-use Rattle.simm_kinds.specs.declared.kinds.ProductClass.{ProductClass}
-use Rattle.simm_kinds.specs.declared.kinds.RiskClass.TheVariants as class
-use Rattle.simm_kinds.specs.declared.bucket.Bucket.{Bucket}
-use Rattle.simm_kinds.specs.declared.key.FactorKey.{FactorKey}
-use Rattle.simm_kinds.specs.declared.row.CrifRow.{CrifRow}
-use Rattle.simm_kinds.specs.Order.{same_product}
-use Rattle.simm_rules.specs.declared.values.BucketMargin.{BucketMargin}
-use Rattle.simm_rules.specs.Params.{Params, CreditBucket, PricedBucket}
-use Rattle.simm_rules.specs.Sums.{total_by}
-use Rattle.simm_rules.specs.Net.{Sensitivity, sensitivities, in_product}
-use Rattle.simm_rules.specs.Risks.{CreditClass, Qualifying, Non_qualifying, PricedClass, Equities, Commodities, Amount, select}
-use Rattle.simm_rules.specs.BaseCorrelation.{as_index, weighted_index, base_value}
-use Rattle.simm_rules.specs.Bucket.{Weighted}
-use Rattle.simm_rules.specs.Credit.{as_credit, credit_params}
-use Rattle.simm_rules.specs.ForeignExchange.{as_currency, is_own_currency, fx_weight}
-use Rattle.simm_rules.specs.Gross.{size_by, credit_size, price_size}
-use Rattle.simm_rules.specs.Priced.{as_price, priced_params}
-use Rattle.simm_rules.specs.Rates.{as_rate, rate_weight, rates_in}
-use Rattle.simm_params.specs.Buckets.{AreInOrder}
-use Rattle.simm_params.specs.ClassRanges.{IsCreditBucket, IsPricedBucket}
-use Rattle.simm_params.specs.Facts.{IsParams, IsCreditParams, IsPricedParams}
-use Rattle.factor_book.specs.declared.holding.Holding.{Holding}
-use Rattle.factor_book.specs.Factors.{factors_of, net_of}
+use Rattle.ir_delta.specs.MhUnits.Rounding.{away}
+use Rattle.ir_delta.proofs.MhUnits.Integers.{add-mul_ℤ}
+use Rattle.ir_delta.specs.SimmKinds.declared.kinds.ProductClass.{ProductClass}
+use Rattle.ir_delta.specs.SimmKinds.declared.kinds.RiskClass.TheVariants as class
+use Rattle.ir_delta.specs.SimmKinds.declared.bucket.Bucket.{Bucket}
+use Rattle.ir_delta.specs.SimmKinds.declared.key.FactorKey.{FactorKey}
+use Rattle.ir_delta.specs.SimmKinds.declared.row.CrifRow.{CrifRow}
+use Rattle.ir_delta.specs.SimmKinds.Order.{same_product}
+use Rattle.ir_delta.specs.SimmRules.declared.values.BucketMargin.{BucketMargin}
+use Rattle.ir_delta.specs.SimmRules.Params.{Params, CreditBucket, PricedBucket}
+use Rattle.ir_delta.specs.SimmRules.Sums.{total_by}
+use Rattle.ir_delta.specs.SimmRules.Net.{Sensitivity, sensitivities, in_product}
+use Rattle.ir_delta.specs.SimmRules.Risks.{CreditClass, Qualifying, Non_qualifying, PricedClass, Equities, Commodities, Amount, select}
+use Rattle.ir_delta.specs.SimmRules.BaseCorrelation.{as_index, weighted_index, base_value}
+use Rattle.ir_delta.specs.SimmRules.Bucket.{Weighted}
+use Rattle.ir_delta.specs.SimmRules.Credit.{as_credit, credit_params}
+use Rattle.ir_delta.specs.SimmRules.ForeignExchange.{as_currency, is_own_currency, fx_weight}
+use Rattle.ir_delta.specs.SimmRules.Gross.{size_by, credit_size, price_size}
+use Rattle.ir_delta.specs.SimmRules.Priced.{as_price, priced_params}
+use Rattle.ir_delta.specs.SimmRules.Rates.{as_rate, rate_weight, rates_in}
+use Rattle.ir_delta.specs.SimmParams.Buckets.{AreInOrder}
+use Rattle.ir_delta.specs.SimmParams.ClassRanges.{IsCreditBucket, IsPricedBucket}
+use Rattle.ir_delta.specs.SimmParams.Facts.{IsParams, IsCreditParams, IsPricedParams}
+use Rattle.ir_delta.specs.FactorBook.declared.holding.Holding.{Holding}
+use Rattle.ir_delta.specs.FactorBook.Factors.{factors_of, net_of}
 use Rattle.book_range.specs.Bounded.{IsBounded}
 use Rattle.ir_delta.specs.Range.{IsClass}
 use Rattle.ir_delta.proofs.Lent.{rate_place}

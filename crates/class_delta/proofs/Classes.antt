@@ -3,30 +3,30 @@ use Rattle.std.proofs.Common.{◌≡◌, ◌^◌, ℕ, ◌*◌, ◌≤◌, List,
 use Rattle.std.specs.Prelude.{sum_by}
 use Rattle.std.specs.List.{list_any, list_all, AllByRecursion}
 use Rattle.std.specs.List.Sorted.{IsStrictlySortedBy}
-use Rattle.simm_kinds.specs.declared.kinds.ProductClass.{ProductClass}
-use Rattle.simm_kinds.specs.declared.kinds.RiskClass.{RiskClass}
-use Rattle.simm_kinds.specs.declared.kinds.RiskClass.TheVariants as class
-use Rattle.simm_kinds.specs.declared.kinds.BucketId.{BucketId}
-use Rattle.simm_kinds.specs.declared.kinds.BucketId.TheVariants as id
-use Rattle.simm_kinds.specs.declared.bucket.Bucket.{Bucket}
-use Rattle.simm_kinds.specs.declared.bucket.Bucket.TheVariants as bucket
-use Rattle.simm_kinds.specs.declared.key.FactorKey.{FactorKey}
-use Rattle.simm_kinds.specs.declared.row.CrifRow.{CrifRow}
-use Rattle.simm_kinds.specs.Factors.{bucket_id_of}
-use Rattle.simm_kinds.specs.Order.{bucket_id_cmp, same_bucket_id}
-use Rattle.simm_rules.specs.Params.{Params, CreditBucket, PricedBucket}
-use Rattle.simm_rules.specs.Net.{Sensitivity}
-use Rattle.simm_rules.specs.Risks.{CreditClass, Qualifying, Non_qualifying, PricedClass, Equities, Commodities, CreditPoint, Amount, select}
-use Rattle.simm_rules.specs.Across.{margin_over}
-use Rattle.simm_rules.specs.Admits.{admits}
-use Rattle.simm_rules.specs.Credit.{as_credit, credit_params, listed_credit, weighted_point, credit_value}
-use Rattle.simm_rules.specs.Credit.{credit_delta as credit_margin}
-use Rattle.simm_rules.specs.Priced.{as_price, priced_params, listed_priced, weighted_name, price_value, price_delta}
-use Rattle.simm_params.specs.Facts.{IsParams}
-use Rattle.factor_book.specs.declared.at.ClassAt.{ClassAt}
-use Rattle.factor_book.specs.declared.holding.Holding.{Holding}
-use Rattle.factor_book.specs.Factors.{factors_of}
-use Rattle.factor_book.specs.Places.{factors_at}
+use Rattle.ir_delta.specs.SimmKinds.declared.kinds.ProductClass.{ProductClass}
+use Rattle.ir_delta.specs.SimmKinds.declared.kinds.RiskClass.{RiskClass}
+use Rattle.ir_delta.specs.SimmKinds.declared.kinds.RiskClass.TheVariants as class
+use Rattle.ir_delta.specs.SimmKinds.declared.kinds.BucketId.{BucketId}
+use Rattle.ir_delta.specs.SimmKinds.declared.kinds.BucketId.TheVariants as id
+use Rattle.ir_delta.specs.SimmKinds.declared.bucket.Bucket.{Bucket}
+use Rattle.ir_delta.specs.SimmKinds.declared.bucket.Bucket.TheVariants as bucket
+use Rattle.ir_delta.specs.SimmKinds.declared.key.FactorKey.{FactorKey}
+use Rattle.ir_delta.specs.SimmKinds.declared.row.CrifRow.{CrifRow}
+use Rattle.ir_delta.specs.SimmKinds.Factors.{bucket_id_of}
+use Rattle.ir_delta.specs.SimmKinds.Order.{bucket_id_cmp, same_bucket_id}
+use Rattle.ir_delta.specs.SimmRules.Params.{Params, CreditBucket, PricedBucket}
+use Rattle.ir_delta.specs.SimmRules.Net.{Sensitivity}
+use Rattle.ir_delta.specs.SimmRules.Risks.{CreditClass, Qualifying, Non_qualifying, PricedClass, Equities, Commodities, CreditPoint, Amount, select}
+use Rattle.ir_delta.specs.SimmRules.Across.{margin_over}
+use Rattle.ir_delta.specs.SimmRules.Admits.{admits}
+use Rattle.ir_delta.specs.SimmRules.Credit.{as_credit, credit_params, listed_credit, weighted_point, credit_value}
+use Rattle.ir_delta.specs.SimmRules.Credit.{credit_delta as credit_margin}
+use Rattle.ir_delta.specs.SimmRules.Priced.{as_price, priced_params, listed_priced, weighted_name, price_value, price_delta}
+use Rattle.ir_delta.specs.SimmParams.Facts.{IsParams}
+use Rattle.ir_delta.specs.FactorBook.declared.at.ClassAt.{ClassAt}
+use Rattle.ir_delta.specs.FactorBook.declared.holding.Holding.{Holding}
+use Rattle.ir_delta.specs.FactorBook.Factors.{factors_of}
+use Rattle.ir_delta.specs.FactorBook.Places.{factors_at}
 use Rattle.book_range.specs.Bounded.{IsBounded}
 use Rattle.name_delta.specs.Combine.{parts_in, combined_by_class, IsListed, HasBucket, AreSized, AreParts}
 use Rattle.name_delta.specs.Delta.{credit_delta, priced_delta, delta_value, IsCreditReady, IsPricedReady, IsReady, IsCreditSized, IsPricedSized, IsDeltaSized}

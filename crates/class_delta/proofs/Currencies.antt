@@ -1,17 +1,17 @@
 -- The buckets of interest rates are currencies: their values, and the margin over them.
 use Rattle.std.proofs.Common.{◌≡◌, ℕ, ◌≤◌, List, [], ◌∷◌, map, length, Some, refl, sym, ap, ◌∙◌, subst}
 use Rattle.std.specs.List.{AllByRecursion}
-use Rattle.simm_kinds.specs.declared.kinds.ProductClass.{ProductClass}
-use Rattle.simm_kinds.specs.declared.kinds.RiskClass.{RiskClass}
-use Rattle.simm_kinds.specs.declared.kinds.RiskClass.TheVariants as class
-use Rattle.simm_kinds.specs.declared.kinds.BucketId.{BucketId}
-use Rattle.simm_kinds.specs.declared.kinds.BucketId.TheVariants as id
-use Rattle.simm_kinds.specs.declared.key.FactorKey.{FactorKey}
-use Rattle.simm_rules.specs.declared.values.BucketMargin.{BucketMargin}
-use Rattle.simm_rules.specs.Params.{Params}
-use Rattle.factor_book.specs.declared.at.ClassAt.{ClassAt}
-use Rattle.factor_book.specs.declared.holding.Holding.{Holding}
-use Rattle.factor_book.specs.Places.{factors_at}
+use Rattle.ir_delta.specs.SimmKinds.declared.kinds.ProductClass.{ProductClass}
+use Rattle.ir_delta.specs.SimmKinds.declared.kinds.RiskClass.{RiskClass}
+use Rattle.ir_delta.specs.SimmKinds.declared.kinds.RiskClass.TheVariants as class
+use Rattle.ir_delta.specs.SimmKinds.declared.kinds.BucketId.{BucketId}
+use Rattle.ir_delta.specs.SimmKinds.declared.kinds.BucketId.TheVariants as id
+use Rattle.ir_delta.specs.SimmKinds.declared.key.FactorKey.{FactorKey}
+use Rattle.ir_delta.specs.SimmRules.declared.values.BucketMargin.{BucketMargin}
+use Rattle.ir_delta.specs.SimmRules.Params.{Params}
+use Rattle.ir_delta.specs.FactorBook.declared.at.ClassAt.{ClassAt}
+use Rattle.ir_delta.specs.FactorBook.declared.holding.Holding.{Holding}
+use Rattle.ir_delta.specs.FactorBook.Places.{factors_at}
 use Rattle.ir_delta.specs.Bucket.{buckets_at, rates_at, delta_value}
 use Rattle.ir_delta.specs.Parts.{IsCurrency, currencies_of, buckets_of}
 use Rattle.ir_delta.specs.Range.{IsPart}

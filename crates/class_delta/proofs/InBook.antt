@@ -4,29 +4,29 @@ use Rattle.std.specs.List.{filter, list_any, list_all, AllByRecursion}
 use Rattle.std.specs.List.Sorted.{IsStrictlySortedBy}
 use Rattle.std.proofs.lemmas.Bool.{and_parts, false≢true}
 use Rattle.std.proofs.lemmas.List.Kept.{IsStrictlySortedBy-filter}
-use Rattle.simm_kinds.specs.declared.kinds.RiskClass.{RiskClass}
-use Rattle.simm_kinds.specs.declared.kinds.RiskClass.TheVariants as class
-use Rattle.simm_kinds.specs.declared.kinds.BucketId.{BucketId}
-use Rattle.simm_kinds.specs.declared.kinds.BucketId.TheVariants as id
-use Rattle.simm_kinds.specs.declared.bucket.Bucket.{Bucket}
-use Rattle.simm_kinds.specs.declared.bucket.Bucket.TheVariants as bucket
-use Rattle.simm_kinds.specs.declared.factor.Factor.{Factor}
-use Rattle.simm_kinds.specs.declared.factor.Factor.TheVariants as factor
-use Rattle.simm_kinds.specs.declared.key.FactorKey.{FactorKey}
-use Rattle.simm_kinds.specs.declared.row.CrifRow.{CrifRow}
-use Rattle.simm_kinds.specs.declared.row.CrifRow.TheVariants as row
-use Rattle.simm_kinds.specs.Factors.{class_of, side_of, bucket_of, bucket_id_of}
-use Rattle.simm_kinds.specs.Order.{same_product, same_class, bucket_id_cmp, same_bucket_id, key_cmp}
-use Rattle.simm_rules.specs.Params.{Params}
-use Rattle.simm_rules.specs.Net.{Sensitivity, sensitivities, keys_of}
-use Rattle.simm_rules.specs.Admits.{admits_factor, admits}
-use Rattle.factor_book.specs.declared.at.ClassAt.{ClassAt}
-use Rattle.factor_book.specs.declared.holding.Holding.{Holding}
-use Rattle.factor_book.specs.declared.place.BookSide.TheVariants as side
-use Rattle.factor_book.specs.declared.place.Place.{Place}
-use Rattle.factor_book.specs.Factors.{factor_of, factors_of}
-use Rattle.factor_book.specs.Place.{book_side}
-use Rattle.factor_book.specs.Places.{same_side, factors_at, is_on}
+use Rattle.ir_delta.specs.SimmKinds.declared.kinds.RiskClass.{RiskClass}
+use Rattle.ir_delta.specs.SimmKinds.declared.kinds.RiskClass.TheVariants as class
+use Rattle.ir_delta.specs.SimmKinds.declared.kinds.BucketId.{BucketId}
+use Rattle.ir_delta.specs.SimmKinds.declared.kinds.BucketId.TheVariants as id
+use Rattle.ir_delta.specs.SimmKinds.declared.bucket.Bucket.{Bucket}
+use Rattle.ir_delta.specs.SimmKinds.declared.bucket.Bucket.TheVariants as bucket
+use Rattle.ir_delta.specs.SimmKinds.declared.factor.Factor.{Factor}
+use Rattle.ir_delta.specs.SimmKinds.declared.factor.Factor.TheVariants as factor
+use Rattle.ir_delta.specs.SimmKinds.declared.key.FactorKey.{FactorKey}
+use Rattle.ir_delta.specs.SimmKinds.declared.row.CrifRow.{CrifRow}
+use Rattle.ir_delta.specs.SimmKinds.declared.row.CrifRow.TheVariants as row
+use Rattle.ir_delta.specs.SimmKinds.Factors.{class_of, side_of, bucket_of, bucket_id_of}
+use Rattle.ir_delta.specs.SimmKinds.Order.{same_product, same_class, bucket_id_cmp, same_bucket_id, key_cmp}
+use Rattle.ir_delta.specs.SimmRules.Params.{Params}
+use Rattle.ir_delta.specs.SimmRules.Net.{Sensitivity, sensitivities, keys_of}
+use Rattle.ir_delta.specs.SimmRules.Admits.{admits_factor, admits}
+use Rattle.ir_delta.specs.FactorBook.declared.at.ClassAt.{ClassAt}
+use Rattle.ir_delta.specs.FactorBook.declared.holding.Holding.{Holding}
+use Rattle.ir_delta.specs.FactorBook.declared.place.BookSide.TheVariants as side
+use Rattle.ir_delta.specs.FactorBook.declared.place.Place.{Place}
+use Rattle.ir_delta.specs.FactorBook.Factors.{factor_of, factors_of}
+use Rattle.ir_delta.specs.FactorBook.Place.{book_side}
+use Rattle.ir_delta.specs.FactorBook.Places.{same_side, factors_at, is_on}
 use Rattle.ir_delta.specs.Parts.{IsCurrency}
 use Rattle.name_delta.specs.Combine.{HasBucket}
 use Rattle.name_delta.proofs.Lists.{each_weaker, each_both, each_map, each_kept, kept_pass}

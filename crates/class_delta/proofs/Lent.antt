@@ -1,12 +1,12 @@
 -- The buckets of the places that a book lends.
 use Rattle.std.proofs.Common.{◌≡◌, List, map, refl, ◌∙◌}
 use Rattle.std.proofs.lemmas.Simd.{map-map}
-use Rattle.simm_kinds.specs.declared.kinds.BucketId.{BucketId}
-use Rattle.simm_kinds.specs.declared.key.FactorKey.{FactorKey}
-use Rattle.factor_book.specs.declared.at.SideAt.{SideAt}
-use Rattle.factor_book.specs.declared.holding.Holding.{Holding}
-use Rattle.factor_book.specs.declared.place.Place.{Place}
-use Rattle.factor_book.specs.Places.{place_in, factors_at, buckets_on, by_bucket}
+use Rattle.ir_delta.specs.SimmKinds.declared.kinds.BucketId.{BucketId}
+use Rattle.ir_delta.specs.SimmKinds.declared.key.FactorKey.{FactorKey}
+use Rattle.ir_delta.specs.FactorBook.declared.at.SideAt.{SideAt}
+use Rattle.ir_delta.specs.FactorBook.declared.holding.Holding.{Holding}
+use Rattle.ir_delta.specs.FactorBook.declared.place.Place.{Place}
+use Rattle.ir_delta.specs.FactorBook.Places.{place_in, factors_at, buckets_on, by_bucket}
 use Rattle.name_delta.proofs.Lists.{map-itself}
 
 abbrev pub Lent : Type 0

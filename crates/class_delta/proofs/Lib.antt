@@ -14,3 +14,8 @@ pub mod Currencies
 pub mod Named
 pub mod OneBucket
 pub mod Lent
+pub use Rattle.ir_delta.proofs.MhUnits as MhUnits
+pub use Rattle.ir_delta.proofs.FactorBook as FactorBook
+pub use Rattle.ir_delta.proofs as IrDelta
+pub use Rattle.name_delta.proofs as NameDelta
+pub use Rattle.book_range.proofs as BookRange

@@ -10,19 +10,19 @@ use Rattle.std.proofs.lemmas.Cmp.{eq_by_cmp_equiv}
 use Rattle.std.proofs.lemmas.Int.{ints}
 use Rattle.std.proofs.lemmas.List.Sums.{sum_by-cons}
 use Rattle.std.proofs.lemmas.Map.Lookups.{exact_bytes}
-use Rattle.simm_kinds.specs.declared.kinds.BucketId.{BucketId}
-use Rattle.simm_kinds.specs.declared.bucket.Bucket.{Bucket}
-use Rattle.simm_kinds.specs.declared.bucket.Bucket.TheVariants as bucket
-use Rattle.simm_kinds.specs.Factors.{bucket_id_of}
-use Rattle.simm_kinds.specs.Order.{bucket_numbers, same_bucket, bucket_id_cmp, same_bucket_id}
-use Rattle.simm_kinds.proofs.Variants.{is_eq-Equal}
-use Rattle.simm_rules.specs.declared.values.BucketMargin.{BucketMargin}
-use Rattle.simm_rules.specs.Sums.{total_by}
-use Rattle.simm_rules.specs.Risks.{Amount}
-use Rattle.simm_rules.specs.Across.{Part, margin_over}
-use Rattle.simm_rules.specs.Admits.{lists}
-use Rattle.simm_rules.specs.Gross.{size_by}
-use Rattle.simm_params.specs.Buckets.{bucket_slot, AreInOrder}
+use Rattle.ir_delta.specs.SimmKinds.declared.kinds.BucketId.{BucketId}
+use Rattle.ir_delta.specs.SimmKinds.declared.bucket.Bucket.{Bucket}
+use Rattle.ir_delta.specs.SimmKinds.declared.bucket.Bucket.TheVariants as bucket
+use Rattle.ir_delta.specs.SimmKinds.Factors.{bucket_id_of}
+use Rattle.ir_delta.specs.SimmKinds.Order.{bucket_numbers, same_bucket, bucket_id_cmp, same_bucket_id}
+use Rattle.ir_delta.proofs.SimmKinds.Variants.{is_eq-Equal}
+use Rattle.ir_delta.specs.SimmRules.declared.values.BucketMargin.{BucketMargin}
+use Rattle.ir_delta.specs.SimmRules.Sums.{total_by}
+use Rattle.ir_delta.specs.SimmRules.Risks.{Amount}
+use Rattle.ir_delta.specs.SimmRules.Across.{Part, margin_over}
+use Rattle.ir_delta.specs.SimmRules.Admits.{lists}
+use Rattle.ir_delta.specs.SimmRules.Gross.{size_by}
+use Rattle.ir_delta.specs.SimmParams.Buckets.{bucket_slot, AreInOrder}
 use Rattle.book_range.proofs.Buckets.{id_total}
 use Rattle.name_delta.specs.Combine.{part_in, parts_in, AreSized}
 use Rattle.name_delta.specs.Values.{IsInRange, IsSized}

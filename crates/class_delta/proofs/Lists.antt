@@ -4,9 +4,9 @@ use Rattle.std.specs.declared.cmp.Ordering.{Ordering}
 use Rattle.std.specs.declared.cmp.Ordering.TheVariants.{Less, Equal, Greater}
 use Rattle.std.specs.List.{filter, AllByRecursion}
 use Rattle.std.proofs.lemmas.List.Sums.{length-filter, count_by-le-length}
-use Rattle.simm_rules.specs.Sums.{put_in, placed, different}
-use Rattle.simm_rules.specs.Net.{Sensitivity}
-use Rattle.simm_rules.specs.Risks.{Risk, risk, select}
+use Rattle.ir_delta.specs.SimmRules.Sums.{put_in, placed, different}
+use Rattle.ir_delta.specs.SimmRules.Net.{Sensitivity}
+use Rattle.ir_delta.specs.SimmRules.Risks.{Risk, risk, select}
 use Rattle.name_delta.proofs.Selected.{select_none, select_some}
 
 pub filter-length : {X : Type 0} (p : X → Bool) (xs : List X) → length (filter p xs) ≤ length xs

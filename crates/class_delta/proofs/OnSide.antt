@@ -6,18 +6,18 @@ use Rattle.std.specs.List.Sorted.{IsStrictlySortedBy}
 use Rattle.std.proofs.lemmas.Bool.{false≢true}
 use Rattle.std.proofs.lemmas.Cmp.{tied_itself, alike_right, eq_by_cmp_equiv}
 use Rattle.std.proofs.lemmas.List.Folds.{list_any_at}
-use Rattle.simm_kinds.specs.declared.kinds.BucketId.{BucketId}
-use Rattle.simm_kinds.specs.declared.key.FactorKey.{FactorKey}
-use Rattle.simm_kinds.specs.Factors.{class_of, side_of, bucket_of}
-use Rattle.simm_kinds.specs.Order.{same_product, same_class, bucket_id_cmp, same_bucket_id}
-use Rattle.simm_kinds.proofs.Variants.{is_eq-Equal}
-use Rattle.factor_book.specs.declared.at.SideAt.{SideAt}
-use Rattle.factor_book.specs.declared.holding.Holding.{Holding}
-use Rattle.factor_book.specs.Place.{book_side}
-use Rattle.factor_book.specs.Places.{same_side, stands_at, factors_at, is_on, place_in, buckets_on}
-use Rattle.factor_book.proofs.Grouping.{any_is, any-filter}
-use Rattle.factor_book.proofs.Sorting.{any_different, different_ascends}
-use Rattle.factor_book.proofs.Standing.{exact_ids}
+use Rattle.ir_delta.specs.SimmKinds.declared.kinds.BucketId.{BucketId}
+use Rattle.ir_delta.specs.SimmKinds.declared.key.FactorKey.{FactorKey}
+use Rattle.ir_delta.specs.SimmKinds.Factors.{class_of, side_of, bucket_of}
+use Rattle.ir_delta.specs.SimmKinds.Order.{same_product, same_class, bucket_id_cmp, same_bucket_id}
+use Rattle.ir_delta.proofs.SimmKinds.Variants.{is_eq-Equal}
+use Rattle.ir_delta.specs.FactorBook.declared.at.SideAt.{SideAt}
+use Rattle.ir_delta.specs.FactorBook.declared.holding.Holding.{Holding}
+use Rattle.ir_delta.specs.FactorBook.Place.{book_side}
+use Rattle.ir_delta.specs.FactorBook.Places.{same_side, stands_at, factors_at, is_on, place_in, buckets_on}
+use Rattle.ir_delta.proofs.FactorBook.Grouping.{any_is, any-filter}
+use Rattle.ir_delta.proofs.FactorBook.Sorting.{any_different, different_ascends}
+use Rattle.ir_delta.proofs.FactorBook.Standing.{exact_ids}
 use Rattle.book_range.proofs.Buckets.{id_total}
 use Rattle.ir_delta.proofs.Lists.{filter_agrees}
 use Rattle.class_delta.proofs.Lists.{filter_twice}

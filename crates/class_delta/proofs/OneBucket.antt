@@ -3,22 +3,22 @@ use Rattle.std.proofs.Common.{◌≡◌, ◌^◌, ◌*◌, ℕ, List, [], ◌∷
 use Rattle.std.specs.Prelude.{option_map, unwrap_or}
 use Rattle.std.specs.List.{find, list_any, AllByRecursion}
 use Rattle.std.proofs.lemmas.Int.{ints}
-use Rattle.simm_kinds.specs.declared.kinds.ProductClass.{ProductClass}
-use Rattle.simm_kinds.specs.declared.kinds.RiskClass.{RiskClass}
-use Rattle.simm_kinds.specs.declared.kinds.RiskClass.TheVariants as class
-use Rattle.simm_kinds.specs.declared.kinds.BucketId.{BucketId}
-use Rattle.simm_kinds.specs.declared.kinds.BucketId.TheVariants as id
-use Rattle.simm_kinds.specs.declared.key.FactorKey.{FactorKey}
-use Rattle.simm_kinds.specs.Order.{same_bucket_id}
-use Rattle.simm_rules.specs.declared.values.BucketMargin.{BucketMargin}
-use Rattle.simm_rules.specs.Params.{Params}
-use Rattle.simm_rules.specs.ForeignExchange.{fx_weight, weighted_currency, fx_value, fx_delta}
-use Rattle.simm_rules.specs.BaseCorrelation.{base_value, base_margin}
-use Rattle.simm_params.specs.Facts.{IsParams}
-use Rattle.factor_book.specs.declared.at.ClassAt.{ClassAt}
-use Rattle.factor_book.specs.declared.at.SideAt.{SideAt}
-use Rattle.factor_book.specs.declared.holding.Holding.{Holding}
-use Rattle.factor_book.specs.Places.{factors_at, place_in, buckets_on}
+use Rattle.ir_delta.specs.SimmKinds.declared.kinds.ProductClass.{ProductClass}
+use Rattle.ir_delta.specs.SimmKinds.declared.kinds.RiskClass.{RiskClass}
+use Rattle.ir_delta.specs.SimmKinds.declared.kinds.RiskClass.TheVariants as class
+use Rattle.ir_delta.specs.SimmKinds.declared.kinds.BucketId.{BucketId}
+use Rattle.ir_delta.specs.SimmKinds.declared.kinds.BucketId.TheVariants as id
+use Rattle.ir_delta.specs.SimmKinds.declared.key.FactorKey.{FactorKey}
+use Rattle.ir_delta.specs.SimmKinds.Order.{same_bucket_id}
+use Rattle.ir_delta.specs.SimmRules.declared.values.BucketMargin.{BucketMargin}
+use Rattle.ir_delta.specs.SimmRules.Params.{Params}
+use Rattle.ir_delta.specs.SimmRules.ForeignExchange.{fx_weight, weighted_currency, fx_value, fx_delta}
+use Rattle.ir_delta.specs.SimmRules.BaseCorrelation.{base_value, base_margin}
+use Rattle.ir_delta.specs.SimmParams.Facts.{IsParams}
+use Rattle.ir_delta.specs.FactorBook.declared.at.ClassAt.{ClassAt}
+use Rattle.ir_delta.specs.FactorBook.declared.at.SideAt.{SideAt}
+use Rattle.ir_delta.specs.FactorBook.declared.holding.Holding.{Holding}
+use Rattle.ir_delta.specs.FactorBook.Places.{factors_at, place_in, buckets_on}
 use Rattle.book_range.specs.Bounded.{IsMarginable}
 use Rattle.name_delta.specs.Base.{indices_of, index_weight}
 use Rattle.name_delta.specs.Currencies.{currencies_in}

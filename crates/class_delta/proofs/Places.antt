@@ -3,29 +3,29 @@ use Rattle.std.proofs.Common.{◌≡◌, ℕ, List, false, not, Some, None, if�
 use Rattle.std.specs.Prelude.{option_map, IsSomeAnd}
 use Rattle.std.specs.List.{filter}
 use Rattle.std.proofs.lemmas.Bool.{false≢true}
-use Rattle.simm_kinds.specs.declared.kinds.ProductClass.{ProductClass}
-use Rattle.simm_kinds.specs.declared.kinds.RiskClass.{RiskClass}
-use Rattle.simm_kinds.specs.declared.kinds.RiskClass.TheVariants as class
-use Rattle.simm_kinds.specs.declared.kinds.BucketId.{BucketId}
-use Rattle.simm_kinds.specs.declared.kinds.BucketId.TheVariants as id
-use Rattle.simm_kinds.specs.declared.bucket.Bucket.{Bucket}
-use Rattle.simm_kinds.specs.declared.bucket.Bucket.TheVariants as bucket
-use Rattle.simm_kinds.specs.declared.factor.Factor.{Factor}
-use Rattle.simm_kinds.specs.declared.factor.Factor.TheVariants as factor
-use Rattle.simm_kinds.specs.declared.key.FactorKey.{FactorKey}
-use Rattle.simm_kinds.specs.Order.{same_name}
-use Rattle.simm_rules.specs.declared.values.BucketMargin.{BucketMargin}
-use Rattle.simm_rules.specs.Params.{Params}
-use Rattle.simm_rules.specs.Risks.{risk, CreditClass, Qualifying, Non_qualifying, PricedClass, Equities, Commodities, credit_point, Amount}
-use Rattle.simm_rules.specs.Rates.{RateIn, as_rate, rates_in, currency_value}
-use Rattle.simm_rules.specs.Credit.{as_credit, credit_params, credit_value}
-use Rattle.simm_rules.specs.Priced.{as_price, priced_params, price_value}
-use Rattle.simm_rules.specs.ForeignExchange.{as_currency, is_own_currency, fx_weight, fx_value}
-use Rattle.simm_rules.specs.BaseCorrelation.{as_index, base_value}
-use Rattle.simm_params.specs.ListedBuckets.{credit_bucket_of, priced_bucket_of}
-use Rattle.factor_book.specs.declared.at.BucketAt.{BucketAt}
-use Rattle.factor_book.specs.declared.holding.Holding.{Holding}
-use Rattle.factor_book.specs.Places.{factors_at}
+use Rattle.ir_delta.specs.SimmKinds.declared.kinds.ProductClass.{ProductClass}
+use Rattle.ir_delta.specs.SimmKinds.declared.kinds.RiskClass.{RiskClass}
+use Rattle.ir_delta.specs.SimmKinds.declared.kinds.RiskClass.TheVariants as class
+use Rattle.ir_delta.specs.SimmKinds.declared.kinds.BucketId.{BucketId}
+use Rattle.ir_delta.specs.SimmKinds.declared.kinds.BucketId.TheVariants as id
+use Rattle.ir_delta.specs.SimmKinds.declared.bucket.Bucket.{Bucket}
+use Rattle.ir_delta.specs.SimmKinds.declared.bucket.Bucket.TheVariants as bucket
+use Rattle.ir_delta.specs.SimmKinds.declared.factor.Factor.{Factor}
+use Rattle.ir_delta.specs.SimmKinds.declared.factor.Factor.TheVariants as factor
+use Rattle.ir_delta.specs.SimmKinds.declared.key.FactorKey.{FactorKey}
+use Rattle.ir_delta.specs.SimmKinds.Order.{same_name}
+use Rattle.ir_delta.specs.SimmRules.declared.values.BucketMargin.{BucketMargin}
+use Rattle.ir_delta.specs.SimmRules.Params.{Params}
+use Rattle.ir_delta.specs.SimmRules.Risks.{risk, CreditClass, Qualifying, Non_qualifying, PricedClass, Equities, Commodities, credit_point, Amount}
+use Rattle.ir_delta.specs.SimmRules.Rates.{RateIn, as_rate, rates_in, currency_value}
+use Rattle.ir_delta.specs.SimmRules.Credit.{as_credit, credit_params, credit_value}
+use Rattle.ir_delta.specs.SimmRules.Priced.{as_price, priced_params, price_value}
+use Rattle.ir_delta.specs.SimmRules.ForeignExchange.{as_currency, is_own_currency, fx_weight, fx_value}
+use Rattle.ir_delta.specs.SimmRules.BaseCorrelation.{as_index, base_value}
+use Rattle.ir_delta.specs.SimmParams.ListedBuckets.{credit_bucket_of, priced_bucket_of}
+use Rattle.ir_delta.specs.FactorBook.declared.at.BucketAt.{BucketAt}
+use Rattle.ir_delta.specs.FactorBook.declared.holding.Holding.{Holding}
+use Rattle.ir_delta.specs.FactorBook.Places.{factors_at}
 use Rattle.ir_delta.proofs.Lent.{rate_place, one_of}
 use Rattle.name_delta.specs.Base.{base_place, indices_of, index_weight}
 use Rattle.name_delta.specs.Currencies.{currency_place, currencies_in}

@@ -3,14 +3,14 @@ use Rattle.std.proofs.Common.{◌≡◌, List, [], ◌∷◌, map, Bool, true, f
 use Rattle.std.specs.List.{filter}
 use Rattle.std.proofs.Math.IntN.{+ℤ_idl}
 use Rattle.std.proofs.lemmas.Int.{ints}
-use Rattle.simm_kinds.specs.declared.bucket.Bucket.{Bucket}
-use Rattle.simm_kinds.specs.Order.{same_bucket}
-use Rattle.simm_rules.specs.Sums.{total_by, total_by_pairs}
-use Rattle.simm_rules.specs.Concentration.{one}
-use Rattle.simm_rules.specs.Bucket.{root_of}
-use Rattle.simm_rules.specs.Across.{Part, outer, is_residual, numbered, residual, gamma_among, margin_over}
-use Rattle.factor_book.proofs.Sums.{total_by-map}
-use Rattle.pair_sum.proofs.Sums.{total_by-ext}
+use Rattle.ir_delta.specs.SimmKinds.declared.bucket.Bucket.{Bucket}
+use Rattle.ir_delta.specs.SimmKinds.Order.{same_bucket}
+use Rattle.ir_delta.specs.SimmRules.Sums.{total_by, total_by_pairs}
+use Rattle.ir_delta.specs.SimmRules.Concentration.{one}
+use Rattle.ir_delta.specs.SimmRules.Bucket.{root_of}
+use Rattle.ir_delta.specs.SimmRules.Across.{Part, outer, is_residual, numbered, residual, gamma_among, margin_over}
+use Rattle.ir_delta.proofs.FactorBook.Sums.{total_by-map}
+use Rattle.ir_delta.proofs.PairSums.Sums.{total_by-ext}
 
 -- each sum over the ones is that over the others
 abbrev pub Alike : {X : Type 0} → List X → List X → Type 0

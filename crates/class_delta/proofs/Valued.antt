@@ -2,10 +2,10 @@
 use Rattle.std.proofs.Common.{◌≡◌, ℕ, ◌+◌, ◌<◌, List, [], ◌∷◌, ◌++◌, map, take, length, get_or, Option, Some, sym, ap, ◌∙◌, subst}
 use Rattle.std.specs.List.{AllByRecursion}
 use Rattle.std.proofs.lemmas.List.{take_more, map-append}
-use Rattle.simm_kinds.specs.declared.kinds.BucketId.{BucketId}
-use Rattle.simm_rules.specs.declared.values.BucketMargin.{BucketMargin}
-use Rattle.factor_book.specs.declared.at.BucketAt.{BucketAt}
-use Rattle.factor_book.specs.declared.at.ClassAt.{ClassAt}
+use Rattle.ir_delta.specs.SimmKinds.declared.kinds.BucketId.{BucketId}
+use Rattle.ir_delta.specs.SimmRules.declared.values.BucketMargin.{BucketMargin}
+use Rattle.ir_delta.specs.FactorBook.declared.at.BucketAt.{BucketAt}
+use Rattle.ir_delta.specs.FactorBook.declared.at.ClassAt.{ClassAt}
 use Rattle.class_delta.specs.Buckets.{bucket_at}
 use Rattle.class_delta.specs.Values.{IsValuedBy, AreValuedBy}
 

@@ -2,18 +2,18 @@
 -- (ISDA SIMM methodology, delta margin: aggregation within a bucket.)
 use Rattle.std.specs.Prelude.{List, Bool, true, false, not}
 use Rattle.std.specs.List.{filter}
-use Rattle.simm_kinds.specs.declared.kinds.RiskClass.{RiskClass}
-use Rattle.simm_kinds.specs.declared.kinds.RiskClass.TheVariants as class
-use Rattle.simm_kinds.specs.declared.kinds.BucketId.{BucketId}
-use Rattle.simm_kinds.specs.declared.kinds.BucketId.TheVariants as id
-use Rattle.simm_kinds.specs.declared.key.FactorKey.{FactorKey}
-use Rattle.factor_book.specs.declared.at.BucketAt.{BucketAt}
-use Rattle.factor_book.specs.declared.at.ClassAt.{ClassAt}
-use Rattle.factor_book.specs.declared.at.SideAt.{SideAt}
-use Rattle.factor_book.specs.declared.holding.Holding.{Holding}
-use Rattle.factor_book.specs.declared.place.Place.{Place}
-use Rattle.factor_book.specs.declared.place.BookSide.TheVariants as side
-use Rattle.factor_book.specs.Places.{buckets_on}
+use Rattle.ir_delta.specs.SimmKinds.declared.kinds.RiskClass.{RiskClass}
+use Rattle.ir_delta.specs.SimmKinds.declared.kinds.RiskClass.TheVariants as class
+use Rattle.ir_delta.specs.SimmKinds.declared.kinds.BucketId.{BucketId}
+use Rattle.ir_delta.specs.SimmKinds.declared.kinds.BucketId.TheVariants as id
+use Rattle.ir_delta.specs.SimmKinds.declared.key.FactorKey.{FactorKey}
+use Rattle.ir_delta.specs.FactorBook.declared.at.BucketAt.{BucketAt}
+use Rattle.ir_delta.specs.FactorBook.declared.at.ClassAt.{ClassAt}
+use Rattle.ir_delta.specs.FactorBook.declared.at.SideAt.{SideAt}
+use Rattle.ir_delta.specs.FactorBook.declared.holding.Holding.{Holding}
+use Rattle.ir_delta.specs.FactorBook.declared.place.Place.{Place}
+use Rattle.ir_delta.specs.FactorBook.declared.place.BookSide.TheVariants as side
+use Rattle.ir_delta.specs.FactorBook.Places.{buckets_on}
 
 abbrev pub delta_side : ClassAt → SideAt
 delta_side at = record { product = at.product; class = at.class; side = side.Delta }

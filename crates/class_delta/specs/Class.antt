@@ -1,15 +1,15 @@
 -- The delta margin of a risk class in a product class.
 -- (ISDA SIMM methodology, delta margin.)
 use Rattle.std.specs.Prelude.{List, ℤ}
-use Rattle.simm_kinds.specs.declared.kinds.RiskClass.{RiskClass}
-use Rattle.simm_kinds.specs.declared.kinds.RiskClass.TheVariants as class
-use Rattle.simm_rules.specs.Params.{Params}
-use Rattle.simm_rules.specs.Net.{Sensitivity}
-use Rattle.simm_rules.specs.Risks.{Qualifying, Non_qualifying, Equities, Commodities}
-use Rattle.simm_rules.specs.Rates.{rate_delta}
-use Rattle.simm_rules.specs.Credit.{credit_delta}
-use Rattle.simm_rules.specs.Priced.{price_delta}
-use Rattle.simm_rules.specs.ForeignExchange.{fx_delta}
+use Rattle.ir_delta.specs.SimmKinds.declared.kinds.RiskClass.{RiskClass}
+use Rattle.ir_delta.specs.SimmKinds.declared.kinds.RiskClass.TheVariants as class
+use Rattle.ir_delta.specs.SimmRules.Params.{Params}
+use Rattle.ir_delta.specs.SimmRules.Net.{Sensitivity}
+use Rattle.ir_delta.specs.SimmRules.Risks.{Qualifying, Non_qualifying, Equities, Commodities}
+use Rattle.ir_delta.specs.SimmRules.Rates.{rate_delta}
+use Rattle.ir_delta.specs.SimmRules.Credit.{credit_delta}
+use Rattle.ir_delta.specs.SimmRules.Priced.{price_delta}
+use Rattle.ir_delta.specs.SimmRules.ForeignExchange.{fx_delta}
 
 -- of the sensitivities of the product class
 abbrev pub class_delta_of : Params → List Sensitivity → RiskClass → ℤ

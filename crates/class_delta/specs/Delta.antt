@@ -2,22 +2,22 @@
 -- (ISDA SIMM methodology, delta margin: aggregation within a bucket; base correlation margin.)
 use Rattle.std.specs.Prelude.{◌≡◌, ℤ, pos, List, false, Option, Some, None, option_map, unwrap_or}
 use Rattle.std.specs.List.{find}
-use Rattle.simm_kinds.specs.declared.kinds.ProductClass.{ProductClass}
-use Rattle.simm_kinds.specs.declared.kinds.RiskClass.{RiskClass}
-use Rattle.simm_kinds.specs.declared.kinds.RiskClass.TheVariants as class
-use Rattle.simm_kinds.specs.declared.kinds.BucketId.{BucketId}
-use Rattle.simm_kinds.specs.declared.kinds.BucketId.TheVariants as id
-use Rattle.simm_kinds.specs.declared.bucket.Bucket.TheVariants as bucket
-use Rattle.simm_kinds.specs.declared.key.FactorKey.{FactorKey}
-use Rattle.simm_rules.specs.declared.values.BucketMargin.{BucketMargin}
-use Rattle.simm_rules.specs.Params.{Params}
-use Rattle.simm_rules.specs.Risks.{Qualifying, Non_qualifying, Equities, Commodities}
-use Rattle.simm_rules.specs.Rates.{rates_in, currency_value}
-use Rattle.simm_rules.specs.BaseCorrelation.{base_value}
-use Rattle.simm_rules.specs.ForeignExchange.{fx_weight}
-use Rattle.factor_book.specs.declared.at.BucketAt.{BucketAt}
-use Rattle.factor_book.specs.declared.at.ClassAt.{ClassAt}
-use Rattle.factor_book.specs.declared.holding.Holding.{Holding}
+use Rattle.ir_delta.specs.SimmKinds.declared.kinds.ProductClass.{ProductClass}
+use Rattle.ir_delta.specs.SimmKinds.declared.kinds.RiskClass.{RiskClass}
+use Rattle.ir_delta.specs.SimmKinds.declared.kinds.RiskClass.TheVariants as class
+use Rattle.ir_delta.specs.SimmKinds.declared.kinds.BucketId.{BucketId}
+use Rattle.ir_delta.specs.SimmKinds.declared.kinds.BucketId.TheVariants as id
+use Rattle.ir_delta.specs.SimmKinds.declared.bucket.Bucket.TheVariants as bucket
+use Rattle.ir_delta.specs.SimmKinds.declared.key.FactorKey.{FactorKey}
+use Rattle.ir_delta.specs.SimmRules.declared.values.BucketMargin.{BucketMargin}
+use Rattle.ir_delta.specs.SimmRules.Params.{Params}
+use Rattle.ir_delta.specs.SimmRules.Risks.{Qualifying, Non_qualifying, Equities, Commodities}
+use Rattle.ir_delta.specs.SimmRules.Rates.{rates_in, currency_value}
+use Rattle.ir_delta.specs.SimmRules.BaseCorrelation.{base_value}
+use Rattle.ir_delta.specs.SimmRules.ForeignExchange.{fx_weight}
+use Rattle.ir_delta.specs.FactorBook.declared.at.BucketAt.{BucketAt}
+use Rattle.ir_delta.specs.FactorBook.declared.at.ClassAt.{ClassAt}
+use Rattle.ir_delta.specs.FactorBook.declared.holding.Holding.{Holding}
 use Rattle.book_range.specs.Bounded.{IsMarginable}
 use Rattle.ir_delta.specs.Range.{IsPart}
 use Rattle.name_delta.specs.Base.{indices_of, index_weight}

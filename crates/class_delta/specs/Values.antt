@@ -1,10 +1,10 @@
 -- The buckets of a class with their values, by how a bucket is valued and by what is known of its value.
 use Rattle.std.specs.Prelude.{◌≡◌, List, map, Option, Some}
 use Rattle.std.specs.List.{AllByRecursion}
-use Rattle.simm_kinds.specs.declared.kinds.BucketId.{BucketId}
-use Rattle.simm_rules.specs.declared.values.BucketMargin.{BucketMargin}
-use Rattle.factor_book.specs.declared.at.BucketAt.{BucketAt}
-use Rattle.factor_book.specs.declared.at.ClassAt.{ClassAt}
+use Rattle.ir_delta.specs.SimmKinds.declared.kinds.BucketId.{BucketId}
+use Rattle.ir_delta.specs.SimmRules.declared.values.BucketMargin.{BucketMargin}
+use Rattle.ir_delta.specs.FactorBook.declared.at.BucketAt.{BucketAt}
+use Rattle.ir_delta.specs.FactorBook.declared.at.ClassAt.{ClassAt}
 use Rattle.class_delta.specs.Buckets.{bucket_at}
 
 -- a bucket with its value

@@ -1,18 +1,18 @@
 //! The value of one bucket.
 ghost use Rattle.std.specs.Prelude.{◌≡◌, ◌≢◌, ◌+◌, ◌*◌, ◌≤◌, [], Some, IfOk, length};
-ghost use Rattle.simm_kinds.specs.declared.kinds.RiskClass.TheVariants as class;
-ghost use Rattle.factor_book.specs.Places.{factors_at};
+ghost use Rattle.ir_delta.specs.SimmKinds.declared.kinds.RiskClass.TheVariants as class;
+ghost use Rattle.ir_delta.specs.FactorBook.Places.{factors_at};
 ghost use Rattle.book_range.specs.Bounded.{IsMarginable};
 ghost use Rattle.class_delta.specs.Buckets.{delta_place};
 ghost use Rattle.class_delta.specs.Delta.{delta_at, IsNamed, IsSizedAt};
 
-use factor_book::{BucketAt, Factors, factors_are_netted};
 use ir_delta::currencies_make_delta;
+use ir_delta::factor_book::{BucketAt, Factors, factors_are_netted};
+use ir_delta::pair_sum::Steps;
+use ir_delta::simm_kinds::{BucketId, RiskClass};
+use ir_delta::simm_params::Params;
+use ir_delta::simm_rules::BucketMargin;
 use name_delta::base_corr;
-use pair_sum::Steps;
-use simm_kinds::{BucketId, RiskClass};
-use simm_params::Params;
-use simm_rules::BucketMargin;
 use std::alloc::{AllocError, Global};
 use std::sync::ledger::Ledger;
 

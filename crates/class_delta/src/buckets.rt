@@ -2,8 +2,8 @@
 ghost use Rattle.std.specs.Prelude.{◌≡◌, IfOk};
 ghost use Rattle.class_delta.specs.Buckets.{delta_side, delta_buckets, is_single, bucket_at};
 
-use factor_book::{BookSide, BucketAt, ClassAt, Factors, SideAt};
-use simm_kinds::BucketId;
+use ir_delta::factor_book::{BookSide, BucketAt, ClassAt, Factors, SideAt};
+use ir_delta::simm_kinds::BucketId;
 use std::alloc::{AllocError, Global};
 
 /// The buckets of a class that have a factor, in order; in credit that qualifies also that of base correlation. Want of memory

@@ -14,3 +14,8 @@ pub use buckets::{bucket_at, delta_buckets};
 pub use laws::delta_hangs_on_its_factors;
 pub use over::delta_from;
 pub use single::{base_from, single_margin};
+
+// what the crates above reach through this one
+pub use book_range;
+pub use ir_delta::{factor_book, mh_units, pair_sum, simm_kinds, simm_params, simm_rules};
+pub use name_delta;

@@ -1,9 +1,9 @@
 //! The margin of a class over the values of its buckets.
 ghost use Rattle.std.specs.Prelude.{◌≡◌, ◌*◌, ◌^◌, List, not, IfOk, pos, ◌≤ℤ◌};
 ghost use Rattle.std.specs.List.{filter};
-ghost use Rattle.simm_kinds.specs.declared.key.FactorKey.{FactorKey};
-ghost use Rattle.simm_kinds.specs.declared.kinds.RiskClass.TheVariants as class;
-ghost use Rattle.factor_book.specs.declared.holding.Holding.{Holding};
+ghost use Rattle.ir_delta.specs.SimmKinds.declared.key.FactorKey.{FactorKey};
+ghost use Rattle.ir_delta.specs.SimmKinds.declared.kinds.RiskClass.TheVariants as class;
+ghost use Rattle.ir_delta.specs.FactorBook.declared.holding.Holding.{Holding};
 ghost use Rattle.book_range.specs.Bounded.{IsMarginable};
 ghost use Rattle.name_delta.specs.Values.{nets_in};
 ghost use Rattle.class_delta.specs.Buckets.{is_single, IsNumbered};
@@ -12,12 +12,12 @@ ghost use Rattle.class_delta.specs.Delta.{AreDeltaParts, AreBookDeltas};
 
 use crate::buckets::is_single;
 use crate::single::currencies_from;
-use factor_book::{ClassAt, factors_are_netted};
+use ir_delta::factor_book::{ClassAt, factors_are_netted};
+use ir_delta::mh_units::Cents;
+use ir_delta::simm_kinds::{BucketId, RiskClass};
+use ir_delta::simm_params::Params;
+use ir_delta::simm_rules::BucketMargin;
 use ir_delta::{currencies_make_delta, rates_stand_by_currency};
-use mh_units::Cents;
-use simm_kinds::{BucketId, RiskClass};
-use simm_params::Params;
-use simm_rules::BucketMargin;
 use std::alloc::{AllocError, Global};
 
 /// The delta margin of a risk class in a product class, in cents, over the values of its buckets on the side of delta: those of

@@ -1,20 +1,20 @@
 //! Margins of one bucket: foreign exchange, and base correlation.
 ghost use Rattle.std.specs.Prelude.{◌≡◌, ◌*◌, ◌^◌, List, pos, ◌≤ℤ◌};
-ghost use Rattle.simm_kinds.specs.declared.key.FactorKey.{FactorKey};
-ghost use Rattle.simm_kinds.specs.declared.kinds.RiskClass.TheVariants as class;
-ghost use Rattle.simm_rules.specs.BaseCorrelation.{base_margin};
-ghost use Rattle.factor_book.specs.declared.holding.Holding.{Holding};
+ghost use Rattle.ir_delta.specs.SimmKinds.declared.key.FactorKey.{FactorKey};
+ghost use Rattle.ir_delta.specs.SimmKinds.declared.kinds.RiskClass.TheVariants as class;
+ghost use Rattle.ir_delta.specs.SimmRules.BaseCorrelation.{base_margin};
+ghost use Rattle.ir_delta.specs.FactorBook.declared.holding.Holding.{Holding};
 ghost use Rattle.book_range.specs.Bounded.{IsMarginable};
 ghost use Rattle.name_delta.specs.Values.{nets_in};
 ghost use Rattle.class_delta.specs.Class.{class_delta_of};
 ghost use Rattle.class_delta.specs.Delta.{AreDeltaParts, AreBookDeltas, single_k};
 
 use crate::buckets::is_single;
-use factor_book::{ClassAt, factors_are_netted};
-use mh_units::Cents;
-use simm_kinds::BucketId;
-use simm_params::Params;
-use simm_rules::BucketMargin;
+use ir_delta::factor_book::{ClassAt, factors_are_netted};
+use ir_delta::mh_units::Cents;
+use ir_delta::simm_kinds::BucketId;
+use ir_delta::simm_params::Params;
+use ir_delta::simm_rules::BucketMargin;
 
 /// The base correlation margin of credit that qualifies in a product class, in cents, over the values of the buckets of the
 /// class on the side of delta, as `delta_from` takes them: the margin of the bucket of base correlation, 0 where it has no factor.

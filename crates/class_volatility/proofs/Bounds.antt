@@ -5,44 +5,44 @@ use Rattle.std.specs.List.{list_all, AllByRecursion}
 use Rattle.std.proofs.lemmas.Int.{ints}
 use Rattle.std.proofs.lemmas.List.{length-map}
 use Rattle.std.proofs.lemmas.List.Elements.{recursion_from_All}
-use Rattle.simm_kinds.specs.declared.kinds.ProductClass.{ProductClass}
-use Rattle.simm_kinds.specs.declared.kinds.RiskClass.TheVariants as class
-use Rattle.simm_kinds.specs.declared.bucket.Bucket.{Bucket}
-use Rattle.simm_kinds.specs.declared.key.FactorKey.{FactorKey}
-use Rattle.simm_kinds.specs.declared.row.CrifRow.{CrifRow}
-use Rattle.simm_kinds.specs.Batch.{is_in_range}
-use Rattle.simm_kinds.specs.Order.{same_product}
-use Rattle.simm_rules.specs.Params.{Params, CreditBucket, PricedBucket}
-use Rattle.simm_rules.specs.Sums.{total_by}
-use Rattle.simm_rules.specs.Net.{Sensitivity, sensitivities, in_product}
-use Rattle.simm_rules.specs.Risks.{CreditClass, Qualifying, Non_qualifying, PricedClass, Equities, Commodities, select}
-use Rattle.simm_rules.specs.Credit.{as_credit_volatility, credit_params}
-use Rattle.simm_rules.specs.ForeignExchange.{PairVolatility, as_pair_volatility, fx_sigma}
-use Rattle.simm_rules.specs.Gross.{size_by, credit_volatility_size, price_volatility_size}
-use Rattle.simm_rules.specs.Priced.{as_price_volatility, priced_params}
-use Rattle.simm_rules.specs.Rates.{VolatilityIn, as_rate_volatility, volatilities_in}
-use Rattle.simm_params.specs.ClassRanges.{IsPricedBucket}
-use Rattle.simm_params.specs.Facts.{IsParams, IsCreditParams, IsPricedParams}
-use Rattle.factor_book.specs.declared.holding.Holding.{Holding}
-use Rattle.factor_book.specs.Factors.{factors_of, net_of}
-use Rattle.factor_book.specs.Places.{factors_at}
-use Rattle.book_range.specs.Bounded.{IsBounded}
-use Rattle.name_delta.specs.Points.{as_issuer}
-use Rattle.name_delta.specs.Values.{nets_in}
-use Rattle.name_delta.proofs.Lists.{each_always, each_weaker}
-use Rattle.name_delta.proofs.Shrinking.{SizesAreNetted, nets_shrink}
+use Rattle.class_delta.specs.SimmKinds.declared.kinds.ProductClass.{ProductClass}
+use Rattle.class_delta.specs.SimmKinds.declared.kinds.RiskClass.TheVariants as class
+use Rattle.class_delta.specs.SimmKinds.declared.bucket.Bucket.{Bucket}
+use Rattle.class_delta.specs.SimmKinds.declared.key.FactorKey.{FactorKey}
+use Rattle.class_delta.specs.SimmKinds.declared.row.CrifRow.{CrifRow}
+use Rattle.class_delta.specs.SimmKinds.Batch.{is_in_range}
+use Rattle.class_delta.specs.SimmKinds.Order.{same_product}
+use Rattle.class_delta.specs.SimmRules.Params.{Params, CreditBucket, PricedBucket}
+use Rattle.class_delta.specs.SimmRules.Sums.{total_by}
+use Rattle.class_delta.specs.SimmRules.Net.{Sensitivity, sensitivities, in_product}
+use Rattle.class_delta.specs.SimmRules.Risks.{CreditClass, Qualifying, Non_qualifying, PricedClass, Equities, Commodities, select}
+use Rattle.class_delta.specs.SimmRules.Credit.{as_credit_volatility, credit_params}
+use Rattle.class_delta.specs.SimmRules.ForeignExchange.{PairVolatility, as_pair_volatility, fx_sigma}
+use Rattle.class_delta.specs.SimmRules.Gross.{size_by, credit_volatility_size, price_volatility_size}
+use Rattle.class_delta.specs.SimmRules.Priced.{as_price_volatility, priced_params}
+use Rattle.class_delta.specs.SimmRules.Rates.{VolatilityIn, as_rate_volatility, volatilities_in}
+use Rattle.class_delta.specs.SimmParams.ClassRanges.{IsPricedBucket}
+use Rattle.class_delta.specs.SimmParams.Facts.{IsParams, IsCreditParams, IsPricedParams}
+use Rattle.class_delta.specs.FactorBook.declared.holding.Holding.{Holding}
+use Rattle.class_delta.specs.FactorBook.Factors.{factors_of, net_of}
+use Rattle.class_delta.specs.FactorBook.Places.{factors_at}
+use Rattle.class_delta.specs.BookRange.Bounded.{IsBounded}
+use Rattle.class_delta.specs.NameDelta.Points.{as_issuer}
+use Rattle.class_delta.specs.NameDelta.Values.{nets_in}
+use Rattle.class_delta.proofs.NameDelta.Lists.{each_always, each_weaker}
+use Rattle.class_delta.proofs.NameDelta.Shrinking.{SizesAreNetted, nets_shrink}
 use Rattle.class_delta.proofs.Bounds.{HasClass}
 use Rattle.class_delta.proofs.Lists.{filter-length, select-length}
-use Rattle.vol_factors.specs.Credit.{issuer_net}
-use Rattle.vol_factors.specs.Names.{as_name_volatility}
-use Rattle.vol_factors.specs.Places.{currency_place, points_place, names_place, pairs_place, points_of, name_volatilities, pair_volatilities}
-use Rattle.vol_factors.specs.Ranges.{alone, ArePairsInRange}
-use Rattle.vol_factors.specs.Rates.{as_volatility, alone_of}
-use Rattle.vol_factors.proofs.NamesTogether.{nets_are as name_nets_are}
-use Rattle.vol_factors.proofs.PairsTogether.{nets_are as pair_nets_are}
-use Rattle.vol_factors.proofs.RateNets.{nets_are as rate_nets_are}
-use Rattle.vol_factors.proofs.Sigmas.{sigma_low}
-use Rattle.vol_factors.proofs.VolatilePoints.{points_nets}
+use Rattle.vega_margin.specs.VolFactors.Credit.{issuer_net}
+use Rattle.vega_margin.specs.VolFactors.Names.{as_name_volatility}
+use Rattle.vega_margin.specs.VolFactors.Places.{currency_place, points_place, names_place, pairs_place, points_of, name_volatilities, pair_volatilities}
+use Rattle.vega_margin.specs.VolFactors.Ranges.{alone, ArePairsInRange}
+use Rattle.vega_margin.specs.VolFactors.Rates.{as_volatility, alone_of}
+use Rattle.vega_margin.proofs.VolFactors.NamesTogether.{nets_are as name_nets_are}
+use Rattle.vega_margin.proofs.VolFactors.PairsTogether.{nets_are as pair_nets_are}
+use Rattle.vega_margin.proofs.VolFactors.RateNets.{nets_are as rate_nets_are}
+use Rattle.vega_margin.proofs.VolFactors.Sigmas.{sigma_low}
+use Rattle.vega_margin.proofs.VolFactors.VolatilePoints.{points_nets}
 use Rattle.vega_margin.specs.Combine.{IsRateClass}
 use Rattle.vega_margin.proofs.Bounded.{nets_bounded}
 

@@ -1,31 +1,31 @@
 -- The value of a bucket hangs on its own volatilities alone, and takes steps for no more than these.
 use Rattle.std.proofs.Common.{◌≡◌, ◌≤◌, List, length, Option, Some, None, refl, ap, subst, arith}
 use Rattle.std.specs.Prelude.{option_map, IsSomeAnd}
-use Rattle.simm_kinds.specs.declared.kinds.ProductClass.{ProductClass}
-use Rattle.simm_kinds.specs.declared.kinds.RiskClass.{RiskClass}
-use Rattle.simm_kinds.specs.declared.kinds.RiskClass.TheVariants as class
-use Rattle.simm_kinds.specs.declared.kinds.BucketId.{BucketId}
-use Rattle.simm_kinds.specs.declared.kinds.BucketId.TheVariants as id
-use Rattle.simm_kinds.specs.declared.bucket.Bucket.TheVariants as bucket
-use Rattle.simm_kinds.specs.declared.key.FactorKey.{FactorKey}
-use Rattle.simm_rules.specs.declared.values.BucketMargin.{BucketMargin}
-use Rattle.simm_rules.specs.Params.{Params}
-use Rattle.simm_rules.specs.Risks.{CreditClass, Qualifying, Non_qualifying, PricedClass, Equities, Commodities}
-use Rattle.simm_rules.specs.Rates.{currency_vega_value}
-use Rattle.simm_rules.specs.Credit.{credit_params, credit_vega_value}
-use Rattle.simm_rules.specs.Priced.{priced_params, price_vega_value}
-use Rattle.simm_rules.specs.ForeignExchange.{fx_sigma, fx_vega_value}
-use Rattle.simm_params.specs.ListedBuckets.{credit_bucket_of, priced_bucket_of}
-use Rattle.factor_book.specs.declared.at.BucketAt.{BucketAt}
-use Rattle.factor_book.specs.declared.holding.Holding.{Holding}
-use Rattle.factor_book.specs.declared.place.Place.{Place}
-use Rattle.factor_book.specs.Places.{factors_at}
-use Rattle.name_delta.specs.Ids.{listed_id}
-use Rattle.name_delta.specs.Names.{priced_risk_class}
-use Rattle.name_delta.specs.Points.{credit_risk_class}
-use Rattle.vol_factors.specs.Buckets.{VolatileBucket, Currency_bucket, Credit_bucket, Priced_bucket, Pairs_bucket, currency_bucket_at, credit_bucket_at, priced_bucket_at, pairs_bucket_at, volatile_by_class, volatile_bucket, count_at, count_in, factor_count}
-use Rattle.vol_factors.specs.Places.{currency_place, points_place, names_place, pairs_place}
-use Rattle.vol_factors.specs.Ranges.{alone}
+use Rattle.class_delta.specs.SimmKinds.declared.kinds.ProductClass.{ProductClass}
+use Rattle.class_delta.specs.SimmKinds.declared.kinds.RiskClass.{RiskClass}
+use Rattle.class_delta.specs.SimmKinds.declared.kinds.RiskClass.TheVariants as class
+use Rattle.class_delta.specs.SimmKinds.declared.kinds.BucketId.{BucketId}
+use Rattle.class_delta.specs.SimmKinds.declared.kinds.BucketId.TheVariants as id
+use Rattle.class_delta.specs.SimmKinds.declared.bucket.Bucket.TheVariants as bucket
+use Rattle.class_delta.specs.SimmKinds.declared.key.FactorKey.{FactorKey}
+use Rattle.class_delta.specs.SimmRules.declared.values.BucketMargin.{BucketMargin}
+use Rattle.class_delta.specs.SimmRules.Params.{Params}
+use Rattle.class_delta.specs.SimmRules.Risks.{CreditClass, Qualifying, Non_qualifying, PricedClass, Equities, Commodities}
+use Rattle.class_delta.specs.SimmRules.Rates.{currency_vega_value}
+use Rattle.class_delta.specs.SimmRules.Credit.{credit_params, credit_vega_value}
+use Rattle.class_delta.specs.SimmRules.Priced.{priced_params, price_vega_value}
+use Rattle.class_delta.specs.SimmRules.ForeignExchange.{fx_sigma, fx_vega_value}
+use Rattle.class_delta.specs.SimmParams.ListedBuckets.{credit_bucket_of, priced_bucket_of}
+use Rattle.class_delta.specs.FactorBook.declared.at.BucketAt.{BucketAt}
+use Rattle.class_delta.specs.FactorBook.declared.holding.Holding.{Holding}
+use Rattle.class_delta.specs.FactorBook.declared.place.Place.{Place}
+use Rattle.class_delta.specs.FactorBook.Places.{factors_at}
+use Rattle.class_delta.specs.NameDelta.Ids.{listed_id}
+use Rattle.class_delta.specs.NameDelta.Names.{priced_risk_class}
+use Rattle.class_delta.specs.NameDelta.Points.{credit_risk_class}
+use Rattle.vega_margin.specs.VolFactors.Buckets.{VolatileBucket, Currency_bucket, Credit_bucket, Priced_bucket, Pairs_bucket, currency_bucket_at, credit_bucket_at, priced_bucket_at, pairs_bucket_at, volatile_by_class, volatile_bucket, count_at, count_in, factor_count}
+use Rattle.vega_margin.specs.VolFactors.Places.{currency_place, points_place, names_place, pairs_place}
+use Rattle.vega_margin.specs.VolFactors.Ranges.{alone}
 use Rattle.vega_margin.specs.Values.{IsSized}
 use Rattle.vega_margin.specs.Vega.{vega_at, vega_in, vega_value, IsVegaSizedAt, IsVegaSizedIn, IsVegaSized}
 use Rattle.class_volatility.specs.Vega.{volatility_place}

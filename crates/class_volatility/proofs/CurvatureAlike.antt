@@ -1,10 +1,10 @@
 -- The curvature margin over buckets hangs on sums over their values alone.
 use Rattle.std.proofs.Common.{◌≡◌, List, not, ap, ◌∙◌, ℤ, ◌+ℤ◌}
-use Rattle.simm_kinds.specs.declared.bucket.Bucket.{Bucket}
-use Rattle.simm_kinds.specs.Order.{same_bucket}
-use Rattle.simm_rules.specs.Sums.{total_by}
-use Rattle.simm_rules.specs.Across.{Part, outer, is_residual, numbered, residual, gamma_squared}
-use Rattle.simm_rules.specs.Curvature.{curvature_part, curvature_over}
+use Rattle.class_delta.specs.SimmKinds.declared.bucket.Bucket.{Bucket}
+use Rattle.class_delta.specs.SimmKinds.Order.{same_bucket}
+use Rattle.class_delta.specs.SimmRules.Sums.{total_by}
+use Rattle.class_delta.specs.SimmRules.Across.{Part, outer, is_residual, numbered, residual, gamma_squared}
+use Rattle.class_delta.specs.SimmRules.Curvature.{curvature_part, curvature_over}
 use Rattle.curvature_margin.specs.Part.{part_by}
 use Rattle.class_delta.proofs.Totals.{Alike, alike_filter, alike_outer}
 

@@ -1,20 +1,20 @@
 -- The value of a bucket hangs on its own volatilities alone.
 use Rattle.std.proofs.Common.{◌≡◌, List, Some, refl, ap, subst}
 use Rattle.std.specs.Prelude.{option_map, IsSomeAnd}
-use Rattle.simm_kinds.specs.declared.key.FactorKey.{FactorKey}
-use Rattle.simm_rules.specs.declared.values.BucketMargin.{BucketMargin}
-use Rattle.simm_rules.specs.Params.{Params}
-use Rattle.simm_rules.specs.Rates.{currency_curvature_value}
-use Rattle.simm_rules.specs.Credit.{credit_params, credit_curvature_value}
-use Rattle.simm_rules.specs.Priced.{priced_params, price_curvature_value}
-use Rattle.simm_rules.specs.ForeignExchange.{fx_sigma, fx_curvature_value}
-use Rattle.simm_params.specs.ListedBuckets.{credit_bucket_of, priced_bucket_of}
-use Rattle.factor_book.specs.declared.at.BucketAt.{BucketAt}
-use Rattle.factor_book.specs.declared.holding.Holding.{Holding}
-use Rattle.factor_book.specs.declared.place.Place.{Place}
-use Rattle.factor_book.specs.Places.{factors_at}
-use Rattle.vol_factors.specs.Buckets.{VolatileBucket, Currency_bucket, Credit_bucket, Priced_bucket, Pairs_bucket}
-use Rattle.vol_factors.specs.Ranges.{alone}
+use Rattle.class_delta.specs.SimmKinds.declared.key.FactorKey.{FactorKey}
+use Rattle.class_delta.specs.SimmRules.declared.values.BucketMargin.{BucketMargin}
+use Rattle.class_delta.specs.SimmRules.Params.{Params}
+use Rattle.class_delta.specs.SimmRules.Rates.{currency_curvature_value}
+use Rattle.class_delta.specs.SimmRules.Credit.{credit_params, credit_curvature_value}
+use Rattle.class_delta.specs.SimmRules.Priced.{priced_params, price_curvature_value}
+use Rattle.class_delta.specs.SimmRules.ForeignExchange.{fx_sigma, fx_curvature_value}
+use Rattle.class_delta.specs.SimmParams.ListedBuckets.{credit_bucket_of, priced_bucket_of}
+use Rattle.class_delta.specs.FactorBook.declared.at.BucketAt.{BucketAt}
+use Rattle.class_delta.specs.FactorBook.declared.holding.Holding.{Holding}
+use Rattle.class_delta.specs.FactorBook.declared.place.Place.{Place}
+use Rattle.class_delta.specs.FactorBook.Places.{factors_at}
+use Rattle.vega_margin.specs.VolFactors.Buckets.{VolatileBucket, Currency_bucket, Credit_bucket, Priced_bucket, Pairs_bucket}
+use Rattle.vega_margin.specs.VolFactors.Ranges.{alone}
 use Rattle.curvature_margin.specs.Curvature.{curvature_at, curvature_in, curvature_value, IsCurvatureSizedAt, IsCurvatureSizedIn, IsCurvatureSized}
 use Rattle.curvature_margin.specs.Values.{IsSized}
 use Rattle.class_volatility.specs.Vega.{volatility_place}

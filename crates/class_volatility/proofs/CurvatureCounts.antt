@@ -2,20 +2,20 @@
 use Rattle.std.proofs.Common.{◌≡◌, List, [], ◌∷◌, map, length, Bool, true, false, ◌&&◌, if◌then◌else◌, Option, Some, None, refl, ap, ℤ, pos, ◌+ℤ◌, ◌≤ℤ◌, arith}
 use Rattle.std.specs.List.{find}
 use Rattle.std.proofs.lemmas.Int.{ints}
-use Rattle.simm_kinds.specs.declared.bucket.Bucket.{Bucket}
-use Rattle.simm_kinds.specs.Order.{same_bucket}
-use Rattle.simm_rules.specs.Params.{Params, CreditBucket, PricedBucket}
-use Rattle.simm_rules.specs.Sums.{total_by}
-use Rattle.simm_rules.specs.Net.{Sensitivity}
-use Rattle.simm_rules.specs.Risks.{Risk, Of_credit_volatility, Of_price_volatility, risk, CreditClass, PricedClass, select}
-use Rattle.simm_rules.specs.Credit.{same_credit, as_credit_volatility, credit_params}
-use Rattle.simm_rules.specs.Priced.{same_priced, as_price_volatility, priced_params}
-use Rattle.simm_params.specs.Buckets.{AreInOrder}
-use Rattle.factor_book.proofs.Sums.{total_by-agree, total_by-add}
-use Rattle.book_range.specs.Weights.{rate_found}
-use Rattle.book_range.proofs.Listed.{total_found}
-use Rattle.book_range.proofs.Weighed.{total_zero}
-use Rattle.name_delta.proofs.Selected.{select_none, select_some}
+use Rattle.class_delta.specs.SimmKinds.declared.bucket.Bucket.{Bucket}
+use Rattle.class_delta.specs.SimmKinds.Order.{same_bucket}
+use Rattle.class_delta.specs.SimmRules.Params.{Params, CreditBucket, PricedBucket}
+use Rattle.class_delta.specs.SimmRules.Sums.{total_by}
+use Rattle.class_delta.specs.SimmRules.Net.{Sensitivity}
+use Rattle.class_delta.specs.SimmRules.Risks.{Risk, Of_credit_volatility, Of_price_volatility, risk, CreditClass, PricedClass, select}
+use Rattle.class_delta.specs.SimmRules.Credit.{same_credit, as_credit_volatility, credit_params}
+use Rattle.class_delta.specs.SimmRules.Priced.{same_priced, as_price_volatility, priced_params}
+use Rattle.class_delta.specs.SimmParams.Buckets.{AreInOrder}
+use Rattle.class_delta.proofs.FactorBook.Sums.{total_by-agree, total_by-add}
+use Rattle.class_delta.specs.BookRange.Weights.{rate_found}
+use Rattle.class_delta.proofs.BookRange.Listed.{total_found}
+use Rattle.class_delta.proofs.BookRange.Weighed.{total_zero}
+use Rattle.class_delta.proofs.NameDelta.Selected.{select_none, select_some}
 
 -- whether there is one
 abbrev one_of : {A : Type 0} → Option A → ℤ

@@ -5,8 +5,8 @@ use Rattle.std.specs.List.{AllByRecursion}
 use Rattle.std.specs.List.Sorted.{IsStrictlySortedBy}
 use Rattle.std.proofs.lemmas.Int.{ints}
 use Rattle.std.proofs.lemmas.List.Sums.{sum_by-cons}
-use Rattle.simm_kinds.specs.Order.{bucket_id_cmp}
-use Rattle.simm_rules.specs.Sums.{total_by}
+use Rattle.class_delta.specs.SimmKinds.Order.{bucket_id_cmp}
+use Rattle.class_delta.specs.SimmRules.Sums.{total_by}
 use Rattle.curvature_margin.specs.Combine.{margins_size, gross_size, AreSized}
 use Rattle.curvature_margin.specs.Values.{IsSizedBy}
 use Rattle.curvature_margin.proofs.Joined.{joined}

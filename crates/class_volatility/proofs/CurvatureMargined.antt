@@ -1,13 +1,13 @@
 -- Books that can be margined: what the values of the buckets of a class make.
 use Rattle.std.proofs.Common.{List, sym, subst}
-use Rattle.simm_kinds.specs.declared.key.FactorKey.{FactorKey}
-use Rattle.simm_rules.specs.Params.{Params}
-use Rattle.simm_params.specs.Facts.{IsParams}
-use Rattle.factor_book.specs.declared.at.ClassAt.{ClassAt}
-use Rattle.factor_book.specs.declared.holding.Holding.{Holding}
-use Rattle.book_range.specs.Bounded.{IsMarginable}
-use Rattle.name_delta.specs.Values.{nets_in}
-use Rattle.name_delta.proofs.Shrinking.{SizesAreNetted}
+use Rattle.class_delta.specs.SimmKinds.declared.key.FactorKey.{FactorKey}
+use Rattle.class_delta.specs.SimmRules.Params.{Params}
+use Rattle.class_delta.specs.SimmParams.Facts.{IsParams}
+use Rattle.class_delta.specs.FactorBook.declared.at.ClassAt.{ClassAt}
+use Rattle.class_delta.specs.FactorBook.declared.holding.Holding.{Holding}
+use Rattle.class_delta.specs.BookRange.Bounded.{IsMarginable}
+use Rattle.class_delta.specs.NameDelta.Values.{nets_in}
+use Rattle.class_delta.proofs.NameDelta.Shrinking.{SizesAreNetted}
 use Rattle.class_delta.proofs.Valued.{Whole}
 use Rattle.class_volatility.specs.Curvature.{AreCurvatureParts}
 use Rattle.class_volatility.proofs.CurvatureClasses.{IsDone, done}

@@ -4,42 +4,42 @@ use Rattle.std.specs.Prelude.{sum_by}
 use Rattle.std.specs.List.{filter, list_all, AllByRecursion}
 use Rattle.std.specs.List.Sorted.{IsStrictlySortedBy}
 use Rattle.std.proofs.lemmas.Int.{ints}
-use Rattle.simm_kinds.specs.declared.kinds.ProductClass.{ProductClass}
-use Rattle.simm_kinds.specs.declared.kinds.RiskClass.{RiskClass}
-use Rattle.simm_kinds.specs.declared.bucket.Bucket.{Bucket}
-use Rattle.simm_kinds.specs.declared.key.FactorKey.{FactorKey}
-use Rattle.simm_kinds.specs.declared.row.CrifRow.{CrifRow}
-use Rattle.simm_kinds.specs.Batch.{is_in_range}
-use Rattle.simm_kinds.specs.Order.{bucket_id_cmp}
-use Rattle.simm_rules.specs.declared.values.BucketMargin.{BucketMargin}
-use Rattle.simm_rules.specs.Params.{Params, CreditBucket, PricedBucket}
-use Rattle.simm_rules.specs.Net.{Sensitivity}
-use Rattle.simm_rules.specs.Sums.{total_by}
-use Rattle.simm_rules.specs.Risks.{CreditClass, PricedClass, CreditPoint, Amount}
-use Rattle.simm_rules.specs.Credit.{credit_params, listed_credit, credit_curvature_value, credit_curvature}
-use Rattle.simm_rules.specs.Curvature.{curvature_over}
-use Rattle.simm_rules.specs.Priced.{NameVolatility, priced_params, listed_priced, price_curvature_value, price_curvature}
-use Rattle.simm_params.specs.Facts.{IsParams}
-use Rattle.factor_book.specs.declared.at.ClassAt.{ClassAt}
-use Rattle.factor_book.specs.declared.holding.Holding.{Holding}
-use Rattle.factor_book.specs.Factors.{factors_of}
-use Rattle.book_range.specs.Bounded.{IsBounded}
-use Rattle.ir_delta.proofs.Sums.{total_by-pos}
-use Rattle.name_delta.specs.Combine.{parts_in, IsListed}
-use Rattle.name_delta.specs.Ids.{listed_id}
-use Rattle.name_delta.specs.Names.{priced_risk_class}
-use Rattle.name_delta.specs.Points.{credit_risk_class}
-use Rattle.name_delta.specs.Values.{nets_in, IsInRange}
-use Rattle.name_delta.proofs.Lists.{each_always, each_weaker}
-use Rattle.name_delta.proofs.Shrinking.{SizesAreNetted}
+use Rattle.class_delta.specs.SimmKinds.declared.kinds.ProductClass.{ProductClass}
+use Rattle.class_delta.specs.SimmKinds.declared.kinds.RiskClass.{RiskClass}
+use Rattle.class_delta.specs.SimmKinds.declared.bucket.Bucket.{Bucket}
+use Rattle.class_delta.specs.SimmKinds.declared.key.FactorKey.{FactorKey}
+use Rattle.class_delta.specs.SimmKinds.declared.row.CrifRow.{CrifRow}
+use Rattle.class_delta.specs.SimmKinds.Batch.{is_in_range}
+use Rattle.class_delta.specs.SimmKinds.Order.{bucket_id_cmp}
+use Rattle.class_delta.specs.SimmRules.declared.values.BucketMargin.{BucketMargin}
+use Rattle.class_delta.specs.SimmRules.Params.{Params, CreditBucket, PricedBucket}
+use Rattle.class_delta.specs.SimmRules.Net.{Sensitivity}
+use Rattle.class_delta.specs.SimmRules.Sums.{total_by}
+use Rattle.class_delta.specs.SimmRules.Risks.{CreditClass, PricedClass, CreditPoint, Amount}
+use Rattle.class_delta.specs.SimmRules.Credit.{credit_params, listed_credit, credit_curvature_value, credit_curvature}
+use Rattle.class_delta.specs.SimmRules.Curvature.{curvature_over}
+use Rattle.class_delta.specs.SimmRules.Priced.{NameVolatility, priced_params, listed_priced, price_curvature_value, price_curvature}
+use Rattle.class_delta.specs.SimmParams.Facts.{IsParams}
+use Rattle.class_delta.specs.FactorBook.declared.at.ClassAt.{ClassAt}
+use Rattle.class_delta.specs.FactorBook.declared.holding.Holding.{Holding}
+use Rattle.class_delta.specs.FactorBook.Factors.{factors_of}
+use Rattle.class_delta.specs.BookRange.Bounded.{IsBounded}
+use Rattle.class_delta.proofs.IrDelta.Sums.{total_by-pos}
+use Rattle.class_delta.specs.NameDelta.Combine.{parts_in, IsListed}
+use Rattle.class_delta.specs.NameDelta.Ids.{listed_id}
+use Rattle.class_delta.specs.NameDelta.Names.{priced_risk_class}
+use Rattle.class_delta.specs.NameDelta.Points.{credit_risk_class}
+use Rattle.class_delta.specs.NameDelta.Values.{nets_in, IsInRange}
+use Rattle.class_delta.proofs.NameDelta.Lists.{each_always, each_weaker}
+use Rattle.class_delta.proofs.NameDelta.Shrinking.{SizesAreNetted}
 use Rattle.class_delta.proofs.Bounds.{HasClass}
 use Rattle.class_delta.proofs.OnSide.{buckets_ascend}
 use Rattle.class_delta.proofs.Listed.{is_at}
 use Rattle.class_delta.proofs.Valued.{Whole, ids}
 use Rattle.vega_margin.specs.Combine.{volatility_buckets}
-use Rattle.vol_factors.specs.Places.{points_of, name_volatilities}
-use Rattle.vol_factors.specs.Buckets.{credit_bucket_at, priced_bucket_at}
-use Rattle.vol_factors.specs.Ranges.{alone}
+use Rattle.vega_margin.specs.VolFactors.Places.{points_of, name_volatilities}
+use Rattle.vega_margin.specs.VolFactors.Buckets.{credit_bucket_at, priced_bucket_at}
+use Rattle.vega_margin.specs.VolFactors.Ranges.{alone}
 use Rattle.curvature_margin.specs.Curvature.{curvature_in, IsCurvatureSizedIn}
 use Rattle.curvature_margin.specs.Values.{IsSizedBy, IsSized}
 use Rattle.curvature_margin.proofs.Idle.{credit_kept, priced_kept}

@@ -6,36 +6,36 @@ use Rattle.std.specs.List.Sorted.{IsStrictlySortedBy}
 use Rattle.std.proofs.Math.IntN.{+ℤ_idr}
 use Rattle.std.proofs.lemmas.Int.{ints}
 use Rattle.std.proofs.lemmas.List.Sums.{sum_by-cons}
-use Rattle.simm_kinds.specs.declared.kinds.ProductClass.{ProductClass}
-use Rattle.simm_kinds.specs.declared.kinds.RiskClass.TheVariants as class
-use Rattle.simm_kinds.specs.declared.kinds.BucketId.{BucketId}
-use Rattle.simm_kinds.specs.declared.kinds.BucketId.TheVariants as id
-use Rattle.simm_kinds.specs.declared.key.FactorKey.{FactorKey}
-use Rattle.simm_kinds.specs.declared.row.CrifRow.{CrifRow}
-use Rattle.simm_kinds.specs.Batch.{is_in_range}
-use Rattle.simm_kinds.specs.Order.{bucket_id_cmp}
-use Rattle.simm_rules.specs.declared.values.BucketMargin.{BucketMargin}
-use Rattle.simm_rules.specs.Params.{Params}
-use Rattle.simm_rules.specs.Net.{Sensitivity}
-use Rattle.simm_rules.specs.Risks.{Amount}
-use Rattle.simm_rules.specs.Curvature.{curvature_part}
-use Rattle.simm_rules.specs.ForeignExchange.{PairVolatility, fx_sigma, fx_curvature_value, fx_curvature}
-use Rattle.simm_rules.specs.Gross.{size_by}
-use Rattle.simm_params.specs.Facts.{IsParams}
-use Rattle.factor_book.specs.declared.at.ClassAt.{ClassAt}
-use Rattle.factor_book.specs.declared.holding.Holding.{Holding}
-use Rattle.factor_book.specs.Factors.{factors_of}
-use Rattle.book_range.specs.Bounded.{IsBounded}
-use Rattle.name_delta.specs.Values.{nets_in}
-use Rattle.name_delta.proofs.Shrinking.{SizesAreNetted}
+use Rattle.class_delta.specs.SimmKinds.declared.kinds.ProductClass.{ProductClass}
+use Rattle.class_delta.specs.SimmKinds.declared.kinds.RiskClass.TheVariants as class
+use Rattle.class_delta.specs.SimmKinds.declared.kinds.BucketId.{BucketId}
+use Rattle.class_delta.specs.SimmKinds.declared.kinds.BucketId.TheVariants as id
+use Rattle.class_delta.specs.SimmKinds.declared.key.FactorKey.{FactorKey}
+use Rattle.class_delta.specs.SimmKinds.declared.row.CrifRow.{CrifRow}
+use Rattle.class_delta.specs.SimmKinds.Batch.{is_in_range}
+use Rattle.class_delta.specs.SimmKinds.Order.{bucket_id_cmp}
+use Rattle.class_delta.specs.SimmRules.declared.values.BucketMargin.{BucketMargin}
+use Rattle.class_delta.specs.SimmRules.Params.{Params}
+use Rattle.class_delta.specs.SimmRules.Net.{Sensitivity}
+use Rattle.class_delta.specs.SimmRules.Risks.{Amount}
+use Rattle.class_delta.specs.SimmRules.Curvature.{curvature_part}
+use Rattle.class_delta.specs.SimmRules.ForeignExchange.{PairVolatility, fx_sigma, fx_curvature_value, fx_curvature}
+use Rattle.class_delta.specs.SimmRules.Gross.{size_by}
+use Rattle.class_delta.specs.SimmParams.Facts.{IsParams}
+use Rattle.class_delta.specs.FactorBook.declared.at.ClassAt.{ClassAt}
+use Rattle.class_delta.specs.FactorBook.declared.holding.Holding.{Holding}
+use Rattle.class_delta.specs.FactorBook.Factors.{factors_of}
+use Rattle.class_delta.specs.BookRange.Bounded.{IsBounded}
+use Rattle.class_delta.specs.NameDelta.Values.{nets_in}
+use Rattle.class_delta.proofs.NameDelta.Shrinking.{SizesAreNetted}
 use Rattle.class_delta.proofs.Bounds.{was_value}
 use Rattle.class_delta.proofs.OnSide.{buckets_ascend}
 use Rattle.class_delta.proofs.OneBucket.{none_single}
 use Rattle.class_delta.proofs.Valued.{Whole, ids}
 use Rattle.vega_margin.specs.Combine.{volatility_buckets}
-use Rattle.vol_factors.specs.Buckets.{pairs_bucket_at}
-use Rattle.vol_factors.specs.Places.{pair_volatilities}
-use Rattle.vol_factors.specs.Ranges.{ArePairsInRange}
+use Rattle.vega_margin.specs.VolFactors.Buckets.{pairs_bucket_at}
+use Rattle.vega_margin.specs.VolFactors.Places.{pair_volatilities}
+use Rattle.vega_margin.specs.VolFactors.Ranges.{ArePairsInRange}
 use Rattle.curvature_margin.specs.Combine.{over_single}
 use Rattle.curvature_margin.specs.Curvature.{curvature_in, IsCurvatureSizedIn}
 use Rattle.curvature_margin.specs.Values.{IsSizedBy}

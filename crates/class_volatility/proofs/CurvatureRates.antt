@@ -4,41 +4,41 @@ use Rattle.std.specs.Prelude.{sum_by}
 use Rattle.std.specs.List.{list_all, AllByRecursion}
 use Rattle.std.specs.List.Sorted.{IsStrictlySortedBy}
 use Rattle.std.proofs.lemmas.Int.{ints}
-use Rattle.simm_kinds.specs.declared.kinds.ProductClass.{ProductClass}
-use Rattle.simm_kinds.specs.declared.kinds.RiskClass.TheVariants as class
-use Rattle.simm_kinds.specs.declared.kinds.BucketId.{BucketId}
-use Rattle.simm_kinds.specs.declared.kinds.BucketId.TheVariants as id
-use Rattle.simm_kinds.specs.declared.key.FactorKey.{FactorKey}
-use Rattle.simm_kinds.specs.declared.row.CrifRow.{CrifRow}
-use Rattle.simm_kinds.specs.Batch.{is_in_range}
-use Rattle.simm_kinds.specs.Order.{bucket_id_cmp}
-use Rattle.simm_rules.specs.declared.values.BucketMargin.{BucketMargin}
-use Rattle.simm_rules.specs.Params.{Params}
-use Rattle.simm_rules.specs.Net.{Sensitivity}
-use Rattle.simm_rules.specs.Sums.{total_by}
-use Rattle.simm_rules.specs.Risks.{Amount, select}
-use Rattle.simm_rules.specs.Gross.{size_by}
-use Rattle.simm_rules.specs.Rates.{VolatilityIn, as_rate_volatility, volatilities_in, volatility_currencies, currency_curvature_value, rate_curvature}
-use Rattle.simm_params.specs.Facts.{IsParams}
-use Rattle.factor_book.specs.declared.at.ClassAt.{ClassAt}
-use Rattle.factor_book.specs.declared.holding.Holding.{Holding}
-use Rattle.factor_book.specs.Factors.{factors_of}
-use Rattle.factor_book.proofs.Sums.{total_by-map}
-use Rattle.book_range.specs.Bounded.{IsBounded}
-use Rattle.ir_delta.specs.Parts.{IsCurrency}
-use Rattle.ir_delta.proofs.Sums.{sum_by-map}
-use Rattle.name_delta.specs.Values.{nets_in}
-use Rattle.name_delta.proofs.Lists.{each_weaker}
-use Rattle.name_delta.proofs.Shrinking.{SizesAreNetted}
+use Rattle.class_delta.specs.SimmKinds.declared.kinds.ProductClass.{ProductClass}
+use Rattle.class_delta.specs.SimmKinds.declared.kinds.RiskClass.TheVariants as class
+use Rattle.class_delta.specs.SimmKinds.declared.kinds.BucketId.{BucketId}
+use Rattle.class_delta.specs.SimmKinds.declared.kinds.BucketId.TheVariants as id
+use Rattle.class_delta.specs.SimmKinds.declared.key.FactorKey.{FactorKey}
+use Rattle.class_delta.specs.SimmKinds.declared.row.CrifRow.{CrifRow}
+use Rattle.class_delta.specs.SimmKinds.Batch.{is_in_range}
+use Rattle.class_delta.specs.SimmKinds.Order.{bucket_id_cmp}
+use Rattle.class_delta.specs.SimmRules.declared.values.BucketMargin.{BucketMargin}
+use Rattle.class_delta.specs.SimmRules.Params.{Params}
+use Rattle.class_delta.specs.SimmRules.Net.{Sensitivity}
+use Rattle.class_delta.specs.SimmRules.Sums.{total_by}
+use Rattle.class_delta.specs.SimmRules.Risks.{Amount, select}
+use Rattle.class_delta.specs.SimmRules.Gross.{size_by}
+use Rattle.class_delta.specs.SimmRules.Rates.{VolatilityIn, as_rate_volatility, volatilities_in, volatility_currencies, currency_curvature_value, rate_curvature}
+use Rattle.class_delta.specs.SimmParams.Facts.{IsParams}
+use Rattle.class_delta.specs.FactorBook.declared.at.ClassAt.{ClassAt}
+use Rattle.class_delta.specs.FactorBook.declared.holding.Holding.{Holding}
+use Rattle.class_delta.specs.FactorBook.Factors.{factors_of}
+use Rattle.class_delta.proofs.FactorBook.Sums.{total_by-map}
+use Rattle.class_delta.specs.BookRange.Bounded.{IsBounded}
+use Rattle.class_delta.specs.IrDelta.Parts.{IsCurrency}
+use Rattle.class_delta.proofs.IrDelta.Sums.{sum_by-map}
+use Rattle.class_delta.specs.NameDelta.Values.{nets_in}
+use Rattle.class_delta.proofs.NameDelta.Lists.{each_weaker}
+use Rattle.class_delta.proofs.NameDelta.Shrinking.{SizesAreNetted}
 use Rattle.class_delta.proofs.Bounds.{was_value}
 use Rattle.class_delta.proofs.Currencies.{IsCurrencyPart, by_currency}
 use Rattle.class_delta.proofs.OnSide.{buckets_ascend}
 use Rattle.class_delta.proofs.Valued.{Whole, ids}
 use Rattle.vega_margin.specs.Combine.{volatility_buckets}
 use Rattle.vega_margin.proofs.RateBuckets.{buckets_are}
-use Rattle.vol_factors.specs.Buckets.{currency_bucket_at, count_in}
-use Rattle.vol_factors.specs.Ranges.{alone}
-use Rattle.vol_factors.proofs.Currencies.{counts, sizes}
+use Rattle.vega_margin.specs.VolFactors.Buckets.{currency_bucket_at, count_in}
+use Rattle.vega_margin.specs.VolFactors.Ranges.{alone}
+use Rattle.vega_margin.proofs.VolFactors.Currencies.{counts, sizes}
 use Rattle.curvature_margin.specs.Combine.{curvature_by_class, currency_buckets}
 use Rattle.curvature_margin.specs.Curvature.{curvature_in, IsCurvatureSizedIn}
 use Rattle.curvature_margin.specs.Values.{IsSizedBy}

@@ -2,36 +2,36 @@
 use Rattle.std.proofs.Common.{◌≡◌, ◌≢◌, List, [], map, Bool, true, false, ◌&&◌, refl, sym, ap, ◌∙◌, subst}
 use Rattle.std.specs.List.{filter, list_all, AllByRecursion}
 use Rattle.std.proofs.lemmas.Bool.{and_parts, false≢true}
-use Rattle.simm_kinds.specs.declared.kinds.ProductClass.{ProductClass}
-use Rattle.simm_kinds.specs.declared.kinds.RiskClass.{RiskClass}
-use Rattle.simm_kinds.specs.declared.kinds.RiskClass.TheVariants as class
-use Rattle.simm_kinds.specs.declared.kinds.BucketId.{BucketId}
-use Rattle.simm_kinds.specs.declared.bucket.Bucket.{Bucket}
-use Rattle.simm_kinds.specs.declared.bucket.Bucket.TheVariants as bucket
-use Rattle.simm_kinds.specs.declared.factor.Factor.{Factor}
-use Rattle.simm_kinds.specs.declared.factor.Factor.TheVariants as factor
-use Rattle.simm_kinds.specs.declared.key.FactorKey.{FactorKey}
-use Rattle.simm_kinds.specs.declared.row.CrifRow.{CrifRow}
-use Rattle.simm_kinds.specs.Factors.{class_of, side_of, bucket_of, bucket_id_of}
-use Rattle.simm_kinds.specs.Order.{same_product, same_class, bucket_id_cmp}
-use Rattle.simm_rules.specs.Params.{Params}
-use Rattle.simm_rules.specs.Risks.{CreditClass, PricedClass}
-use Rattle.simm_rules.specs.Admits.{admits_factor, admits}
-use Rattle.factor_book.specs.declared.at.ClassAt.{ClassAt}
-use Rattle.factor_book.specs.declared.holding.Holding.{Holding}
-use Rattle.factor_book.specs.declared.place.BookSide.TheVariants as side
-use Rattle.factor_book.specs.Factors.{factors_of}
-use Rattle.factor_book.specs.Place.{book_side}
-use Rattle.factor_book.specs.Places.{same_side, factors_at, is_on, place_in}
-use Rattle.ir_delta.specs.Parts.{IsCurrency}
-use Rattle.name_delta.specs.Combine.{IsNamed, HasBucket}
-use Rattle.name_delta.proofs.Lists.{each_weaker, each_both, each_map, each_unmap, each_kept, kept_pass}
+use Rattle.class_delta.specs.SimmKinds.declared.kinds.ProductClass.{ProductClass}
+use Rattle.class_delta.specs.SimmKinds.declared.kinds.RiskClass.{RiskClass}
+use Rattle.class_delta.specs.SimmKinds.declared.kinds.RiskClass.TheVariants as class
+use Rattle.class_delta.specs.SimmKinds.declared.kinds.BucketId.{BucketId}
+use Rattle.class_delta.specs.SimmKinds.declared.bucket.Bucket.{Bucket}
+use Rattle.class_delta.specs.SimmKinds.declared.bucket.Bucket.TheVariants as bucket
+use Rattle.class_delta.specs.SimmKinds.declared.factor.Factor.{Factor}
+use Rattle.class_delta.specs.SimmKinds.declared.factor.Factor.TheVariants as factor
+use Rattle.class_delta.specs.SimmKinds.declared.key.FactorKey.{FactorKey}
+use Rattle.class_delta.specs.SimmKinds.declared.row.CrifRow.{CrifRow}
+use Rattle.class_delta.specs.SimmKinds.Factors.{class_of, side_of, bucket_of, bucket_id_of}
+use Rattle.class_delta.specs.SimmKinds.Order.{same_product, same_class, bucket_id_cmp}
+use Rattle.class_delta.specs.SimmRules.Params.{Params}
+use Rattle.class_delta.specs.SimmRules.Risks.{CreditClass, PricedClass}
+use Rattle.class_delta.specs.SimmRules.Admits.{admits_factor, admits}
+use Rattle.class_delta.specs.FactorBook.declared.at.ClassAt.{ClassAt}
+use Rattle.class_delta.specs.FactorBook.declared.holding.Holding.{Holding}
+use Rattle.class_delta.specs.FactorBook.declared.place.BookSide.TheVariants as side
+use Rattle.class_delta.specs.FactorBook.Factors.{factors_of}
+use Rattle.class_delta.specs.FactorBook.Place.{book_side}
+use Rattle.class_delta.specs.FactorBook.Places.{same_side, factors_at, is_on, place_in}
+use Rattle.class_delta.specs.IrDelta.Parts.{IsCurrency}
+use Rattle.class_delta.specs.NameDelta.Combine.{IsNamed, HasBucket}
+use Rattle.class_delta.proofs.NameDelta.Lists.{each_weaker, each_both, each_map, each_unmap, each_kept, kept_pass}
 use Rattle.class_delta.proofs.InBook.{IsAdmitted, factors_admitted}
 use Rattle.class_delta.proofs.Lists.{different_each}
 use Rattle.class_delta.proofs.OnSide.{none_on, each_on}
 use Rattle.class_delta.proofs.Valued.{Whole, ids}
 use Rattle.vega_margin.specs.Combine.{volatility_buckets}
-use Rattle.vol_factors.specs.Places.{points_place, names_place, points_of, name_volatilities}
+use Rattle.vega_margin.specs.VolFactors.Places.{points_place, names_place, points_of, name_volatilities}
 use Rattle.class_volatility.specs.Vega.{volatility_side}
 use Rattle.class_volatility.proofs.Listed.{has}
 use Rattle.class_volatility.proofs.VolatilePlaces.{points_alone, names_alone}

@@ -18,3 +18,4 @@ pub mod CurvaturePairs
 pub mod CurvatureClasses
 pub mod CurvatureByBucket
 pub mod CurvatureMargined
+pub use Rattle.class_delta.proofs as ClassDelta

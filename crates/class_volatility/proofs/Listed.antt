@@ -7,20 +7,20 @@ use Rattle.std.specs.List.{filter, find, list_any, AllByRecursion}
 use Rattle.std.specs.List.Sorted.{IsStrictlySortedBy}
 use Rattle.std.proofs.Math.IntN.{+ℤ_idr}
 use Rattle.std.proofs.lemmas.Int.{ints}
-use Rattle.simm_kinds.specs.declared.kinds.BucketId.{BucketId}
-use Rattle.simm_kinds.specs.declared.bucket.Bucket.{Bucket}
-use Rattle.simm_kinds.specs.Factors.{bucket_id_of}
-use Rattle.simm_kinds.specs.Order.{same_bucket, bucket_id_cmp, same_bucket_id}
-use Rattle.simm_rules.specs.declared.values.BucketMargin.{BucketMargin}
-use Rattle.simm_rules.specs.Sums.{total_by}
-use Rattle.simm_rules.specs.Risks.{Amount}
-use Rattle.simm_rules.specs.Across.{Part}
-use Rattle.simm_rules.specs.Admits.{lists}
-use Rattle.simm_rules.specs.Gross.{size_by}
-use Rattle.name_delta.specs.Combine.{part_in, parts_in}
-use Rattle.name_delta.specs.Values.{IsInRange}
-use Rattle.name_delta.proofs.Listed.{found}
-use Rattle.name_delta.proofs.Lists.{each_weaker, map-filter}
+use Rattle.class_delta.specs.SimmKinds.declared.kinds.BucketId.{BucketId}
+use Rattle.class_delta.specs.SimmKinds.declared.bucket.Bucket.{Bucket}
+use Rattle.class_delta.specs.SimmKinds.Factors.{bucket_id_of}
+use Rattle.class_delta.specs.SimmKinds.Order.{same_bucket, bucket_id_cmp, same_bucket_id}
+use Rattle.class_delta.specs.SimmRules.declared.values.BucketMargin.{BucketMargin}
+use Rattle.class_delta.specs.SimmRules.Sums.{total_by}
+use Rattle.class_delta.specs.SimmRules.Risks.{Amount}
+use Rattle.class_delta.specs.SimmRules.Across.{Part}
+use Rattle.class_delta.specs.SimmRules.Admits.{lists}
+use Rattle.class_delta.specs.SimmRules.Gross.{size_by}
+use Rattle.class_delta.specs.NameDelta.Combine.{part_in, parts_in}
+use Rattle.class_delta.specs.NameDelta.Values.{IsInRange}
+use Rattle.class_delta.proofs.NameDelta.Listed.{found}
+use Rattle.class_delta.proofs.NameDelta.Lists.{each_weaker, map-filter}
 use Rattle.class_delta.proofs.Bounds.{size_low, HasClass}
 use Rattle.class_delta.proofs.Listed.{part_of_listed, not_later, filter_none, never, each_within, total_kept, is_at, find_listed}
 use Rattle.class_delta.proofs.Totals.{Alike, alike_map, total_split}

@@ -1,17 +1,17 @@
 -- Books that can be margined: what each call asks of their buckets, and what their values make.
 use Rattle.std.proofs.Common.{◌≢◌, List, [], sym, subst}
-use Rattle.simm_kinds.specs.declared.key.FactorKey.{FactorKey}
-use Rattle.simm_rules.specs.Params.{Params}
-use Rattle.simm_params.specs.Facts.{IsParams}
-use Rattle.factor_book.specs.declared.at.BucketAt.{BucketAt}
-use Rattle.factor_book.specs.declared.at.ClassAt.{ClassAt}
-use Rattle.factor_book.specs.declared.holding.Holding.{Holding}
-use Rattle.factor_book.specs.Places.{factors_at}
-use Rattle.book_range.specs.Bounded.{IsMarginable}
-use Rattle.name_delta.specs.Values.{nets_in}
-use Rattle.name_delta.proofs.Shrinking.{SizesAreNetted}
+use Rattle.class_delta.specs.SimmKinds.declared.key.FactorKey.{FactorKey}
+use Rattle.class_delta.specs.SimmRules.Params.{Params}
+use Rattle.class_delta.specs.SimmParams.Facts.{IsParams}
+use Rattle.class_delta.specs.FactorBook.declared.at.BucketAt.{BucketAt}
+use Rattle.class_delta.specs.FactorBook.declared.at.ClassAt.{ClassAt}
+use Rattle.class_delta.specs.FactorBook.declared.holding.Holding.{Holding}
+use Rattle.class_delta.specs.FactorBook.Places.{factors_at}
+use Rattle.class_delta.specs.BookRange.Bounded.{IsMarginable}
+use Rattle.class_delta.specs.NameDelta.Values.{nets_in}
+use Rattle.class_delta.proofs.NameDelta.Shrinking.{SizesAreNetted}
 use Rattle.class_delta.proofs.Valued.{Whole}
-use Rattle.vol_factors.specs.Ranges.{IsReady}
+use Rattle.vega_margin.specs.VolFactors.Ranges.{IsReady}
 use Rattle.class_volatility.specs.Vega.{volatility_place, HasBuckets, AreVegaParts}
 use Rattle.class_volatility.proofs.Classes.{IsDone, AreRateLaws, done}
 use Rattle.class_volatility.proofs.InBook.{IsOwn, own_there}

@@ -2,27 +2,27 @@
 use Rattle.std.proofs.Common.{◌≡◌, ◌^◌, ◌*◌, List, [], map, false, sym, ap, ◌∙◌, subst, arith}
 use Rattle.std.specs.List.{list_any}
 use Rattle.std.proofs.lemmas.Int.{ints}
-use Rattle.simm_kinds.specs.declared.kinds.ProductClass.{ProductClass}
-use Rattle.simm_kinds.specs.declared.kinds.RiskClass.{RiskClass}
-use Rattle.simm_kinds.specs.declared.kinds.RiskClass.TheVariants as class
-use Rattle.simm_kinds.specs.declared.kinds.BucketId.TheVariants as id
-use Rattle.simm_kinds.specs.declared.key.FactorKey.{FactorKey}
-use Rattle.simm_kinds.specs.Order.{same_bucket_id}
-use Rattle.simm_rules.specs.declared.values.BucketMargin.{BucketMargin}
-use Rattle.simm_rules.specs.Params.{Params}
-use Rattle.simm_rules.specs.ForeignExchange.{fx_vega_value, fx_vega}
-use Rattle.factor_book.specs.declared.at.ClassAt.{ClassAt}
-use Rattle.factor_book.specs.declared.holding.Holding.{Holding}
-use Rattle.name_delta.specs.Values.{nets_in}
-use Rattle.name_delta.proofs.Lists.{each_weaker}
+use Rattle.class_delta.specs.SimmKinds.declared.kinds.ProductClass.{ProductClass}
+use Rattle.class_delta.specs.SimmKinds.declared.kinds.RiskClass.{RiskClass}
+use Rattle.class_delta.specs.SimmKinds.declared.kinds.RiskClass.TheVariants as class
+use Rattle.class_delta.specs.SimmKinds.declared.kinds.BucketId.TheVariants as id
+use Rattle.class_delta.specs.SimmKinds.declared.key.FactorKey.{FactorKey}
+use Rattle.class_delta.specs.SimmKinds.Order.{same_bucket_id}
+use Rattle.class_delta.specs.SimmRules.declared.values.BucketMargin.{BucketMargin}
+use Rattle.class_delta.specs.SimmRules.Params.{Params}
+use Rattle.class_delta.specs.SimmRules.ForeignExchange.{fx_vega_value, fx_vega}
+use Rattle.class_delta.specs.FactorBook.declared.at.ClassAt.{ClassAt}
+use Rattle.class_delta.specs.FactorBook.declared.holding.Holding.{Holding}
+use Rattle.class_delta.specs.NameDelta.Values.{nets_in}
+use Rattle.class_delta.proofs.NameDelta.Lists.{each_weaker}
 use Rattle.class_delta.specs.Delta.{single_k}
 use Rattle.class_delta.proofs.Bounds.{was_value}
 use Rattle.class_delta.proofs.OneBucket.{IsWithin, single_is, single_each, none_single}
 use Rattle.class_delta.proofs.Valued.{Whole}
 use Rattle.vega_margin.specs.Vega.{vega_in, IsVegaSizedIn}
 use Rattle.vega_margin.proofs.Idle.{pairs_none}
-use Rattle.vol_factors.specs.Buckets.{pairs_bucket_at}
-use Rattle.vol_factors.specs.Places.{pair_volatilities}
+use Rattle.vega_margin.specs.VolFactors.Buckets.{pairs_bucket_at}
+use Rattle.vega_margin.specs.VolFactors.Places.{pair_volatilities}
 use Rattle.class_volatility.specs.Vega.{class_vega_of, volatility_side, IsValued, AreVegaParts}
 use Rattle.class_volatility.proofs.VolatilePlaces.{pairs_alone}
 

@@ -1,14 +1,14 @@
 -- The buckets of a class with their values, whatever these are.
 use Rattle.std.proofs.Common.{◌≡◌, List, true, Option, Some, None}
 use Rattle.std.specs.Prelude.{IsSomeAnd}
-use Rattle.simm_kinds.specs.declared.kinds.BucketId.{BucketId}
-use Rattle.simm_kinds.specs.declared.kinds.BucketId.TheVariants as id
-use Rattle.simm_kinds.specs.declared.bucket.Bucket.{Bucket}
-use Rattle.simm_kinds.specs.declared.bucket.Bucket.TheVariants as bucket
-use Rattle.simm_kinds.specs.Factors.{bucket_id_of}
-use Rattle.simm_rules.specs.Admits.{lists}
-use Rattle.name_delta.specs.Combine.{IsListed}
-use Rattle.name_delta.specs.Ids.{listed_id}
+use Rattle.class_delta.specs.SimmKinds.declared.kinds.BucketId.{BucketId}
+use Rattle.class_delta.specs.SimmKinds.declared.kinds.BucketId.TheVariants as id
+use Rattle.class_delta.specs.SimmKinds.declared.bucket.Bucket.{Bucket}
+use Rattle.class_delta.specs.SimmKinds.declared.bucket.Bucket.TheVariants as bucket
+use Rattle.class_delta.specs.SimmKinds.Factors.{bucket_id_of}
+use Rattle.class_delta.specs.SimmRules.Admits.{lists}
+use Rattle.class_delta.specs.NameDelta.Combine.{IsListed}
+use Rattle.class_delta.specs.NameDelta.Ids.{listed_id}
 
 pub some_and : {X : Type 0} (P Q : X → Type 0) → ((x : X) → P x → Q x) → (o : Option X) → IsSomeAnd o P → IsSomeAnd o Q
 some_and P Q f None h = absurd h

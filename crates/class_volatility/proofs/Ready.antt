@@ -2,34 +2,34 @@
 use Rattle.std.proofs.Common.{◌≡◌, ℕ, List, Some, true, sym, subst, pos, ◌≤ℤ◌, arith}
 use Rattle.std.specs.List.{list_all}
 use Rattle.std.proofs.lemmas.Int.{ints}
-use Rattle.simm_kinds.specs.declared.kinds.ProductClass.{ProductClass}
-use Rattle.simm_kinds.specs.declared.kinds.RiskClass.{RiskClass}
-use Rattle.simm_kinds.specs.declared.kinds.RiskClass.TheVariants as class
-use Rattle.simm_kinds.specs.declared.kinds.BucketId.{BucketId}
-use Rattle.simm_kinds.specs.declared.kinds.BucketId.TheVariants as id
-use Rattle.simm_kinds.specs.declared.bucket.Bucket.{Bucket}
-use Rattle.simm_kinds.specs.declared.key.FactorKey.{FactorKey}
-use Rattle.simm_kinds.specs.declared.row.CrifRow.{CrifRow}
-use Rattle.simm_kinds.specs.Batch.{is_in_range}
-use Rattle.simm_kinds.specs.Order.{same_name}
-use Rattle.simm_rules.specs.Params.{Params, CreditBucket, PricedBucket}
-use Rattle.simm_rules.specs.Risks.{CreditClass, Qualifying, Non_qualifying, PricedClass, Equities, Commodities, select}
-use Rattle.simm_rules.specs.Admits.{lists}
-use Rattle.simm_rules.specs.Rates.{VolatilityIn, as_rate_volatility}
-use Rattle.simm_rules.specs.Credit.{credit_params, listed_credit}
-use Rattle.simm_rules.specs.Priced.{priced_params, listed_priced}
-use Rattle.simm_params.specs.Facts.{IsParams}
-use Rattle.factor_book.specs.declared.holding.Holding.{Holding}
-use Rattle.factor_book.specs.Factors.{factors_of}
-use Rattle.book_range.specs.Bounded.{IsBounded}
-use Rattle.ir_delta.specs.Parts.{IsCurrency}
-use Rattle.name_delta.specs.Combine.{IsListed}
-use Rattle.name_delta.specs.Ids.{listed_id}
-use Rattle.name_delta.specs.Values.{nets_in, IsInRange}
-use Rattle.name_delta.proofs.Shrinking.{SizesAreNetted, filter_shrinks}
-use Rattle.vol_factors.specs.Buckets.{currency_bucket_at, credit_bucket_at, priced_bucket_at, pairs_bucket_at}
-use Rattle.vol_factors.specs.Places.{volatilities_of, points_of, name_volatilities}
-use Rattle.vol_factors.specs.Ranges.{alone, IsPricedInRange, IsReadyIn, IsReady}
+use Rattle.class_delta.specs.SimmKinds.declared.kinds.ProductClass.{ProductClass}
+use Rattle.class_delta.specs.SimmKinds.declared.kinds.RiskClass.{RiskClass}
+use Rattle.class_delta.specs.SimmKinds.declared.kinds.RiskClass.TheVariants as class
+use Rattle.class_delta.specs.SimmKinds.declared.kinds.BucketId.{BucketId}
+use Rattle.class_delta.specs.SimmKinds.declared.kinds.BucketId.TheVariants as id
+use Rattle.class_delta.specs.SimmKinds.declared.bucket.Bucket.{Bucket}
+use Rattle.class_delta.specs.SimmKinds.declared.key.FactorKey.{FactorKey}
+use Rattle.class_delta.specs.SimmKinds.declared.row.CrifRow.{CrifRow}
+use Rattle.class_delta.specs.SimmKinds.Batch.{is_in_range}
+use Rattle.class_delta.specs.SimmKinds.Order.{same_name}
+use Rattle.class_delta.specs.SimmRules.Params.{Params, CreditBucket, PricedBucket}
+use Rattle.class_delta.specs.SimmRules.Risks.{CreditClass, Qualifying, Non_qualifying, PricedClass, Equities, Commodities, select}
+use Rattle.class_delta.specs.SimmRules.Admits.{lists}
+use Rattle.class_delta.specs.SimmRules.Rates.{VolatilityIn, as_rate_volatility}
+use Rattle.class_delta.specs.SimmRules.Credit.{credit_params, listed_credit}
+use Rattle.class_delta.specs.SimmRules.Priced.{priced_params, listed_priced}
+use Rattle.class_delta.specs.SimmParams.Facts.{IsParams}
+use Rattle.class_delta.specs.FactorBook.declared.holding.Holding.{Holding}
+use Rattle.class_delta.specs.FactorBook.Factors.{factors_of}
+use Rattle.class_delta.specs.BookRange.Bounded.{IsBounded}
+use Rattle.class_delta.specs.IrDelta.Parts.{IsCurrency}
+use Rattle.class_delta.specs.NameDelta.Combine.{IsListed}
+use Rattle.class_delta.specs.NameDelta.Ids.{listed_id}
+use Rattle.class_delta.specs.NameDelta.Values.{nets_in, IsInRange}
+use Rattle.class_delta.proofs.NameDelta.Shrinking.{SizesAreNetted, filter_shrinks}
+use Rattle.vega_margin.specs.VolFactors.Buckets.{currency_bucket_at, credit_bucket_at, priced_bucket_at, pairs_bucket_at}
+use Rattle.vega_margin.specs.VolFactors.Places.{volatilities_of, points_of, name_volatilities}
+use Rattle.vega_margin.specs.VolFactors.Ranges.{alone, IsPricedInRange, IsReadyIn, IsReady}
 use Rattle.class_volatility.proofs.Bounds.{rates_range, pairs_range, names_sizes, credit_class, priced_class}
 use Rattle.class_volatility.proofs.InBook.{IsOwn}
 use Rattle.class_volatility.proofs.Listed.{ready}

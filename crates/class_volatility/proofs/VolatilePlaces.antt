@@ -2,28 +2,28 @@
 use Rattle.std.proofs.Common.{◌≡◌, ℕ, ◌≤◌, List, map, length, false, Some, None, if◌then◌else◌, refl, sym, ap, ◌∙◌, arith}
 use Rattle.std.proofs.lemmas.Bool.{false≢true}
 use Rattle.std.proofs.lemmas.List.{length-map}
-use Rattle.simm_kinds.specs.declared.kinds.ProductClass.{ProductClass}
-use Rattle.simm_kinds.specs.declared.bucket.Bucket.{Bucket}
-use Rattle.simm_kinds.specs.declared.bucket.Bucket.TheVariants as bucket
-use Rattle.simm_kinds.specs.declared.factor.Factor.{Factor}
-use Rattle.simm_kinds.specs.declared.factor.Factor.TheVariants as factor
-use Rattle.simm_kinds.specs.declared.key.FactorKey.{FactorKey}
-use Rattle.simm_kinds.specs.Pair.{Pair}
-use Rattle.simm_kinds.specs.Order.{name_cmp, same_name, pair_cmp}
-use Rattle.simm_rules.specs.Risks.{risk, CreditClass, Qualifying, Non_qualifying, PricedClass, Equities, Commodities, credit_point, Amount, select}
-use Rattle.simm_rules.specs.Rates.{VolatilityIn, as_rate_volatility}
-use Rattle.simm_rules.specs.Credit.{as_credit_volatility}
-use Rattle.simm_rules.specs.Priced.{NameVolatility, as_price_volatility, names_of}
-use Rattle.simm_rules.specs.ForeignExchange.{PairVolatility, as_pair_volatility, pairs_of}
-use Rattle.factor_book.specs.declared.holding.Holding.{Holding}
-use Rattle.factor_book.specs.Places.{factors_at}
-use Rattle.factor_book.proofs.Sorting.{length-different}
-use Rattle.name_delta.specs.Values.{nets_in}
-use Rattle.name_delta.proofs.Keys.{bucket_ids}
+use Rattle.class_delta.specs.SimmKinds.declared.kinds.ProductClass.{ProductClass}
+use Rattle.class_delta.specs.SimmKinds.declared.bucket.Bucket.{Bucket}
+use Rattle.class_delta.specs.SimmKinds.declared.bucket.Bucket.TheVariants as bucket
+use Rattle.class_delta.specs.SimmKinds.declared.factor.Factor.{Factor}
+use Rattle.class_delta.specs.SimmKinds.declared.factor.Factor.TheVariants as factor
+use Rattle.class_delta.specs.SimmKinds.declared.key.FactorKey.{FactorKey}
+use Rattle.class_delta.specs.SimmKinds.Pair.{Pair}
+use Rattle.class_delta.specs.SimmKinds.Order.{name_cmp, same_name, pair_cmp}
+use Rattle.class_delta.specs.SimmRules.Risks.{risk, CreditClass, Qualifying, Non_qualifying, PricedClass, Equities, Commodities, credit_point, Amount, select}
+use Rattle.class_delta.specs.SimmRules.Rates.{VolatilityIn, as_rate_volatility}
+use Rattle.class_delta.specs.SimmRules.Credit.{as_credit_volatility}
+use Rattle.class_delta.specs.SimmRules.Priced.{NameVolatility, as_price_volatility, names_of}
+use Rattle.class_delta.specs.SimmRules.ForeignExchange.{PairVolatility, as_pair_volatility, pairs_of}
+use Rattle.class_delta.specs.FactorBook.declared.holding.Holding.{Holding}
+use Rattle.class_delta.specs.FactorBook.Places.{factors_at}
+use Rattle.class_delta.proofs.FactorBook.Sorting.{length-different}
+use Rattle.class_delta.specs.NameDelta.Values.{nets_in}
+use Rattle.class_delta.proofs.NameDelta.Keys.{bucket_ids}
 use Rattle.class_delta.proofs.Alone.{stands_within, select_at, kept_at, same_there}
 use Rattle.class_delta.proofs.Counts.{read_few}
 use Rattle.class_delta.proofs.Lists.{filter-length}
-use Rattle.vol_factors.specs.Places.{currency_place, points_place, names_place, pairs_place, volatilities_of, points_of, name_volatilities, pair_volatilities}
+use Rattle.vega_margin.specs.VolFactors.Places.{currency_place, points_place, names_place, pairs_place, volatilities_of, points_of, name_volatilities, pair_volatilities}
 
 abbrev key_with : ProductClass → Factor → FactorKey
 key_with c f = record { product = c; factor = f }

@@ -1,25 +1,25 @@
 -- The vega margin of a risk class in a product class, and the values of its buckets.
 -- (ISDA SIMM methodology, vega margin.)
 use Rattle.std.specs.Prelude.{List, ℤ}
-use Rattle.simm_kinds.specs.declared.kinds.RiskClass.{RiskClass}
-use Rattle.simm_kinds.specs.declared.kinds.RiskClass.TheVariants as class
-use Rattle.simm_kinds.specs.declared.kinds.BucketId.{BucketId}
-use Rattle.simm_kinds.specs.declared.key.FactorKey.{FactorKey}
-use Rattle.simm_rules.specs.declared.values.BucketMargin.{BucketMargin}
-use Rattle.simm_rules.specs.Params.{Params}
-use Rattle.simm_rules.specs.Net.{Sensitivity}
-use Rattle.simm_rules.specs.Risks.{Qualifying, Non_qualifying, Equities, Commodities}
-use Rattle.simm_rules.specs.Rates.{rate_vega}
-use Rattle.simm_rules.specs.Credit.{credit_vega}
-use Rattle.simm_rules.specs.Priced.{price_vega}
-use Rattle.simm_rules.specs.ForeignExchange.{fx_vega}
-use Rattle.factor_book.specs.declared.at.BucketAt.{BucketAt}
-use Rattle.factor_book.specs.declared.at.ClassAt.{ClassAt}
-use Rattle.factor_book.specs.declared.at.SideAt.{SideAt}
-use Rattle.factor_book.specs.declared.holding.Holding.{Holding}
-use Rattle.factor_book.specs.declared.place.Place.{Place}
-use Rattle.factor_book.specs.declared.place.BookSide.TheVariants as side
-use Rattle.book_range.specs.Bounded.{IsMarginable}
+use Rattle.class_delta.specs.SimmKinds.declared.kinds.RiskClass.{RiskClass}
+use Rattle.class_delta.specs.SimmKinds.declared.kinds.RiskClass.TheVariants as class
+use Rattle.class_delta.specs.SimmKinds.declared.kinds.BucketId.{BucketId}
+use Rattle.class_delta.specs.SimmKinds.declared.key.FactorKey.{FactorKey}
+use Rattle.class_delta.specs.SimmRules.declared.values.BucketMargin.{BucketMargin}
+use Rattle.class_delta.specs.SimmRules.Params.{Params}
+use Rattle.class_delta.specs.SimmRules.Net.{Sensitivity}
+use Rattle.class_delta.specs.SimmRules.Risks.{Qualifying, Non_qualifying, Equities, Commodities}
+use Rattle.class_delta.specs.SimmRules.Rates.{rate_vega}
+use Rattle.class_delta.specs.SimmRules.Credit.{credit_vega}
+use Rattle.class_delta.specs.SimmRules.Priced.{price_vega}
+use Rattle.class_delta.specs.SimmRules.ForeignExchange.{fx_vega}
+use Rattle.class_delta.specs.FactorBook.declared.at.BucketAt.{BucketAt}
+use Rattle.class_delta.specs.FactorBook.declared.at.ClassAt.{ClassAt}
+use Rattle.class_delta.specs.FactorBook.declared.at.SideAt.{SideAt}
+use Rattle.class_delta.specs.FactorBook.declared.holding.Holding.{Holding}
+use Rattle.class_delta.specs.FactorBook.declared.place.Place.{Place}
+use Rattle.class_delta.specs.FactorBook.declared.place.BookSide.TheVariants as side
+use Rattle.class_delta.specs.BookRange.Bounded.{IsMarginable}
 use Rattle.class_delta.specs.Values.{IsValuedBy, AreValuedBy}
 pub use Rattle.vega_margin.specs.Combine.{volatility_buckets}
 pub use Rattle.vega_margin.specs.Vega.{vega_value, IsVegaSized}

@@ -1,15 +1,15 @@
 //! The values of one bucket.
 ghost use Rattle.std.specs.Prelude.{◌≡◌, ◌≢◌, ◌+◌, ◌*◌, ◌≤◌, [], Some, IfOk, length};
-ghost use Rattle.factor_book.specs.Places.{factors_at};
-ghost use Rattle.book_range.specs.Bounded.{IsMarginable};
+ghost use Rattle.class_delta.specs.FactorBook.Places.{factors_at};
+ghost use Rattle.class_delta.specs.BookRange.Bounded.{IsMarginable};
 ghost use Rattle.vega_margin.specs.Vega.{vega_value, IsVegaSized};
 ghost use Rattle.curvature_margin.specs.Curvature.{curvature_value, IsCurvatureSized};
 ghost use Rattle.class_volatility.specs.Vega.{volatility_place};
 
-use factor_book::{BucketAt, Factors, factors_are_netted};
-use pair_sum::Steps;
-use simm_params::Params;
-use simm_rules::BucketMargin;
+use class_delta::factor_book::{BucketAt, Factors, factors_are_netted};
+use class_delta::pair_sum::Steps;
+use class_delta::simm_params::Params;
+use class_delta::simm_rules::BucketMargin;
 use std::alloc::{AllocError, Global};
 use std::sync::ledger::Ledger;
 

@@ -3,8 +3,8 @@ ghost use Rattle.std.specs.Prelude.{◌≡◌, IfOk};
 ghost use Rattle.vega_margin.specs.Combine.{volatility_buckets};
 ghost use Rattle.class_volatility.specs.Vega.{volatility_side};
 
-use factor_book::{BookSide, ClassAt, Factors, SideAt};
-use simm_kinds::BucketId;
+use class_delta::factor_book::{BookSide, ClassAt, Factors, SideAt};
+use class_delta::simm_kinds::BucketId;
 use std::alloc::{AllocError, Global};
 
 /// The buckets of a class that have a volatility, in order. Want of memory is the only error.

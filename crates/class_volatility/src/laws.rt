@@ -1,11 +1,11 @@
 //! What the values of buckets hang on.
 ghost use Rattle.std.specs.Prelude.{◌≡◌, List};
-ghost use Rattle.simm_kinds.specs.declared.key.FactorKey.{FactorKey};
-ghost use Rattle.simm_rules.specs.declared.values.BucketMargin.{BucketMargin};
-ghost use Rattle.simm_rules.specs.Params.{Params};
-ghost use Rattle.factor_book.specs.declared.at.BucketAt.{BucketAt};
-ghost use Rattle.factor_book.specs.declared.holding.Holding.{Holding};
-ghost use Rattle.factor_book.specs.Places.{factors_at};
+ghost use Rattle.class_delta.specs.SimmKinds.declared.key.FactorKey.{FactorKey};
+ghost use Rattle.class_delta.specs.SimmRules.declared.values.BucketMargin.{BucketMargin};
+ghost use Rattle.class_delta.specs.SimmRules.Params.{Params};
+ghost use Rattle.class_delta.specs.FactorBook.declared.at.BucketAt.{BucketAt};
+ghost use Rattle.class_delta.specs.FactorBook.declared.holding.Holding.{Holding};
+ghost use Rattle.class_delta.specs.FactorBook.Places.{factors_at};
 ghost use Rattle.vega_margin.specs.Vega.{vega_value, IsVegaSized};
 ghost use Rattle.curvature_margin.specs.Curvature.{curvature_value, IsCurvatureSized};
 ghost use Rattle.class_volatility.specs.Vega.{volatility_place};

@@ -14,3 +14,7 @@ pub use buckets::volatility_buckets;
 pub use curvature::curvature_from;
 pub use laws::{curvature_hangs_on_its_factors, vega_hangs_on_its_factors};
 pub use vega::vega_from;
+
+// what the crates above reach through this one
+pub use class_delta;
+pub use class_delta::{book_range, name_delta, pair_sum};

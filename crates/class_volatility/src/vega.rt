@@ -1,18 +1,18 @@
 //! The vega margin of a class over the values of its buckets.
 ghost use Rattle.std.specs.Prelude.{◌≡◌, ◌*◌, ◌^◌, List, IfOk, pos, ◌≤ℤ◌};
-ghost use Rattle.simm_kinds.specs.declared.key.FactorKey.{FactorKey};
-ghost use Rattle.simm_kinds.specs.declared.kinds.RiskClass.TheVariants as class;
-ghost use Rattle.factor_book.specs.declared.holding.Holding.{Holding};
-ghost use Rattle.book_range.specs.Bounded.{IsMarginable};
-ghost use Rattle.name_delta.specs.Values.{nets_in};
+ghost use Rattle.class_delta.specs.SimmKinds.declared.key.FactorKey.{FactorKey};
+ghost use Rattle.class_delta.specs.SimmKinds.declared.kinds.RiskClass.TheVariants as class;
+ghost use Rattle.class_delta.specs.FactorBook.declared.holding.Holding.{Holding};
+ghost use Rattle.class_delta.specs.BookRange.Bounded.{IsMarginable};
+ghost use Rattle.class_delta.specs.NameDelta.Values.{nets_in};
 ghost use Rattle.class_volatility.specs.Vega.{class_vega_of, HasBuckets, AreVegaParts, AreBookVegas};
 
+use class_delta::factor_book::{ClassAt, factors_are_netted};
+use class_delta::mh_units::Cents;
+use class_delta::simm_kinds::{BucketId, RiskClass};
+use class_delta::simm_params::Params;
+use class_delta::simm_rules::BucketMargin;
 use class_delta::single_margin;
-use factor_book::{ClassAt, factors_are_netted};
-use mh_units::Cents;
-use simm_kinds::{BucketId, RiskClass};
-use simm_params::Params;
-use simm_rules::BucketMargin;
 use std::alloc::{AllocError, Global};
 use vega_margin::{combine, currencies_make_vega, volatilities_stand_by_currency};
 

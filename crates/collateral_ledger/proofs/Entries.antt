@@ -12,7 +12,7 @@ use Rattle.std.proofs.lemmas.List.Sorted.{IsPermutation-map, length_permutation,
 use Rattle.std.proofs.lemmas.Map.{NonePasses, length-set_value}
 use Rattle.std.proofs.lemmas.Map.Keys.{IsDistinct-tail, IsDistinct-from_sorted, IsDistinct-IsPermutation}
 use Rattle.std.proofs.lemmas.Map.Entries.{none_past_head}
-use Rattle.simm_kinds.specs.Order.{name_cmp, same_name}
+use Rattle.csa_terms.specs.SimmKinds.Order.{name_cmp, same_name}
 use Rattle.collateral_ledger.specs.Holdings.{Lot, IsLot, IsLotValue, AreLots}
 use Rattle.collateral_ledger.specs.Booked.{total, counted}
 use Rattle.collateral_ledger.specs.Changes.{has_lot, with_value, without_lot}

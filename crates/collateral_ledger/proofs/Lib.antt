@@ -5,3 +5,4 @@ pub mod Sums
 pub mod Entries
 pub mod Numbers
 pub mod Shares
+pub use Rattle.csa_terms.proofs.MhUnits as MhUnits

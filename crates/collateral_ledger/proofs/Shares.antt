@@ -1,7 +1,7 @@
 -- The haircut of a class that has one is a share of the value.
 use Rattle.std.proofs.Common.{◌≡◌, ℕ, List, [], ◌∷◌, Bool, true, false, cond, Some, ℤ, subst}
 use Rattle.std.specs.List.{AllByRecursion}
-use Rattle.simm_kinds.specs.Order.{same_name}
+use Rattle.csa_terms.specs.SimmKinds.Order.{same_name}
 use Rattle.csa_terms.specs.Terms.{Haircut, IsShare, haircut_in}
 
 pub share_of : (hs : List Haircut) (class : List ℕ) (rate : ℤ) → AllByRecursion (λ h. IsShare h.rate) hs → haircut_in hs class ≡ Some rate → IsShare rate

@@ -2,7 +2,7 @@
 use Rattle.std.proofs.Common.{◌≡◌, ◌≤◌, ◌^◌, ℤ, ◌+ℤ◌, ◌-ℤ◌, unsigned_abs, FitsSigned, arith, refl}
 use Rattle.std.proofs.lemmas.Int.{ints, fits_signed_from_abs}
 use Rattle.std.specs.Int.{w128, cast_signed, cast_unsigned}
-use Rattle.mh_units.proofs.Integers.{same128}
+use Rattle.csa_terms.proofs.MhUnits.Integers.{same128}
 
 abbrev pub IsSmall : ℤ → Type 0
 IsSmall z = unsigned_abs z ≤ 2 ^ 100

@@ -2,7 +2,7 @@
 -- prior deliveries and returns not yet completed count as made.)
 use Rattle.std.specs.Prelude.{ℕ, List, [], ◌∷◌, map, unwrap_or, ℤ, pos, neg_ℤ, ◌+ℤ◌, ◌-ℤ◌, ◌*ℤ◌}
 use Rattle.std.specs.Int.{int_max}
-use Rattle.mh_units.specs.Rounding.{down}
+use Rattle.csa_terms.specs.MhUnits.Rounding.{down}
 use Rattle.csa_terms.specs.declared.flow.Flow.{Flow}
 use Rattle.csa_terms.specs.declared.flow.Flow.TheVariants.{Delivery, Return}
 use Rattle.csa_terms.specs.declared.lot_currency.LotCurrency.{LotCurrency}

@@ -1,7 +1,7 @@
 -- Lots and calls by their names and numbers, and what a change leaves of them.
 use Rattle.std.specs.Prelude.{ℕ, List, Bool, ◌==◌, not, filter, map, ℤ, if◌then◌else◌}
 use Rattle.std.specs.List.{list_any}
-use Rattle.simm_kinds.specs.Order.{same_name}
+use Rattle.csa_terms.specs.SimmKinds.Order.{same_name}
 use Rattle.collateral_ledger.specs.Holdings.{Lot, Call}
 
 abbrev pub has_lot : List ℕ → List Lot → Bool

@@ -2,7 +2,7 @@
 -- (ISDA 2016 Credit Support Annex for Initial Margin: Posted Credit Support; deliveries and returns not yet completed.)
 use Rattle.std.specs.Prelude.{◌^◌, ◌≤◌, ℕ, List, length, map, ◌==◌, ℤ, pos, ◌≤ℤ◌, unsigned_abs}
 use Rattle.std.specs.List.{AllByRecursion, IsDistinct}
-use Rattle.simm_kinds.specs.Order.{same_name}
+use Rattle.csa_terms.specs.SimmKinds.Order.{same_name}
 use Rattle.csa_terms.specs.declared.flow.Flow.{Flow}
 use Rattle.csa_terms.specs.Terms.{Agreement}
 

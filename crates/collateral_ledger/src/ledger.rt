@@ -8,9 +8,9 @@ use crate::LedgerFault;
 use crate::calls::Calls;
 use crate::lots::Lots;
 use crate::rates::rate_for;
+use csa_terms::mh_units::Rate4;
+use csa_terms::simm_kinds::Name;
 use csa_terms::{Flow, LotCurrency, SetTerms};
-use mh_units::Rate4;
-use simm_kinds::Name;
 use std::alloc::{AllocError, Global};
 use std::marker::Model;
 

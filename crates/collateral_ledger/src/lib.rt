@@ -12,3 +12,7 @@ mod rates;
 
 pub use fault::LedgerFault;
 pub use ledger::Ledger;
+
+// what the crates above reach through this one
+pub use csa_terms;
+pub use csa_terms::{mh_units, simm_kinds};

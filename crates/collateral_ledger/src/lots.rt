@@ -5,8 +5,8 @@ ghost use Rattle.collateral_ledger.specs.Booked.{total, counted};
 ghost use Rattle.collateral_ledger.specs.Changes.{has_lot, with_value, without_lot};
 
 use crate::rated_lot::RatedLot;
-use mh_units::Rate4;
-use simm_kinds::Name;
+use csa_terms::mh_units::Rate4;
+use csa_terms::simm_kinds::Name;
 use std::alloc::{AllocError, Global};
 use std::collections::BTreeMap;
 use std::marker::Model;

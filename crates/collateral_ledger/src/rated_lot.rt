@@ -4,7 +4,7 @@ ghost use Rattle.collateral_ledger.specs.Holdings.{IsLotValue};
 ghost use Rattle.collateral_ledger.specs.Kept.{counted_of};
 
 use crate::rates::WHOLE;
-use mh_units::{Rate4, div_down};
+use csa_terms::mh_units::{Rate4, div_down};
 use std::marker::Model;
 
 /// A lot of collateral without its name: its place in the order in which lots were put, its value in cents, and what

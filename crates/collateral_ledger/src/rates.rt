@@ -2,9 +2,9 @@ ghost use Rattle.std.specs.Prelude.{◌≡◌, ◌≤◌, is_some, IfSome, pos, 
 ghost use Rattle.csa_terms.specs.Terms.{IsShare, haircut_of};
 ghost use Rattle.collateral_ledger.specs.Booked.{rate_of, currency_haircut};
 
+use csa_terms::mh_units::Rate4;
+use csa_terms::simm_kinds::Name;
 use csa_terms::{LotCurrency, SetTerms};
-use mh_units::Rate4;
-use simm_kinds::Name;
 
 /// A rate of 1.
 pub const WHOLE: Rate4 = Rate4(10_000);

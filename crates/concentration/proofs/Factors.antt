@@ -4,9 +4,9 @@ use Rattle.std.proofs.lemmas.Nat.{mul-le}
 use Rattle.std.proofs.lemmas.Int.{ints, clamps}
 use Rattle.std.proofs.Math.IntN.{zero-*ℤ, *ℤ_comm}
 use Rattle.std.specs.Int.{int_min, int_max}
-use Rattle.mh_units.specs.Rounding.{up, down, root, IsUp, IsRoot}
-use Rattle.mh_units.proofs.Integers.{add-mul_ℤ, below_next, mul-le_ℤ}
-use Rattle.mh_units.proofs.Roundings.{up_is, down_is, root_is, IsDown_unique}
+use Rattle.simm_rules.specs.MhUnits.Rounding.{up, down, root, IsUp, IsRoot}
+use Rattle.simm_rules.proofs.MhUnits.Integers.{add-mul_ℤ, below_next, mul-le_ℤ}
+use Rattle.simm_rules.proofs.MhUnits.Roundings.{up_is, down_is, root_is, IsDown_unique}
 use Rattle.simm_rules.specs.Concentration.{IsConcentration, one, cr, ratio}
 
 -- ---- the ratio of the lesser over the greater

@@ -5,12 +5,12 @@
 
 ghost use Rattle.std.specs.Prelude.{◌≡◌, ◌*◌, ◌≤◌, ◌^◌, pos, ◌≤ℤ◌, ◌<ℤ◌, ◌*ℤ◌, unsigned_abs};
 ghost use Rattle.std.specs.Bool.{OnTrue};
-ghost use Rattle.mh_units.specs.Rounding.{down, root, up};
+ghost use Rattle.simm_rules.specs.MhUnits.Rounding.{down, root, up};
 ghost use Rattle.simm_rules.specs.Concentration.{IsConcentration, one};
 ghost use Rattle.simm_rules.specs.Concentration.{cr as cr_of, ratio as ratio_of};
 ghost use Rattle.simm_rules.specs.Bucket.{combined};
 
-use mh_units::{Corr6, div_up, least_root, mul_corr};
+use simm_rules::mh_units::{Corr6, div_up, least_root, mul_corr};
 
 // The bits of a guessed quotient.
 const LOW_BITS: u64 = 0xffff_ffff;
@@ -136,3 +136,7 @@ fn is_quotient(number: i64, divisor: i64, guess: i64) -> bool
     let rest = number - guess * divisor;
     0 <= rest && rest < divisor
 }
+
+// what the crates above reach through this one
+pub use simm_rules;
+pub use simm_rules::mh_units;

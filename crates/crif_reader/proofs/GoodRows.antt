@@ -5,12 +5,12 @@ use Rattle.std.specs.Str.{is_utf8}
 use Rattle.std.proofs.lemmas.Str.{is_utf8-from_IsUtf8, IsUtf8-from_ascii}
 use Rattle.std.proofs.lemmas.Str.Ascii.{IsAscii-nil}
 use Rattle.std.proofs.lemmas.Bool.{and_parts, ltb-false, le-leb, not-true}
-use Rattle.mh_units.specs.declared.quantities.Cents.{Cents}
-use Rattle.mh_units.specs.declared.numeral.NumeralFault.{NumeralFault}
-use Rattle.mh_units.specs.declared.numeral.NumeralFault.TheVariants as faults
-use Rattle.mh_units.specs.declared.scan.Phase.TheVariants as phases
-use Rattle.mh_units.specs.Scan.{is_numeral, reach}
-use Rattle.mh_units.specs.Numeral.{cents_of, number_of, with_sign, signed, is_minus, magnitude}
+use Rattle.simm_kinds.specs.MhUnits.declared.quantities.Cents.{Cents}
+use Rattle.simm_kinds.specs.MhUnits.declared.numeral.NumeralFault.{NumeralFault}
+use Rattle.simm_kinds.specs.MhUnits.declared.numeral.NumeralFault.TheVariants as faults
+use Rattle.simm_kinds.specs.MhUnits.declared.scan.Phase.TheVariants as phases
+use Rattle.simm_kinds.specs.MhUnits.Scan.{is_numeral, reach}
+use Rattle.simm_kinds.specs.MhUnits.Numeral.{cents_of, number_of, with_sign, signed, is_minus, magnitude}
 use Rattle.simm_kinds.specs.declared.kinds.RiskType.{RiskType}
 use Rattle.simm_kinds.specs.declared.kinds.RiskType.TheVariants as kind
 use Rattle.simm_kinds.specs.Batch.{is_amount}

@@ -15,3 +15,5 @@ pub mod Placed
 pub mod GoodRows
 pub mod Batches
 pub mod Runs
+pub use Rattle.simm_kinds.proofs.MhUnits as MhUnits
+pub use Rattle.simm_kinds.proofs as SimmKinds

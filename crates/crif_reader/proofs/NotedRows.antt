@@ -4,8 +4,8 @@ use Rattle.std.specs.List.{list_any, flat_map}
 use Rattle.std.proofs.lemmas.Grind.{flat_map-append}
 use Rattle.std.proofs.lemmas.List.Folds.{list_any-append}
 use Rattle.std.specs.BTreeSet.{contains}
-use Rattle.mh_units.specs.declared.quantities.Cents.{Cents}
-use Rattle.mh_units.specs.declared.quantities.Rate4.{Rate4}
+use Rattle.simm_kinds.specs.MhUnits.declared.quantities.Cents.{Cents}
+use Rattle.simm_kinds.specs.MhUnits.declared.quantities.Rate4.{Rate4}
 use Rattle.simm_kinds.specs.declared.key.FactorKey.{FactorKey}
 use Rattle.simm_kinds.specs.declared.kinds.ProductClass.{ProductClass}
 use Rattle.simm_kinds.specs.declared.kinds.ProductClass.TheVariants as product

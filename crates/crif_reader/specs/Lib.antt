@@ -12,3 +12,5 @@ pub mod Noted
 pub mod Trades
 pub mod Growth
 pub mod Grammar
+pub use Rattle.simm_kinds.specs.MhUnits as MhUnits
+pub use Rattle.simm_kinds.specs as SimmKinds

@@ -1,9 +1,9 @@
 -- The row of a record: its tests in order, the first fault ends them.
 use Rattle.std.specs.Prelude.{ℕ, List, [], length, Bool, true, false, ◌&&◌, nat_lt, ◌==◌, ℤ, pos, int_le, codes, ok_or, Option, Some, None, Result, Ok, Err, if◌then◌else◌}
 use Rattle.std.specs.Result.{result_map_both}
-use Rattle.mh_units.specs.declared.quantities.Cents.{Cents}
-use Rattle.mh_units.specs.declared.quantities.Rate4.{Rate4}
-use Rattle.mh_units.specs.Numeral.{cents_of, rate4_of}
+use Rattle.simm_kinds.specs.MhUnits.declared.quantities.Cents.{Cents}
+use Rattle.simm_kinds.specs.MhUnits.declared.quantities.Rate4.{Rate4}
+use Rattle.simm_kinds.specs.MhUnits.Numeral.{cents_of, rate4_of}
 use Rattle.simm_kinds.specs.declared.kinds.ProductClass.{ProductClass}
 use Rattle.simm_kinds.specs.declared.kinds.RiskType.{RiskType}
 use Rattle.simm_kinds.specs.declared.kinds.RiskType.TheVariants as kind

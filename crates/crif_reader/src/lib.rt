@@ -18,3 +18,7 @@ mod row_stop;
 pub use column::Column;
 pub use fault::{CrifFault, RowFault};
 pub use read::{ReadBatch, read_batch};
+
+// what the crates above reach through this one
+pub use simm_kinds;
+pub use simm_kinds::mh_units;

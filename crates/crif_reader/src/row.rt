@@ -13,7 +13,7 @@ use crate::fields::Fields;
 use crate::names::{read_full_name, read_name};
 use crate::records::Records;
 use crate::row_stop::RowStop;
-use mh_units::{Cents, Rate4, read_cents, read_rate4};
+use simm_kinds::mh_units::{Cents, Rate4, read_cents, read_rate4};
 use simm_kinds::{CrifRow, FactorKey, Name, ProductClass, RiskType};
 use std::alloc::Global;
 

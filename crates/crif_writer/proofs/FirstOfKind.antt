@@ -4,10 +4,10 @@ use Rattle.std.specs.List.{flat_map, list_any}
 use Rattle.std.proofs.lemmas.Bool.{or_from, or_parts}
 use Rattle.std.proofs.lemmas.Grind.{flat_map-append}
 use Rattle.std.proofs.lemmas.List.Folds.{list_any-append}
-use Rattle.simm_kinds.specs.declared.row.CrifRow.{CrifRow}
-use Rattle.simm_kinds.specs.declared.row.CrifRow.TheVariants as row
-use Rattle.simm_kinds.specs.Batch.{factor_names, multiplied, repeats}
-use Rattle.simm_kinds.specs.Order.{same_name, same_product}
+use Rattle.crif_reader.specs.SimmKinds.declared.row.CrifRow.{CrifRow}
+use Rattle.crif_reader.specs.SimmKinds.declared.row.CrifRow.TheVariants as row
+use Rattle.crif_reader.specs.SimmKinds.Batch.{factor_names, multiplied, repeats}
+use Rattle.crif_reader.specs.SimmKinds.Order.{same_name, same_product}
 use Rattle.crif_reader.specs.Repeated.{is_repeated}
 use Rattle.crif_reader.proofs.Onces.{IsOnce, same_names, same_products}
 

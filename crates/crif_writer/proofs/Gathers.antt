@@ -4,10 +4,10 @@ use Rattle.std.specs.List.{flat_map, list_any, AllByRecursion}
 use Rattle.std.proofs.lemmas.Bool.{or_parts}
 use Rattle.std.proofs.lemmas.List.{append-nil, map-append}
 use Rattle.std.proofs.lemmas.List.Sums.{fold-append}
-use Rattle.simm_kinds.specs.declared.row.CrifRow.{CrifRow}
-use Rattle.simm_kinds.specs.declared.row.TradeRows.{TradeRows}
-use Rattle.simm_kinds.specs.Batch.{repeats}
-use Rattle.simm_kinds.specs.Order.{same_name}
+use Rattle.crif_reader.specs.SimmKinds.declared.row.CrifRow.{CrifRow}
+use Rattle.crif_reader.specs.SimmKinds.declared.row.TradeRows.{TradeRows}
+use Rattle.crif_reader.specs.SimmKinds.Batch.{repeats}
+use Rattle.crif_reader.specs.SimmKinds.Order.{same_name}
 use Rattle.crif_reader.specs.Growth.{with_entry}
 use Rattle.crif_reader.specs.Row.{Entry}
 use Rattle.crif_reader.specs.Trades.{gathered}

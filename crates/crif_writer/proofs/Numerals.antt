@@ -6,15 +6,15 @@ use Rattle.std.specs.Fmt.{decimal}
 use Rattle.std.proofs.lemmas.Fmt.{decimal_digit, decimal_by_steps_wide, length-decimal-le_wide}
 use Rattle.std.proofs.lemmas.Bool.{le-leb, le-ltb, ne_eqb}
 use Rattle.std.proofs.lemmas.List.{take_at, drop_at, append-nil}
-use Rattle.mh_units.specs.declared.quantities.Cents.{Cents}
-use Rattle.mh_units.specs.declared.quantities.Rate4.{Rate4}
-use Rattle.mh_units.specs.declared.scan.Kind.TheVariants as kinds
-use Rattle.mh_units.specs.declared.scan.Phase.TheVariants as phases
-use Rattle.mh_units.specs.Grammar.{IsDigit}
-use Rattle.mh_units.specs.Money.{money_text}
-use Rattle.mh_units.specs.Scan.{kind_of, scan, is_numeral}
-use Rattle.mh_units.specs.Numeral.{number, number_after, number_of, magnitude, nearest, digits, after_digits, after_sign, after_point, is_minus, signed, with_sign, cents_of, rate4_of}
-use Rattle.mh_units.proofs.Digits.{all-append}
+use Rattle.crif_reader.specs.MhUnits.declared.quantities.Cents.{Cents}
+use Rattle.crif_reader.specs.MhUnits.declared.quantities.Rate4.{Rate4}
+use Rattle.crif_reader.specs.MhUnits.declared.scan.Kind.TheVariants as kinds
+use Rattle.crif_reader.specs.MhUnits.declared.scan.Phase.TheVariants as phases
+use Rattle.crif_reader.specs.MhUnits.Grammar.{IsDigit}
+use Rattle.crif_reader.specs.MhUnits.Money.{money_text}
+use Rattle.crif_reader.specs.MhUnits.Scan.{kind_of, scan, is_numeral}
+use Rattle.crif_reader.specs.MhUnits.Numeral.{number, number_after, number_of, magnitude, nearest, digits, after_digits, after_sign, after_point, is_minus, signed, with_sign, cents_of, rate4_of}
+use Rattle.crif_reader.proofs.MhUnits.Digits.{all-append}
 use Rattle.crif_writer.specs.Amounts.{four_digits, rate_text}
 
 -- ---- digits

@@ -9,27 +9,27 @@ use Rattle.std.proofs.lemmas.List.{reverse-reverse, get_or-reverse, length-rever
 use Rattle.std.proofs.lemmas.List.Folds.{list_all-append}
 use Rattle.std.proofs.lemmas.Str.{IsUtf8-from_ascii, is_utf8-from_IsUtf8}
 use Rattle.std.proofs.lemmas.Str.Ascii.{IsAscii-nil, IsAscii-cons}
-use Rattle.mh_units.specs.Grammar.{IsDigit}
-use Rattle.mh_units.specs.Money.{money_text}
-use Rattle.simm_kinds.specs.declared.bucket.Bucket.{Bucket}
-use Rattle.simm_kinds.specs.declared.bucket.Bucket.TheVariants as bucket
-use Rattle.simm_kinds.specs.declared.fault.NameFault.{NameFault}
-use Rattle.simm_kinds.specs.declared.fault.NameFault.TheVariants as fault
-use Rattle.simm_kinds.specs.declared.kinds.ProductClass.{ProductClass}
-use Rattle.simm_kinds.specs.declared.kinds.ProductClass.TheVariants as product
-use Rattle.simm_kinds.specs.declared.kinds.RiskType.{RiskType}
-use Rattle.simm_kinds.specs.declared.kinds.RiskType.TheVariants as kind
-use Rattle.simm_kinds.specs.declared.kinds.SubCurve.{SubCurve}
-use Rattle.simm_kinds.specs.declared.kinds.SubCurve.TheVariants as sub
-use Rattle.simm_kinds.specs.declared.kinds.Tenor.{Tenor}
-use Rattle.simm_kinds.specs.declared.kinds.Tenor.TheVariants as tenor
-use Rattle.simm_kinds.specs.Bucket.{bucket_text}
-use Rattle.simm_kinds.specs.BucketNumber.{is_bucket_number}
-use Rattle.simm_kinds.specs.Kinds.{product_word, kind_word, sub_word}
-use Rattle.simm_kinds.specs.NameText.{is_currency, is_full_name, is_trimmed, is_upper, has_name_bytes, is_printable, name_fault, IsName}
-use Rattle.simm_kinds.specs.NameOrder.{comes_before}
-use Rattle.simm_kinds.specs.Pair.{Pair, is_pair}
-use Rattle.simm_kinds.specs.Tenors.{tenor_word}
+use Rattle.crif_reader.specs.MhUnits.Grammar.{IsDigit}
+use Rattle.crif_reader.specs.MhUnits.Money.{money_text}
+use Rattle.crif_reader.specs.SimmKinds.declared.bucket.Bucket.{Bucket}
+use Rattle.crif_reader.specs.SimmKinds.declared.bucket.Bucket.TheVariants as bucket
+use Rattle.crif_reader.specs.SimmKinds.declared.fault.NameFault.{NameFault}
+use Rattle.crif_reader.specs.SimmKinds.declared.fault.NameFault.TheVariants as fault
+use Rattle.crif_reader.specs.SimmKinds.declared.kinds.ProductClass.{ProductClass}
+use Rattle.crif_reader.specs.SimmKinds.declared.kinds.ProductClass.TheVariants as product
+use Rattle.crif_reader.specs.SimmKinds.declared.kinds.RiskType.{RiskType}
+use Rattle.crif_reader.specs.SimmKinds.declared.kinds.RiskType.TheVariants as kind
+use Rattle.crif_reader.specs.SimmKinds.declared.kinds.SubCurve.{SubCurve}
+use Rattle.crif_reader.specs.SimmKinds.declared.kinds.SubCurve.TheVariants as sub
+use Rattle.crif_reader.specs.SimmKinds.declared.kinds.Tenor.{Tenor}
+use Rattle.crif_reader.specs.SimmKinds.declared.kinds.Tenor.TheVariants as tenor
+use Rattle.crif_reader.specs.SimmKinds.Bucket.{bucket_text}
+use Rattle.crif_reader.specs.SimmKinds.BucketNumber.{is_bucket_number}
+use Rattle.crif_reader.specs.SimmKinds.Kinds.{product_word, kind_word, sub_word}
+use Rattle.crif_reader.specs.SimmKinds.NameText.{is_currency, is_full_name, is_trimmed, is_upper, has_name_bytes, is_printable, name_fault, IsName}
+use Rattle.crif_reader.specs.SimmKinds.NameOrder.{comes_before}
+use Rattle.crif_reader.specs.SimmKinds.Pair.{Pair, is_pair}
+use Rattle.crif_reader.specs.SimmKinds.Tenors.{tenor_word}
 use Rattle.crif_reader.specs.Fields.{trimmed, without_leading_spaces}
 use Rattle.crif_writer.specs.Amounts.{rate_text}
 use Rattle.crif_writer.specs.Parts.{pair_text, IsBucket}

@@ -6,14 +6,14 @@ use Rattle.std.proofs.lemmas.List.{append-nil, map-append, nil_from_length}
 use Rattle.std.proofs.lemmas.List.Folds.{list_all-append}
 use Rattle.csv.specs.Reading.{strip_bom}
 use Rattle.csv.specs.Writing.{escaped, fields_text, is_blank, row_text}
-use Rattle.simm_kinds.specs.declared.fault.MakeFault.{MakeFault}
-use Rattle.simm_kinds.specs.declared.fault.MakeFault.TheVariants as fault
-use Rattle.simm_kinds.specs.declared.row.CrifRow.{CrifRow}
-use Rattle.simm_kinds.specs.declared.row.CrifRow.TheVariants as row
-use Rattle.simm_kinds.specs.declared.row.TradeRows.{TradeRows}
-use Rattle.simm_kinds.specs.Batch.{IsBatch, rows_of, repeats, has_repeats, factor_names, multiplied, is_astray, is_misplaced, is_in_range}
-use Rattle.simm_kinds.specs.NameText.{IsName, is_full_name}
-use Rattle.simm_kinds.specs.Order.{same_name, same_product}
+use Rattle.crif_reader.specs.SimmKinds.declared.fault.MakeFault.{MakeFault}
+use Rattle.crif_reader.specs.SimmKinds.declared.fault.MakeFault.TheVariants as fault
+use Rattle.crif_reader.specs.SimmKinds.declared.row.CrifRow.{CrifRow}
+use Rattle.crif_reader.specs.SimmKinds.declared.row.CrifRow.TheVariants as row
+use Rattle.crif_reader.specs.SimmKinds.declared.row.TradeRows.{TradeRows}
+use Rattle.crif_reader.specs.SimmKinds.Batch.{IsBatch, rows_of, repeats, has_repeats, factor_names, multiplied, is_astray, is_misplaced, is_in_range}
+use Rattle.crif_reader.specs.SimmKinds.NameText.{IsName, is_full_name}
+use Rattle.crif_reader.specs.SimmKinds.Order.{same_name, same_product}
 use Rattle.crif_reader.specs.Records.{records_of, delimiter_of}
 use Rattle.crif_reader.specs.Repeated.{rows_in}
 use Rattle.crif_reader.specs.Row.{Entry, row_of}

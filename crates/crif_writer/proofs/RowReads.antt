@@ -7,36 +7,36 @@ use Rattle.std.specs.Fmt.{decimal}
 use Rattle.std.proofs.lemmas.Bool.{and_parts, cases_Bool, eqb-true, le-leb, leb-true, ltb-true, ltb-false}
 use Rattle.std.proofs.lemmas.Fmt.{decimal_digit, decimal_step_wide}
 use Rattle.std.proofs.lemmas.List.{take_at, drop_at}
-use Rattle.mh_units.specs.declared.quantities.Cents.{Cents}
-use Rattle.mh_units.specs.declared.quantities.Rate4.{Rate4}
-use Rattle.mh_units.specs.Money.{money_text}
-use Rattle.mh_units.specs.Numeral.{cents_of}
-use Rattle.simm_kinds.specs.declared.bucket.Bucket.{Bucket}
-use Rattle.simm_kinds.specs.declared.bucket.Bucket.TheVariants as bucket
-use Rattle.simm_kinds.specs.declared.credit_tenor.CreditTenor.{CreditTenor}
-use Rattle.simm_kinds.specs.declared.credit_tenor.CreditTenor.TheVariants as credit
-use Rattle.simm_kinds.specs.declared.factor.Factor.{Factor}
-use Rattle.simm_kinds.specs.declared.factor.Factor.TheVariants as factor
-use Rattle.simm_kinds.specs.declared.kinds.ProductClass.{ProductClass}
-use Rattle.simm_kinds.specs.declared.kinds.ProductClass.TheVariants as product
-use Rattle.simm_kinds.specs.declared.kinds.RiskType.{RiskType}
-use Rattle.simm_kinds.specs.declared.kinds.RiskType.TheVariants as kind
-use Rattle.simm_kinds.specs.declared.kinds.SubCurve.{SubCurve}
-use Rattle.simm_kinds.specs.declared.kinds.SubCurve.TheVariants as sub
-use Rattle.simm_kinds.specs.declared.kinds.Tenor.{Tenor}
-use Rattle.simm_kinds.specs.declared.kinds.Tenor.TheVariants as tenor
-use Rattle.simm_kinds.specs.declared.row.CrifRow.{CrifRow}
-use Rattle.simm_kinds.specs.declared.row.CrifRow.TheVariants as row
-use Rattle.simm_kinds.specs.Batch.{is_in_range, is_amount}
-use Rattle.simm_kinds.specs.Bucket.{bucket_named, bucket_text}
-use Rattle.simm_kinds.specs.BucketNumber.{is_bucket_number, bucket_number_named}
-use Rattle.simm_kinds.specs.Currency.{currency_text, upper}
-use Rattle.simm_kinds.specs.Factors.{kind_of}
-use Rattle.simm_kinds.specs.Kinds.{kind_named, kind_word, product_named, product_word, sub_named, sub_word}
-use Rattle.simm_kinds.specs.NameText.{is_currency, is_full_name, is_upper, IsName}
-use Rattle.simm_kinds.specs.Pair.{Pair, is_pair, pair_named}
-use Rattle.simm_kinds.specs.Tenors.{tenor_named, tenor_word, tenor_at, credit_tenor_named}
-use Rattle.simm_kinds.specs.Words.{is_word}
+use Rattle.crif_reader.specs.MhUnits.declared.quantities.Cents.{Cents}
+use Rattle.crif_reader.specs.MhUnits.declared.quantities.Rate4.{Rate4}
+use Rattle.crif_reader.specs.MhUnits.Money.{money_text}
+use Rattle.crif_reader.specs.MhUnits.Numeral.{cents_of}
+use Rattle.crif_reader.specs.SimmKinds.declared.bucket.Bucket.{Bucket}
+use Rattle.crif_reader.specs.SimmKinds.declared.bucket.Bucket.TheVariants as bucket
+use Rattle.crif_reader.specs.SimmKinds.declared.credit_tenor.CreditTenor.{CreditTenor}
+use Rattle.crif_reader.specs.SimmKinds.declared.credit_tenor.CreditTenor.TheVariants as credit
+use Rattle.crif_reader.specs.SimmKinds.declared.factor.Factor.{Factor}
+use Rattle.crif_reader.specs.SimmKinds.declared.factor.Factor.TheVariants as factor
+use Rattle.crif_reader.specs.SimmKinds.declared.kinds.ProductClass.{ProductClass}
+use Rattle.crif_reader.specs.SimmKinds.declared.kinds.ProductClass.TheVariants as product
+use Rattle.crif_reader.specs.SimmKinds.declared.kinds.RiskType.{RiskType}
+use Rattle.crif_reader.specs.SimmKinds.declared.kinds.RiskType.TheVariants as kind
+use Rattle.crif_reader.specs.SimmKinds.declared.kinds.SubCurve.{SubCurve}
+use Rattle.crif_reader.specs.SimmKinds.declared.kinds.SubCurve.TheVariants as sub
+use Rattle.crif_reader.specs.SimmKinds.declared.kinds.Tenor.{Tenor}
+use Rattle.crif_reader.specs.SimmKinds.declared.kinds.Tenor.TheVariants as tenor
+use Rattle.crif_reader.specs.SimmKinds.declared.row.CrifRow.{CrifRow}
+use Rattle.crif_reader.specs.SimmKinds.declared.row.CrifRow.TheVariants as row
+use Rattle.crif_reader.specs.SimmKinds.Batch.{is_in_range, is_amount}
+use Rattle.crif_reader.specs.SimmKinds.Bucket.{bucket_named, bucket_text}
+use Rattle.crif_reader.specs.SimmKinds.BucketNumber.{is_bucket_number, bucket_number_named}
+use Rattle.crif_reader.specs.SimmKinds.Currency.{currency_text, upper}
+use Rattle.crif_reader.specs.SimmKinds.Factors.{kind_of}
+use Rattle.crif_reader.specs.SimmKinds.Kinds.{kind_named, kind_word, product_named, product_word, sub_named, sub_word}
+use Rattle.crif_reader.specs.SimmKinds.NameText.{is_currency, is_full_name, is_upper, IsName}
+use Rattle.crif_reader.specs.SimmKinds.Pair.{Pair, is_pair, pair_named}
+use Rattle.crif_reader.specs.SimmKinds.Tenors.{tenor_named, tenor_word, tenor_at, credit_tenor_named}
+use Rattle.crif_reader.specs.SimmKinds.Words.{is_word}
 use Rattle.crif_reader.specs.declared.fault.RowFault.{RowFault}
 use Rattle.crif_reader.specs.declared.fault.RowFault.TheVariants as fault
 use Rattle.crif_reader.specs.Fields.{Texts}

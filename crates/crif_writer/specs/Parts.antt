@@ -1,16 +1,16 @@
 -- What a risk factor has in the columns of the qualifier, the bucket and the two labels: as the grammar of CRIF reads them, and
 -- nothing in a column that its risk type does not read.
 use Rattle.std.specs.Prelude.{◌≡◌, ℕ, List, [], ◌∷◌, ◌++◌, true, decimal}
-use Rattle.simm_kinds.specs.declared.bucket.Bucket.{Bucket}
-use Rattle.simm_kinds.specs.declared.bucket.Bucket.TheVariants as bucket
-use Rattle.simm_kinds.specs.declared.factor.Factor.{Factor}
-use Rattle.simm_kinds.specs.declared.factor.Factor.TheVariants as factor
-use Rattle.simm_kinds.specs.Bucket.{bucket_text}
-use Rattle.simm_kinds.specs.BucketNumber.{is_bucket_number}
-use Rattle.simm_kinds.specs.Kinds.{sub_word}
-use Rattle.simm_kinds.specs.NameText.{is_currency, is_full_name, IsName}
-use Rattle.simm_kinds.specs.Pair.{Pair, is_pair}
-use Rattle.simm_kinds.specs.Tenors.{tenor_word, tenor_at}
+use Rattle.crif_reader.specs.SimmKinds.declared.bucket.Bucket.{Bucket}
+use Rattle.crif_reader.specs.SimmKinds.declared.bucket.Bucket.TheVariants as bucket
+use Rattle.crif_reader.specs.SimmKinds.declared.factor.Factor.{Factor}
+use Rattle.crif_reader.specs.SimmKinds.declared.factor.Factor.TheVariants as factor
+use Rattle.crif_reader.specs.SimmKinds.Bucket.{bucket_text}
+use Rattle.crif_reader.specs.SimmKinds.BucketNumber.{is_bucket_number}
+use Rattle.crif_reader.specs.SimmKinds.Kinds.{sub_word}
+use Rattle.crif_reader.specs.SimmKinds.NameText.{is_currency, is_full_name, IsName}
+use Rattle.crif_reader.specs.SimmKinds.Pair.{Pair, is_pair}
+use Rattle.crif_reader.specs.SimmKinds.Tenors.{tenor_word, tenor_at}
 
 -- six letters
 abbrev pub pair_text : Pair → List ℕ

@@ -1,15 +1,15 @@
 -- The record of a row: its fields, in the order of the columns of the header.
 use Rattle.std.specs.Prelude.{◌≡◌, ℕ, List, [], ◌∷◌, ◌++◌, true, codes}
-use Rattle.mh_units.specs.declared.quantities.Cents.{Cents}
-use Rattle.mh_units.specs.declared.quantities.Rate4.{Rate4}
-use Rattle.mh_units.specs.Money.{money_text}
-use Rattle.simm_kinds.specs.declared.kinds.RiskType.{RiskType}
-use Rattle.simm_kinds.specs.declared.kinds.RiskType.TheVariants as kind
-use Rattle.simm_kinds.specs.declared.row.CrifRow.{CrifRow}
-use Rattle.simm_kinds.specs.declared.row.CrifRow.TheVariants as row
-use Rattle.simm_kinds.specs.Factors.{kind_of}
-use Rattle.simm_kinds.specs.Kinds.{kind_word, product_word}
-use Rattle.simm_kinds.specs.NameText.{is_full_name, IsName}
+use Rattle.crif_reader.specs.MhUnits.declared.quantities.Cents.{Cents}
+use Rattle.crif_reader.specs.MhUnits.declared.quantities.Rate4.{Rate4}
+use Rattle.crif_reader.specs.MhUnits.Money.{money_text}
+use Rattle.crif_reader.specs.SimmKinds.declared.kinds.RiskType.{RiskType}
+use Rattle.crif_reader.specs.SimmKinds.declared.kinds.RiskType.TheVariants as kind
+use Rattle.crif_reader.specs.SimmKinds.declared.row.CrifRow.{CrifRow}
+use Rattle.crif_reader.specs.SimmKinds.declared.row.CrifRow.TheVariants as row
+use Rattle.crif_reader.specs.SimmKinds.Factors.{kind_of}
+use Rattle.crif_reader.specs.SimmKinds.Kinds.{kind_word, product_word}
+use Rattle.crif_reader.specs.SimmKinds.NameText.{is_full_name, IsName}
 use Rattle.crif_writer.specs.Amounts.{rate_text}
 use Rattle.crif_writer.specs.Parts.{factor_fields, HasParts}
 

@@ -5,8 +5,8 @@ use Rattle.std.specs.Global.{Vec}
 use Rattle.csv.specs.Writing.{default_writer, with_delimiter, row_text, writer_setup, fields_written, has_written, text_written}
 use Rattle.csv.specs.declared.writer.Writer.{Writer}
 use Rattle.csv.specs.declared.writer.WriterBuilder.{WriterBuilder}
-use Rattle.simm_kinds.specs.declared.row.TradeRows.{TradeRows}
-use Rattle.simm_kinds.specs.NameText.{IsName}
+use Rattle.crif_reader.specs.SimmKinds.declared.row.TradeRows.{TradeRows}
+use Rattle.crif_reader.specs.SimmKinds.NameText.{IsName}
 use Rattle.crif_reader.specs.Columns.{column_name}
 use Rattle.crif_reader.specs.declared.column.Column.{Column}
 use Rattle.crif_reader.specs.declared.column.Column.TheVariants as column

@@ -1,10 +1,10 @@
 //! The fields of a risk factor.
 ghost use Rattle.std.specs.Prelude.{◌≡◌, ◌++◌, ◌∷◌, [], OnOk};
-ghost use Rattle.simm_kinds.specs.Bucket.{bucket_text};
+ghost use Rattle.crif_reader.specs.SimmKinds.Bucket.{bucket_text};
 ghost use Rattle.crif_writer.specs.Parts.{qualifier_text, bucket_field, label1_text, label2_text, factor_fields, IsQualified, IsBucket, IsBucketed, IsLabelled, HasParts};
 
 use crate::fields::Fields;
-use simm_kinds::{Bucket, Factor};
+use crif_reader::simm_kinds::{Bucket, Factor};
 use std::alloc::AllocError;
 
 /// Adds what a factor has in the columns of the qualifier, the bucket and the two labels. The only error is want of memory.

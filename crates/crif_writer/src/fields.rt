@@ -1,15 +1,15 @@
 //! The fields of a record that is to be written.
 ghost use Rattle.std.specs.Prelude.{◌≡◌, ◌++◌, ◌∷◌, [], decimal, OnOk};
 ghost use Rattle.csv.specs.Records.{fields_of, partial_of};
-ghost use Rattle.mh_units.specs.Money.{money_text};
+ghost use Rattle.crif_reader.specs.MhUnits.Money.{money_text};
 ghost use Rattle.crif_writer.specs.Amounts.{rate_text};
 ghost use Rattle.crif_writer.specs.Parts.{pair_text};
 
 use crate::rate::push_rate4;
+use crif_reader::mh_units::{Cents, Rate4, Text, push_cents};
+use crif_reader::simm_kinds::CurrencyPair;
 use csv::ByteRecord;
 use itoa::Buffer;
-use mh_units::{Cents, Rate4, Text, push_cents};
-use simm_kinds::CurrencyPair;
 use std::alloc::{AllocError, Global};
 use std::marker::Model;
 

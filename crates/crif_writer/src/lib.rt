@@ -8,3 +8,7 @@ mod row;
 mod write;
 
 pub use write::write_batch;
+
+// what the crates above reach through this one
+pub use crif_reader;
+pub use crif_reader::simm_kinds;

@@ -2,8 +2,8 @@
 ghost use Rattle.std.specs.Prelude.{◌≡◌, ◌++◌, OnOk};
 ghost use Rattle.crif_writer.specs.Amounts.{four_digits, size_text, rate_text};
 
+use crif_reader::mh_units::{Rate4, Text};
 use itoa::Buffer;
-use mh_units::{Rate4, Text};
 use std::alloc::AllocError;
 
 /// Adds a rate to a text: an optional minus, whole units, a point and four digits, as in `1.5000`. The only error is want of

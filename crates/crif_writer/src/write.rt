@@ -5,9 +5,9 @@ ghost use Rattle.crif_writer.specs.Text.{header_fields, trade_records, batch_tex
 use crate::fields::Fields;
 use crate::row::fill;
 use crif_reader::Column;
+use crif_reader::mh_units::Text;
+use crif_reader::simm_kinds::{Batch, TradeRows};
 use csv::{Error, Writer, WriterBuilder};
-use mh_units::Text;
-use simm_kinds::{Batch, TradeRows};
 use std::alloc::{AllocError, Global};
 
 /// The columns of the header, in their order. The margin model is left out.

@@ -2,9 +2,9 @@
 use Rattle.std.proofs.Common.{◌≡◌, ℕ, ◌*◌, ◌^◌, ◌≤◌, ℤ, pos, negsuc, ◌+ℤ◌, ◌-ℤ◌, ◌*ℤ◌, ◌≤ℤ◌, ◌<ℤ◌, unsigned_abs, refl, sym, subst, arith}
 use Rattle.std.proofs.lemmas.Int.{ints, by_lt_z}
 use Rattle.std.proofs.Math.IntN.{zero-*ℤ}
-use Rattle.mh_units.specs.Rounding.{up, down}
-use Rattle.mh_units.proofs.Integers.{mul-le_ℤ, sub-mul_ℤ}
-use Rattle.mh_units.proofs.Roundings.{up_is, down_is}
+use Rattle.csa_terms.specs.MhUnits.Rounding.{up, down}
+use Rattle.csa_terms.proofs.MhUnits.Integers.{mul-le_ℤ, sub-mul_ℤ}
+use Rattle.csa_terms.proofs.MhUnits.Roundings.{up_is, down_is}
 use Rattle.csa_calls.specs.CallRule.{multiple_up, multiple_down, IsLeastMultiple, IsGreatestMultiple}
 
 pub one-mul : (k : ℕ) → pos 1 *ℤ pos k ≡ pos k

@@ -10,7 +10,7 @@ ghost use Rattle.csa_calls.specs.CallRule.{AmountUpTo, IsCallFor, IsGreatestMult
 ghost use Rattle.csa_calls.specs.CallRule.{excess as excess_of};
 
 use csa_terms::SetTerms;
-use mh_units::{div_down, div_up};
+use csa_terms::mh_units::{div_down, div_up};
 
 /// What is called for. Amounts are in cents, and those of a call are multiples of the agreement's rounding.
 #[derive(Clone, Copy, Debug, PartialEq, Eq)]

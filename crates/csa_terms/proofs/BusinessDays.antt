@@ -8,8 +8,8 @@ use Rattle.std.proofs.lemmas.Bool.{cases_lt}
 use Rattle.jiff_core.specs.Calendar.{weekday_number, days_from_civil}
 use Rattle.jiff_core.proofs.SignedLemmas.{signed_arith}
 use Rattle.jiff_core.proofs.MarchLemmas.{day_count-early, day_count-late}
-use Rattle.mh_units.specs.Least.{first_from, IsLeast}
-use Rattle.mh_units.proofs.Least.{least_is}
+use Rattle.toml_values.specs.MhUnits.Least.{first_from, IsLeast}
+use Rattle.toml_values.proofs.MhUnits.Least.{least_is}
 use Rattle.jiff_core.proofs.CalendarLemmas.{weekday_number-add, weekday_number_bound, days_from_civil-day_count}
 use Rattle.csa_terms.specs.Terms.{is_among}
 use Rattle.csa_terms.specs.Calendar.{is_business_day, business_days, days_until, IsDueAfter}

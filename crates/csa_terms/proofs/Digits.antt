@@ -3,7 +3,7 @@ use Rattle.std.proofs.Common.{◌≡◌, ℕ, zero, suc, ◌+◌, ◌-◌, ◌*�
 use Rattle.std.specs.Char.{is_ascii_digit}
 use Rattle.std.proofs.lemmas.List.{drop_all}
 use Rattle.std.proofs.Math.Seq.{drop-cons}
-use Rattle.mh_units.proofs.Digits.{is_digit_true}
+use Rattle.toml_values.proofs.MhUnits.Digits.{is_digit_true}
 use Rattle.csa_terms.specs.Dates.{digits_from, number_in}
 
 -- what is left of the text, behind the number so far, writes what the whole text writes

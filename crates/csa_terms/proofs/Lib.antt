@@ -5,3 +5,4 @@ mod CalendarDays
 mod Loops
 mod Holidays
 mod PrintedDays
+pub use Rattle.toml_values.proofs.MhUnits as MhUnits

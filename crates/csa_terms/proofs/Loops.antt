@@ -13,7 +13,7 @@ use Rattle.toml.specs.Data.{as_table}
 use Rattle.toml.specs.View.{view, items_view, members_view}
 use Rattle.toml.specs.declared.value.Value.{Value}
 use Rattle.toml.proofs.Views.{Entry}
-use Rattle.simm_kinds.specs.Order.{name_cmp, same_name}
+use Rattle.toml_values.specs.SimmKinds.Order.{name_cmp, same_name}
 use Rattle.csa_terms.specs.declared.fault.TermsFault.{TermsFault}
 use Rattle.csa_terms.specs.Terms.{Haircut, Agreement}
 use Rattle.csa_terms.specs.Held.{classes, with_haircut}

@@ -9,7 +9,7 @@ use Rattle.jiff_core.specs.declared.civil.date.Date.{Date}
 use Rattle.jiff_core.proofs.CalendarLemmas.{days_in_month_bounds}
 use Rattle.jiff_core.proofs.DateLemmas.{civil, epoch_day_range, epoch_day-lt, epoch_day_same, cases_date, days_from_civil-day, days_from_civil-max}
 use Rattle.jiff_fmt.specs.Text.{date_text as text_of_date}
-use Rattle.mh_units.proofs.Least.{least_is, IsLeast_unique}
+use Rattle.toml_values.proofs.MhUnits.Least.{least_is, IsLeast_unique}
 use Rattle.csa_terms.specs.Moments.{has_date, year_of, months_before, date_text, text_in_year, text_in_month, day_text}
 use Rattle.csa_terms.proofs.BusinessDays.{first_day}
 use Rattle.csa_terms.proofs.CalendarDays.{cases_below, date_of, calendar-from, before_first}

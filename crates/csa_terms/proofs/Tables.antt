@@ -7,8 +7,8 @@ use Rattle.std.specs.BTreeMap.{insert_entry, is_at}
 use Rattle.std.specs.Ordering.{match_ordering, ordering_reverse}
 use Rattle.std.proofs.lemmas.Cmp.{nat_list_cmp_total}
 use Rattle.std.proofs.lemmas.Map.Keys.{sorted_head, sorted_tail}
-use Rattle.mh_units.specs.declared.quantities.Rate4.{Rate4}
-use Rattle.simm_kinds.specs.Order.{name_cmp, same_name}
+use Rattle.toml_values.specs.MhUnits.declared.quantities.Rate4.{Rate4}
+use Rattle.toml_values.specs.SimmKinds.Order.{name_cmp, same_name}
 use Rattle.csa_terms.specs.Terms.{Haircut, IsShare, haircut_in}
 use Rattle.csa_terms.specs.Held.{haircut_at, haircuts_at, with_haircut, classes, AreShares}
 

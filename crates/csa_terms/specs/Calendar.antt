@@ -1,7 +1,7 @@
 -- The days on which a call can fall due.
 -- (ISDA 2016 Credit Support Annex for Initial Margin: local business day, notification time, regular settlement day.)
 use Rattle.std.specs.Prelude.{◌≡◌, ◌≤◌, ℕ, zero, suc, ◌+◌, Bool, ◌&&◌, not, nat_lt, nat_le, List, ℤ, pos, ◌+ℤ◌, if◌then◌else◌}
-use Rattle.mh_units.specs.Least.{first_from}
+use Rattle.toml_values.specs.MhUnits.Least.{first_from}
 use Rattle.jiff.specs.Words.{IsBetween}
 use Rattle.jiff_core.specs.Calendar.{days_from_civil, weekday_number}
 use Rattle.csa_terms.specs.Terms.{Agreement, is_among}

@@ -6,7 +6,7 @@ use Rattle.std.specs.BTreeSet.{insert_key}
 use Rattle.std.specs.List.{list_any}
 use Rattle.std.specs.Ordering.{int_cmp}
 use Rattle.toml.specs.Data.{Data, Items, no_items, item, Members, no_members, member, get_member, as_table}
-use Rattle.simm_kinds.specs.Order.{same_name}
+use Rattle.toml_values.specs.SimmKinds.Order.{same_name}
 use Rattle.toml_values.specs.declared.range.Range.{Range}
 use Rattle.toml_values.specs.declared.fault.ValueFault.{ValueFault}
 use Rattle.toml_values.specs.declared.fault.ValueFault.TheVariants.{Missing, OutOfRange}

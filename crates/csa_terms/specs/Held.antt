@@ -2,8 +2,8 @@
 use Rattle.std.specs.Prelude.{◌<◌, ◌≤◌, ℕ, List, [], ◌∷◌, length, map, ℤ}
 use Rattle.std.specs.List.{AllByRecursion}
 use Rattle.std.specs.Ordering.{match_ordering}
-use Rattle.mh_units.specs.declared.quantities.Rate4.{Rate4}
-use Rattle.simm_kinds.specs.Order.{name_cmp}
+use Rattle.toml_values.specs.MhUnits.declared.quantities.Rate4.{Rate4}
+use Rattle.toml_values.specs.SimmKinds.Order.{name_cmp}
 use Rattle.csa_terms.specs.Terms.{Haircut, Agreement, IsAmount, IsRounding, IsShare}
 
 -- the entries of a tree as haircuts

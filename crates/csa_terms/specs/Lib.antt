@@ -8,3 +8,5 @@ pub mod Dates
 pub mod Moments
 pub mod Values
 pub mod Grammar
+pub use Rattle.toml_values.specs.MhUnits as MhUnits
+pub use Rattle.toml_values.specs.SimmKinds as SimmKinds

@@ -3,7 +3,7 @@ use Rattle.std.specs.Prelude.{ℕ, ◌+◌, ◌/◌, ◌%◌, ◌==◌, Bool, �
 use Rattle.std.specs.Fmt.{signed_decimal}
 use Rattle.jiff_core.specs.Calendar.{days_from_civil, days_in_month}
 use Rattle.jiff_fmt.specs.Text.{pad2, pad4}
-use Rattle.mh_units.specs.Least.{first_from}
+use Rattle.toml_values.specs.MhUnits.Least.{first_from}
 use Rattle.csa_terms.specs.Calendar.{Moment}
 use Rattle.csa_terms.specs.Dates.{◌>>=◌, date_in, minute_in}
 

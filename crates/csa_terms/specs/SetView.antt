@@ -1,6 +1,6 @@
 -- The plain record of a set's terms.
 use Rattle.std.specs.Prelude.{ℕ, List, ℤ}
-use Rattle.mh_units.specs.declared.quantities.Rate4.{Rate4}
+use Rattle.toml_values.specs.MhUnits.declared.quantities.Rate4.{Rate4}
 use Rattle.csa_terms.specs.Terms.{Haircut, Agreement}
 use Rattle.csa_terms.specs.declared.set_terms.Amounts.{Amounts}
 

@@ -4,8 +4,8 @@
 use Rattle.std.specs.Prelude.{◌<◌, ◌≤◌, ℕ, List, [], ◌∷◌, length, map, Bool, Option, Some, None, ℤ, pos, neg_ℤ, ◌≤ℤ◌, if◌then◌else◌}
 use Rattle.std.specs.Ordering.{int_eq}
 use Rattle.std.specs.List.{AllByRecursion, IsDistinct, list_any}
-use Rattle.simm_kinds.specs.NameText.{IsName}
-use Rattle.simm_kinds.specs.Order.{same_name}
+use Rattle.toml_values.specs.SimmKinds.NameText.{IsName}
+use Rattle.toml_values.specs.SimmKinds.Order.{same_name}
 use Rattle.csa_terms.specs.Ranges.{IsWithin, amounts, units, shares}
 
 -- a class of collateral and what is taken off its value, in ten-thousandths

@@ -3,7 +3,7 @@ use Rattle.std.specs.Prelude.{ℕ, List, is_some, Option, ok_or, Result, Ok, Err
 use Rattle.toml.specs.Data.{Data}
 use Rattle.toml_values.specs.Answers.{◌>>=◌}
 use Rattle.toml_values.specs.Values.{text_of}
-use Rattle.simm_kinds.specs.NameText.{name_fault, is_full_name}
+use Rattle.toml_values.specs.SimmKinds.NameText.{name_fault, is_full_name}
 use Rattle.csa_terms.specs.declared.fault.TermsFault.{TermsFault}
 use Rattle.csa_terms.specs.declared.fault.TermsFault.TheVariants.{BadDate, BadName}
 use Rattle.csa_terms.specs.Dates.{minute_in, date_in}

@@ -1,10 +1,10 @@
 ghost use Rattle.std.specs.Prelude.{◌≡◌};
 ghost use Rattle.csa_terms.specs.Faults.{terms_fault_number};
 
-use mh_units::Text;
-use simm_kinds::Name;
 use std::alloc::{AllocError, AllocFailed};
 use toml_values::ValueFault;
+use toml_values::mh_units::Text;
+use toml_values::simm_kinds::Name;
 
 /// Why a terms file was not taken: the first test that fails. A path is the keys joined by points, sets and places
 /// counted from 1, as `set.2.rounding`, `set.2.haircuts.CASH-USD` or `set.2.holidays.3`.

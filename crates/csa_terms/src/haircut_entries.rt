@@ -13,10 +13,10 @@ use crate::haircut_table::HaircutTable;
 use crate::keyed::{at_most, table_at};
 use crate::range::SHARE;
 use crate::value::name;
-use mh_units::Rate4;
-use simm_kinds::Name;
 use std::alloc::Global;
 use toml::{Table, Value};
+use toml_values::mh_units::Rate4;
+use toml_values::simm_kinds::Name;
 use toml_values::{Part, ValueFault, entry_count, rate};
 
 /// How many haircuts a set has at most.

@@ -1,14 +1,14 @@
 ghost use Rattle.std.specs.Prelude.{◌≡◌, ◌<◌, [], length, option_map, IfOk, OnOk, OnErr};
 ghost use Rattle.csa_terms.specs.Terms.{IsShare, AreHaircuts, haircut_in};
 ghost use Rattle.csa_terms.specs.Held.{with_haircut, classes};
-ghost use Rattle.simm_kinds.specs.Order.{name_cmp};
+ghost use Rattle.toml_values.specs.SimmKinds.Order.{name_cmp};
 ghost use Rattle.std.specs.List.Sorted.{IsStrictlySortedBy};
 
-use mh_units::Rate4;
-use simm_kinds::Name;
 use std::alloc::{AllocError, Global};
 use std::collections::BTreeMap;
 use std::marker::Model;
+use toml_values::mh_units::Rate4;
+use toml_values::simm_kinds::Name;
 
 /// The haircuts of collateral by its class, in ten-thousandths of the value: at most 256, each from 0 to 1. Contracts
 /// see their list in the order of the classes.

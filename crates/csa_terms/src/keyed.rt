@@ -11,10 +11,10 @@ ghost use Rattle.csa_terms.specs.Grammar.{key_path, at_most, money_at};
 use crate::fault::TermsFault;
 use crate::range::SHARE;
 use crate::value::{minute, set_name};
-use mh_units::{Cents, Rate4};
-use simm_kinds::Name;
 use std::alloc::Global;
 use toml::{Table, Value};
+use toml_values::mh_units::{Cents, Rate4};
+use toml_values::simm_kinds::Name;
 use toml_values::{Part, Range, ValueFault, array, member, money, path_text, rate, table};
 
 /// A name that isn't empty, at a set's key.

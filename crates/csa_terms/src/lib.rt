@@ -32,3 +32,6 @@ pub use moment_words::{push_day, push_moment};
 pub use reading::read_terms;
 pub use set_terms::SetTerms;
 pub use terms::Terms;
+
+// what the crates above reach through this one
+pub use toml_values::{mh_units, simm_kinds};

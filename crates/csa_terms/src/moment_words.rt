@@ -9,8 +9,8 @@ use crate::moment::Moment;
 use itoa::Buffer;
 use jiff::fmt::temporal::DateTimePrinter;
 use jiff_core::civil::Date;
-use mh_units::Text;
 use std::alloc::AllocError;
+use toml_values::mh_units::Text;
 
 /// 0001-01-01, counted from 1970-01-01.
 const FIRST_DAY: i32 = -719_162;

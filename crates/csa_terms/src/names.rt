@@ -1,13 +1,13 @@
 ghost use Rattle.std.specs.Prelude.{◌≡◌, [], map, option_map, OnOk};
 ghost use Rattle.std.specs.List.{IsDistinct, list_any};
-ghost use Rattle.simm_kinds.specs.Order.{same_name};
+ghost use Rattle.toml_values.specs.SimmKinds.Order.{same_name};
 ghost use Rattle.csa_terms.specs.Faults.{Gives};
 ghost use Rattle.csa_terms.specs.Grammar.{once_each, repeated};
 
 use crate::fault::TermsFault;
 use crate::set_terms::SetTerms;
-use simm_kinds::Name;
 use std::alloc::Global;
+use toml_values::simm_kinds::Name;
 
 fn has_name(sets: &[SetTerms], name: &Name) -> bool
     ensures { result ≡ list_any (λ s. same_name name.now s.name) sets.now }

@@ -4,10 +4,10 @@ ghost use Rattle.csa_terms.specs.Held.{IsBounded};
 
 use crate::haircut_table::HaircutTable;
 use crate::holiday_list::HolidayList;
-use mh_units::{Cents, Rate4};
-use simm_kinds::Name;
 use std::alloc::{AllocError, Global};
 use std::marker::Model;
+use toml_values::mh_units::{Cents, Rate4};
+use toml_values::simm_kinds::Name;
 
 /// The amounts of an agreement, in cents.
 #[derive(Clone, Copy)]

@@ -7,9 +7,9 @@ ghost use Rattle.csa_terms.specs.Values.{name_of, set_name_of, minute_of, date_o
 
 use crate::date::{date_in, minute_in};
 use crate::fault::TermsFault;
-use simm_kinds::{Name, NameFault};
 use std::alloc::Global;
 use toml::Value;
+use toml_values::simm_kinds::{Name, NameFault};
 use toml_values::{Part, path_text, text};
 
 /// A name, which may be empty. Any other text is `BadName`.

@@ -4,25 +4,25 @@ use Rattle.std.specs.Prelude.{sum_by}
 use Rattle.std.specs.List.Sorted.{IsStrictlySortedBy}
 use Rattle.std.proofs.lemmas.List.{length-map}
 use Rattle.std.proofs.lemmas.Simd.{map-map}
-use Rattle.simm_kinds.specs.declared.bucket.Bucket.{Bucket}
-use Rattle.simm_kinds.specs.declared.key.FactorKey.{FactorKey}
-use Rattle.simm_kinds.specs.declared.kinds.ProductClass.{ProductClass}
-use Rattle.simm_kinds.specs.Tenors.{tenor_at}
-use Rattle.simm_rules.specs.Params.{CreditBucket}
-use Rattle.simm_rules.specs.Lookups.{six}
-use Rattle.simm_rules.specs.Risks.{CreditClass, CreditPoint, Amount}
-use Rattle.simm_rules.specs.Concentration.{one}
-use Rattle.simm_rules.specs.Credit.{curved_point, credit_curvature_value}
-use Rattle.simm_params.specs.Weighed.{IsWeighedCredit}
-use Rattle.factor_book.specs.declared.holding.Holding.{Holding}
-use Rattle.factor_book.specs.declared.place.Place.{Place}
-use Rattle.weighted_bucket.specs.declared.group.Grouped.{Grouped}
-use Rattle.weighted_bucket.specs.declared.scaling.Scaling.TheVariants as scaling
-use Rattle.weighted_bucket.specs.Bucket.{bucket_value}
-use Rattle.name_delta.specs.Points.{AreGrouped, issuer_nets_at, issuer_rho}
-use Rattle.name_delta.specs.Values.{IsInRange, weighed_as}
-use Rattle.name_delta.proofs.CreditPoints.{point_cmp}
-use Rattle.name_delta.proofs.Sizes.{sum_by-map}
+use Rattle.vol_factors.specs.SimmKinds.declared.bucket.Bucket.{Bucket}
+use Rattle.vol_factors.specs.SimmKinds.declared.key.FactorKey.{FactorKey}
+use Rattle.vol_factors.specs.SimmKinds.declared.kinds.ProductClass.{ProductClass}
+use Rattle.vol_factors.specs.SimmKinds.Tenors.{tenor_at}
+use Rattle.vol_factors.specs.SimmRules.Params.{CreditBucket}
+use Rattle.vol_factors.specs.SimmRules.Lookups.{six}
+use Rattle.vol_factors.specs.SimmRules.Risks.{CreditClass, CreditPoint, Amount}
+use Rattle.vol_factors.specs.SimmRules.Concentration.{one}
+use Rattle.vol_factors.specs.SimmRules.Credit.{curved_point, credit_curvature_value}
+use Rattle.vol_factors.specs.SimmParams.Weighed.{IsWeighedCredit}
+use Rattle.vol_factors.specs.FactorBook.declared.holding.Holding.{Holding}
+use Rattle.vol_factors.specs.FactorBook.declared.place.Place.{Place}
+use Rattle.vol_factors.specs.WeightedBucket.declared.group.Grouped.{Grouped}
+use Rattle.vol_factors.specs.WeightedBucket.declared.scaling.Scaling.TheVariants as scaling
+use Rattle.vol_factors.specs.WeightedBucket.Bucket.{bucket_value}
+use Rattle.vol_factors.specs.NameDelta.Points.{AreGrouped, issuer_nets_at, issuer_rho}
+use Rattle.vol_factors.specs.NameDelta.Values.{IsInRange, weighed_as}
+use Rattle.vol_factors.proofs.NameDelta.CreditPoints.{point_cmp}
+use Rattle.vol_factors.proofs.NameDelta.Sizes.{sum_by-map}
 use Rattle.vol_factors.specs.declared.tenor_scale.TenorScale.TheVariants as scale
 use Rattle.vol_factors.specs.Credit.{issuer_net, scaled_point}
 use Rattle.vol_factors.specs.Places.{points_place, points_of}

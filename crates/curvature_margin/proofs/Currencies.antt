@@ -7,19 +7,19 @@ use Rattle.std.specs.List.Sorted.{IsStrictlySortedBy}
 use Rattle.std.proofs.lemmas.Cmp.{nat_list_cmp_total}
 use Rattle.std.proofs.lemmas.List.Elements.{All-from_recursion}
 use Rattle.std.proofs.lemmas.Simd.{map-map}
-use Rattle.simm_kinds.specs.declared.kinds.BucketId.{BucketId}
-use Rattle.simm_kinds.specs.declared.kinds.BucketId.TheVariants as id
-use Rattle.simm_kinds.specs.Order.{name_cmp, same_name, bucket_id_cmp}
-use Rattle.simm_rules.specs.declared.values.BucketMargin.{BucketMargin}
-use Rattle.simm_rules.specs.Bucket.{root_of}
-use Rattle.simm_rules.specs.Across.{Part, outer}
-use Rattle.pair_sum.specs.PairTotal.{outer_total}
-use Rattle.pair_sum.specs.WithItself.{with_itself}
-use Rattle.pair_sum.proofs.Itself.{with_itself-symmetric, with_itself-at_most_one}
-use Rattle.ir_delta.specs.Parts.{parts_of, IsCurrency}
-use Rattle.ir_delta.proofs.Lists.{same_place_by}
-use Rattle.name_delta.proofs.Lists.{each_map}
-use Rattle.name_delta.proofs.Sizes.{sum_by-map}
+use Rattle.vol_factors.specs.SimmKinds.declared.kinds.BucketId.{BucketId}
+use Rattle.vol_factors.specs.SimmKinds.declared.kinds.BucketId.TheVariants as id
+use Rattle.vol_factors.specs.SimmKinds.Order.{name_cmp, same_name, bucket_id_cmp}
+use Rattle.vol_factors.specs.SimmRules.declared.values.BucketMargin.{BucketMargin}
+use Rattle.vol_factors.specs.SimmRules.Bucket.{root_of}
+use Rattle.vol_factors.specs.SimmRules.Across.{Part, outer}
+use Rattle.vol_factors.specs.PairSums.PairTotal.{outer_total}
+use Rattle.vol_factors.specs.PairSums.WithItself.{with_itself}
+use Rattle.vol_factors.proofs.PairSums.Itself.{with_itself-symmetric, with_itself-at_most_one}
+use Rattle.vol_factors.specs.IrDelta.Parts.{parts_of, IsCurrency}
+use Rattle.vol_factors.proofs.IrDelta.Lists.{same_place_by}
+use Rattle.vol_factors.proofs.NameDelta.Lists.{each_map}
+use Rattle.vol_factors.proofs.NameDelta.Sizes.{sum_by-map}
 use Rattle.curvature_margin.specs.Combine.{as_parts}
 use Rattle.curvature_margin.proofs.Outer.{outer_by}
 

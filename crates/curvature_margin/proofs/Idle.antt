@@ -2,29 +2,29 @@
 use Rattle.std.proofs.Common.{◌≡◌, ℕ, List, [], ◌∷◌, map, Bool, true, false, not, cond, if◌then◌else◌, refl, sym, ap, ◌∙◌, ℤ, pos, ◌+ℤ◌, ◌*ℤ◌}
 use Rattle.std.specs.List.{filter, AllByRecursion}
 use Rattle.std.proofs.Math.IntN.{+ℤ_idl, *ℤ_comm, zero-*ℤ}
-use Rattle.mh_units.specs.Rounding.{clamp}
-use Rattle.mh_units.proofs.Roundings.{root_square}
-use Rattle.simm_kinds.specs.declared.kinds.BucketId.{BucketId}
-use Rattle.simm_kinds.specs.declared.kinds.BucketId.TheVariants as id
-use Rattle.simm_kinds.specs.declared.bucket.Bucket.{Bucket}
-use Rattle.simm_kinds.specs.Order.{same_bucket, same_name, same_pair}
-use Rattle.simm_rules.specs.declared.values.BucketMargin.{BucketMargin}
-use Rattle.simm_rules.specs.Params.{Params, CreditBucket, PricedBucket, CreditParams, PricedParams}
-use Rattle.simm_rules.specs.Net.{Sensitivity}
-use Rattle.simm_rules.specs.Risks.{CreditClass, PricedClass, select}
-use Rattle.simm_rules.specs.Sums.{total_by, total_by_pairs}
-use Rattle.simm_rules.specs.Concentration.{one}
-use Rattle.simm_rules.specs.Bucket.{Weighted, root_of, squared, bucket_value}
-use Rattle.simm_rules.specs.Across.{Part, outer, is_residual, numbered, residual, gamma_squared}
-use Rattle.simm_rules.specs.Curvature.{curvature_part, curvature_over}
-use Rattle.simm_rules.specs.Rates.{volatilities_in, volatility_currencies, currency_curvature_value, rate_curvature}
-use Rattle.simm_rules.specs.Credit.{as_credit_volatility, same_point, credit_rho, listed_credit, credit_curvature_value, credit_curvature_parts, credit_curvature}
-use Rattle.simm_rules.specs.Priced.{as_price_volatility, name_rho, listed_priced, price_curvature_value, price_curvature_parts, price_curvature}
-use Rattle.simm_rules.specs.ForeignExchange.{as_pair_volatility, pair_rho, fx_curvature_value, fx_curvature}
-use Rattle.pair_sum.proofs.Sums.{total_by-ext}
-use Rattle.ir_delta.specs.Parts.{parts_of}
-use Rattle.name_delta.proofs.Lists.{each_always, each_weaker, each_map, each_kept}
-use Rattle.name_delta.proofs.Empty.{no_value, IsKeptOrIdle}
+use Rattle.vol_factors.specs.MhUnits.Rounding.{clamp}
+use Rattle.vol_factors.proofs.MhUnits.Roundings.{root_square}
+use Rattle.vol_factors.specs.SimmKinds.declared.kinds.BucketId.{BucketId}
+use Rattle.vol_factors.specs.SimmKinds.declared.kinds.BucketId.TheVariants as id
+use Rattle.vol_factors.specs.SimmKinds.declared.bucket.Bucket.{Bucket}
+use Rattle.vol_factors.specs.SimmKinds.Order.{same_bucket, same_name, same_pair}
+use Rattle.vol_factors.specs.SimmRules.declared.values.BucketMargin.{BucketMargin}
+use Rattle.vol_factors.specs.SimmRules.Params.{Params, CreditBucket, PricedBucket, CreditParams, PricedParams}
+use Rattle.vol_factors.specs.SimmRules.Net.{Sensitivity}
+use Rattle.vol_factors.specs.SimmRules.Risks.{CreditClass, PricedClass, select}
+use Rattle.vol_factors.specs.SimmRules.Sums.{total_by, total_by_pairs}
+use Rattle.vol_factors.specs.SimmRules.Concentration.{one}
+use Rattle.vol_factors.specs.SimmRules.Bucket.{Weighted, root_of, squared, bucket_value}
+use Rattle.vol_factors.specs.SimmRules.Across.{Part, outer, is_residual, numbered, residual, gamma_squared}
+use Rattle.vol_factors.specs.SimmRules.Curvature.{curvature_part, curvature_over}
+use Rattle.vol_factors.specs.SimmRules.Rates.{volatilities_in, volatility_currencies, currency_curvature_value, rate_curvature}
+use Rattle.vol_factors.specs.SimmRules.Credit.{as_credit_volatility, same_point, credit_rho, listed_credit, credit_curvature_value, credit_curvature_parts, credit_curvature}
+use Rattle.vol_factors.specs.SimmRules.Priced.{as_price_volatility, name_rho, listed_priced, price_curvature_value, price_curvature_parts, price_curvature}
+use Rattle.vol_factors.specs.SimmRules.ForeignExchange.{as_pair_volatility, pair_rho, fx_curvature_value, fx_curvature}
+use Rattle.vol_factors.proofs.PairSums.Sums.{total_by-ext}
+use Rattle.vol_factors.specs.IrDelta.Parts.{parts_of}
+use Rattle.vol_factors.proofs.NameDelta.Lists.{each_always, each_weaker, each_map, each_kept}
+use Rattle.vol_factors.proofs.NameDelta.Empty.{no_value, IsKeptOrIdle}
 use Rattle.curvature_margin.specs.Combine.{gamma_across, over_currencies, over_ratio, currency_buckets}
 use Rattle.curvature_margin.specs.Part.{part_by}
 

@@ -5,11 +5,11 @@ use Rattle.std.specs.List.{AllByRecursion}
 use Rattle.std.specs.List.Sorted.{IsStrictlySortedBy}
 use Rattle.std.proofs.lemmas.Int.{ints}
 use Rattle.std.proofs.lemmas.List.Sums.{sum_by-cons}
-use Rattle.simm_kinds.specs.declared.kinds.BucketId.{BucketId}
-use Rattle.simm_kinds.specs.Order.{bucket_id_cmp}
-use Rattle.simm_rules.specs.declared.values.BucketMargin.{BucketMargin}
-use Rattle.simm_rules.specs.Sums.{total_by}
-use Rattle.name_delta.proofs.Lists.{each_weaker}
+use Rattle.vol_factors.specs.SimmKinds.declared.kinds.BucketId.{BucketId}
+use Rattle.vol_factors.specs.SimmKinds.Order.{bucket_id_cmp}
+use Rattle.vol_factors.specs.SimmRules.declared.values.BucketMargin.{BucketMargin}
+use Rattle.vol_factors.specs.SimmRules.Sums.{total_by}
+use Rattle.vol_factors.proofs.NameDelta.Lists.{each_weaker}
 use Rattle.curvature_margin.specs.Combine.{gross_size, margins_size, AreSized}
 use Rattle.curvature_margin.specs.Values.{IsSizedBy}
 

@@ -2,12 +2,12 @@
 use Rattle.std.proofs.Common.{◌≡◌, ◌^◌, ℕ, ◌*◌, ◌≤◌, ap, ◌∙◌, ℤ, pos, negsuc, neg_ℤ, ◌+ℤ◌, ◌-ℤ◌, ◌*ℤ◌, ◌≤ℤ◌, ◌<ℤ◌, unsigned_abs, FitsSigned, arith, mul-le-mul_left, mul-le-mul_right}
 use Rattle.std.specs.Int.{w128, cast_signed, cast_unsigned}
 use Rattle.std.proofs.lemmas.Int.{ints, clamps, fits_signed_from_abs}
-use Rattle.mh_units.specs.Rounding.{up}
-use Rattle.mh_units.proofs.Integers.{mul-le_ℤ, same128}
-use Rattle.mh_units.proofs.Roundings.{up_is}
-use Rattle.simm_rules.specs.Concentration.{one}
-use Rattle.simm_rules.specs.Curvature.{shortfall, lambda}
-use Rattle.simm_params.specs.Ranges.{lambda_bases, ir_hvrs, IsWithin}
+use Rattle.vol_factors.specs.MhUnits.Rounding.{up}
+use Rattle.vol_factors.proofs.MhUnits.Integers.{mul-le_ℤ, same128}
+use Rattle.vol_factors.proofs.MhUnits.Roundings.{up_is}
+use Rattle.vol_factors.specs.SimmRules.Concentration.{one}
+use Rattle.vol_factors.specs.SimmRules.Curvature.{shortfall, lambda}
+use Rattle.vol_factors.specs.SimmParams.Ranges.{lambda_bases, ir_hvrs, IsWithin}
 
 -- ---- products of numbers that are not negative
 

@@ -4,19 +4,19 @@ use Rattle.std.specs.Prelude.{sum_by}
 use Rattle.std.proofs.lemmas.Cmp.{nat_list_cmp_total}
 use Rattle.std.proofs.lemmas.List.{length-map}
 use Rattle.std.proofs.lemmas.Simd.{map-map}
-use Rattle.simm_kinds.specs.Order.{name_cmp, same_name}
-use Rattle.simm_rules.specs.Params.{PricedBucket}
-use Rattle.simm_rules.specs.Lookups.{six}
-use Rattle.simm_rules.specs.Risks.{Amount}
-use Rattle.simm_rules.specs.Concentration.{one}
-use Rattle.simm_rules.specs.Bucket.{squared}
-use Rattle.simm_rules.specs.Bucket.{bucket_value as value_of_factors}
-use Rattle.simm_rules.specs.Curvature.{curvature_risk, curved}
-use Rattle.simm_rules.specs.Priced.{NameVolatility, names_of, tenors_of, name_rho, price_curvature_value}
-use Rattle.weighted_bucket.specs.declared.scaling.Scaling.TheVariants as scaling
-use Rattle.weighted_bucket.specs.Bucket.{bucket_value}
-use Rattle.name_delta.proofs.Sizes.{sum_by-map}
-use Rattle.name_delta.proofs.Valued.{value_is}
+use Rattle.vol_factors.specs.SimmKinds.Order.{name_cmp, same_name}
+use Rattle.vol_factors.specs.SimmRules.Params.{PricedBucket}
+use Rattle.vol_factors.specs.SimmRules.Lookups.{six}
+use Rattle.vol_factors.specs.SimmRules.Risks.{Amount}
+use Rattle.vol_factors.specs.SimmRules.Concentration.{one}
+use Rattle.vol_factors.specs.SimmRules.Bucket.{squared}
+use Rattle.vol_factors.specs.SimmRules.Bucket.{bucket_value as value_of_factors}
+use Rattle.vol_factors.specs.SimmRules.Curvature.{curvature_risk, curved}
+use Rattle.vol_factors.specs.SimmRules.Priced.{NameVolatility, names_of, tenors_of, name_rho, price_curvature_value}
+use Rattle.vol_factors.specs.WeightedBucket.declared.scaling.Scaling.TheVariants as scaling
+use Rattle.vol_factors.specs.WeightedBucket.Bucket.{bucket_value}
+use Rattle.vol_factors.proofs.NameDelta.Sizes.{sum_by-map}
+use Rattle.vol_factors.proofs.NameDelta.Valued.{value_is}
 use Rattle.vol_factors.specs.declared.tenor_scale.TenorScale.TheVariants as scale
 use Rattle.vol_factors.specs.Names.{name_total}
 use Rattle.vol_factors.proofs.NamesTogether.{names}

@@ -1,14 +1,14 @@
 -- The margin over buckets by their places is the rule's.
 use Rattle.std.proofs.Common.{◌≡◌, ℕ, ◌<◌, List, map, length, get_or, Bool, true, false, ◌==◌, if◌then◌else◌, refl, sym, ap, ◌∙◌, ℤ, pos, ◌+ℤ◌, ◌*ℤ◌}
-use Rattle.simm_rules.specs.declared.values.BucketMargin.{BucketMargin}
-use Rattle.simm_rules.specs.Sums.{total_by, total_by_pairs}
-use Rattle.simm_rules.specs.Concentration.{one}
-use Rattle.simm_rules.specs.Bucket.{root_of}
-use Rattle.simm_rules.specs.Across.{Part, outer}
-use Rattle.pair_sum.specs.PairTotal.{outer_total}
-use Rattle.pair_sum.specs.WithItself.{with_itself}
-use Rattle.pair_sum.proofs.OverLists.{outer_total-buckets}
-use Rattle.pair_sum.proofs.Sums.{total_by-ext}
+use Rattle.vol_factors.specs.SimmRules.declared.values.BucketMargin.{BucketMargin}
+use Rattle.vol_factors.specs.SimmRules.Sums.{total_by, total_by_pairs}
+use Rattle.vol_factors.specs.SimmRules.Concentration.{one}
+use Rattle.vol_factors.specs.SimmRules.Bucket.{root_of}
+use Rattle.vol_factors.specs.SimmRules.Across.{Part, outer}
+use Rattle.vol_factors.specs.PairSums.PairTotal.{outer_total}
+use Rattle.vol_factors.specs.PairSums.WithItself.{with_itself}
+use Rattle.vol_factors.proofs.PairSums.OverLists.{outer_total-buckets}
+use Rattle.vol_factors.proofs.PairSums.Sums.{total_by-ext}
 
 chosen : (t : Bool) (c a b : ℤ) → (if t then pos 0 else (if t then one else c) *ℤ a *ℤ b) ≡ (if t then pos 0 else c *ℤ a *ℤ b)
 chosen true c a b = refl

@@ -3,23 +3,23 @@ use Rattle.std.proofs.Common.{◌≡◌, ◌^◌, ℕ, ◌*◌, ◌<◌, ◌≤�
 use Rattle.std.specs.Prelude.{sum_by}
 use Rattle.std.proofs.lemmas.List.{length-map}
 use Rattle.std.proofs.lemmas.Simd.{map-map}
-use Rattle.simm_kinds.specs.Pair.{Pair}
-use Rattle.simm_kinds.specs.Order.{pair_cmp, same_pair}
-use Rattle.simm_rules.specs.declared.values.BucketMargin.{BucketMargin}
-use Rattle.simm_rules.specs.Params.{Params}
-use Rattle.simm_rules.specs.Lookups.{six}
-use Rattle.simm_rules.specs.Risks.{Amount}
-use Rattle.simm_rules.specs.Concentration.{one}
-use Rattle.simm_rules.specs.Bucket.{squared}
-use Rattle.simm_rules.specs.Bucket.{bucket_value as value_of_factors}
-use Rattle.simm_rules.specs.Curvature.{curvature_risk, curved}
-use Rattle.simm_rules.specs.ForeignExchange.{PairVolatility, pairs_of, pair_tenors, pair_rho, fx_sigma, fx_curvature_value}
-use Rattle.simm_params.specs.Facts.{IsParams}
-use Rattle.weighted_bucket.specs.declared.weighed.Weighed.{Weighed}
-use Rattle.weighted_bucket.specs.declared.scaling.Scaling.TheVariants as scaling
-use Rattle.weighted_bucket.specs.Bucket.{bucket_value}
-use Rattle.name_delta.proofs.Sizes.{sum_by-map, size_all}
-use Rattle.name_delta.proofs.Valued.{value_is}
+use Rattle.vol_factors.specs.SimmKinds.Pair.{Pair}
+use Rattle.vol_factors.specs.SimmKinds.Order.{pair_cmp, same_pair}
+use Rattle.vol_factors.specs.SimmRules.declared.values.BucketMargin.{BucketMargin}
+use Rattle.vol_factors.specs.SimmRules.Params.{Params}
+use Rattle.vol_factors.specs.SimmRules.Lookups.{six}
+use Rattle.vol_factors.specs.SimmRules.Risks.{Amount}
+use Rattle.vol_factors.specs.SimmRules.Concentration.{one}
+use Rattle.vol_factors.specs.SimmRules.Bucket.{squared}
+use Rattle.vol_factors.specs.SimmRules.Bucket.{bucket_value as value_of_factors}
+use Rattle.vol_factors.specs.SimmRules.Curvature.{curvature_risk, curved}
+use Rattle.vol_factors.specs.SimmRules.ForeignExchange.{PairVolatility, pairs_of, pair_tenors, pair_rho, fx_sigma, fx_curvature_value}
+use Rattle.vol_factors.specs.SimmParams.Facts.{IsParams}
+use Rattle.vol_factors.specs.WeightedBucket.declared.weighed.Weighed.{Weighed}
+use Rattle.vol_factors.specs.WeightedBucket.declared.scaling.Scaling.TheVariants as scaling
+use Rattle.vol_factors.specs.WeightedBucket.Bucket.{bucket_value}
+use Rattle.vol_factors.proofs.NameDelta.Sizes.{sum_by-map, size_all}
+use Rattle.vol_factors.proofs.NameDelta.Valued.{value_is}
 use Rattle.vol_factors.specs.declared.pairs.PairSum.{PairSum}
 use Rattle.vol_factors.specs.declared.tenor_scale.TenorScale.TheVariants as scale
 use Rattle.vol_factors.specs.Pairs.{pair_total, pair_totals, pair_view}

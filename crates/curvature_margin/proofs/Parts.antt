@@ -3,10 +3,10 @@ use Rattle.std.proofs.Common.{◌≡◌, zero, suc, ◌==◌, if◌then◌else�
 use Rattle.std.specs.Int.{w128, int_max, cast_unsigned}
 use Rattle.std.proofs.lemmas.Bool.{ne_eqb}
 use Rattle.std.proofs.lemmas.Int.{ints}
-use Rattle.mh_units.specs.Rounding.{up}
-use Rattle.mh_units.proofs.Integers.{same128}
-use Rattle.simm_rules.specs.Concentration.{one}
-use Rattle.simm_rules.specs.Curvature.{lambda}
+use Rattle.vol_factors.specs.MhUnits.Rounding.{up}
+use Rattle.vol_factors.proofs.MhUnits.Integers.{same128}
+use Rattle.vol_factors.specs.SimmRules.Concentration.{one}
+use Rattle.vol_factors.specs.SimmRules.Curvature.{lambda}
 use Rattle.curvature_margin.specs.Part.{part_by}
 use Rattle.curvature_margin.proofs.Lambdas.{passed}
 

@@ -4,17 +4,17 @@ use Rattle.std.specs.Prelude.{sum_by}
 use Rattle.std.specs.List.Sorted.{IsStrictlySortedBy}
 use Rattle.std.proofs.lemmas.List.{length-map}
 use Rattle.std.proofs.lemmas.Simd.{map-map}
-use Rattle.simm_rules.specs.Params.{Params}
-use Rattle.simm_rules.specs.Risks.{RateVolatility, Amount}
-use Rattle.simm_rules.specs.Concentration.{one}
-use Rattle.simm_rules.specs.Bucket.{Weighted, squared}
-use Rattle.simm_rules.specs.Bucket.{bucket_value as value_of_factors}
-use Rattle.simm_rules.specs.Curvature.{scale_of, curvature_risk, curved}
-use Rattle.simm_rules.specs.Rates.{VolatilityIn, same_rate_volatility, rate_volatility_rho, tenor_of, currency_curvature_value}
-use Rattle.weighted_bucket.specs.declared.scaling.Scaling.TheVariants as scaling
-use Rattle.weighted_bucket.specs.Bucket.{bucket_value}
-use Rattle.name_delta.specs.Values.{weighed_as}
-use Rattle.name_delta.proofs.Sizes.{sum_by-map}
+use Rattle.vol_factors.specs.SimmRules.Params.{Params}
+use Rattle.vol_factors.specs.SimmRules.Risks.{RateVolatility, Amount}
+use Rattle.vol_factors.specs.SimmRules.Concentration.{one}
+use Rattle.vol_factors.specs.SimmRules.Bucket.{Weighted, squared}
+use Rattle.vol_factors.specs.SimmRules.Bucket.{bucket_value as value_of_factors}
+use Rattle.vol_factors.specs.SimmRules.Curvature.{scale_of, curvature_risk, curved}
+use Rattle.vol_factors.specs.SimmRules.Rates.{VolatilityIn, same_rate_volatility, rate_volatility_rho, tenor_of, currency_curvature_value}
+use Rattle.vol_factors.specs.WeightedBucket.declared.scaling.Scaling.TheVariants as scaling
+use Rattle.vol_factors.specs.WeightedBucket.Bucket.{bucket_value}
+use Rattle.vol_factors.specs.NameDelta.Values.{weighed_as}
+use Rattle.vol_factors.proofs.NameDelta.Sizes.{sum_by-map}
 use Rattle.vol_factors.specs.declared.rates.VolatilitySum.{VolatilitySum}
 use Rattle.vol_factors.specs.declared.tenor_scale.TenorScale.TheVariants as scale
 use Rattle.vol_factors.specs.Rates.{alone_of, scaled_volatility, sum_view, rho_at}

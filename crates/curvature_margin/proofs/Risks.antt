@@ -8,20 +8,20 @@ use Rattle.std.proofs.lemmas.Int.{ints, unsigned_abs-mul, fits_signed_from_abs}
 use Rattle.std.proofs.lemmas.List.{length-map}
 use Rattle.std.proofs.lemmas.List.Elements.{All-from_recursion, recursion_from_All}
 use Rattle.std.proofs.lemmas.List.Sums.{sum_by-cons}
-use Rattle.mh_units.specs.Rounding.{away}
-use Rattle.mh_units.proofs.Integers.{mul_assoc_ℤ, mul-add_ℤ, product_size}
-use Rattle.simm_kinds.specs.declared.kinds.Tenor.{Tenor}
-use Rattle.simm_rules.specs.declared.values.BucketMargin.{BucketMargin}
-use Rattle.simm_rules.specs.Sums.{total_by}
-use Rattle.simm_rules.specs.Risks.{Amount}
-use Rattle.simm_rules.specs.Concentration.{one}
-use Rattle.simm_rules.specs.Curvature.{scale_of, curvature_risk}
-use Rattle.simm_params.specs.Ranges.{sigmas, IsWithin}
-use Rattle.weighted_bucket.specs.declared.weighed.Weighed.{Weighed}
-use Rattle.name_delta.specs.Values.{IsInRange}
-use Rattle.name_delta.proofs.Lists.{each_always, each_weaker}
-use Rattle.name_delta.proofs.Sizes.{sum_by-map, sum_by-scaled, away_size_close, size_all, size_is, size_small}
-use Rattle.name_delta.proofs.Thick.{all_made}
+use Rattle.vol_factors.specs.MhUnits.Rounding.{away}
+use Rattle.vol_factors.proofs.MhUnits.Integers.{mul_assoc_ℤ, mul-add_ℤ, product_size}
+use Rattle.vol_factors.specs.SimmKinds.declared.kinds.Tenor.{Tenor}
+use Rattle.vol_factors.specs.SimmRules.declared.values.BucketMargin.{BucketMargin}
+use Rattle.vol_factors.specs.SimmRules.Sums.{total_by}
+use Rattle.vol_factors.specs.SimmRules.Risks.{Amount}
+use Rattle.vol_factors.specs.SimmRules.Concentration.{one}
+use Rattle.vol_factors.specs.SimmRules.Curvature.{scale_of, curvature_risk}
+use Rattle.vol_factors.specs.SimmParams.Ranges.{sigmas, IsWithin}
+use Rattle.vol_factors.specs.WeightedBucket.declared.weighed.Weighed.{Weighed}
+use Rattle.vol_factors.specs.NameDelta.Values.{IsInRange}
+use Rattle.vol_factors.proofs.NameDelta.Lists.{each_always, each_weaker}
+use Rattle.vol_factors.proofs.NameDelta.Sizes.{sum_by-map, sum_by-scaled, away_size_close, size_all, size_is, size_small}
+use Rattle.vol_factors.proofs.NameDelta.Thick.{all_made}
 use Rattle.curvature_margin.specs.Risk.{risk_of, curved_by, AreNear, IsCurved}
 use Rattle.curvature_margin.specs.Values.{IsSized}
 

@@ -8,25 +8,25 @@ use Rattle.std.proofs.lemmas.Grind.{flat_map-append}
 use Rattle.std.proofs.lemmas.List.{take_more, get_or-map, map-append}
 use Rattle.std.proofs.lemmas.List.Elements.{filter-append, All-from_recursion}
 use Rattle.std.proofs.lemmas.List.Sums.{sum_by-cons}
-use Rattle.mh_units.proofs.Integers.{product_size}
-use Rattle.mh_units.proofs.Roundings.{correlation_size}
-use Rattle.simm_kinds.specs.declared.kinds.BucketId.{BucketId}
-use Rattle.simm_kinds.specs.declared.kinds.BucketId.TheVariants as id
-use Rattle.simm_kinds.specs.declared.bucket.Bucket.{Bucket}
-use Rattle.simm_kinds.specs.declared.bucket.Bucket.TheVariants as bucket
-use Rattle.simm_kinds.specs.Order.{name_cmp, bucket_numbers, bucket_id_cmp, same_bucket}
-use Rattle.simm_rules.specs.declared.values.BucketMargin.{BucketMargin}
-use Rattle.simm_rules.specs.Lookups.{at_row, six}
-use Rattle.simm_rules.specs.Concentration.{one}
-use Rattle.simm_rules.specs.Bucket.{root_of, combined}
-use Rattle.simm_rules.specs.Across.{Part, outer, is_residual, numbered, residual, place_among, gamma_squared}
-use Rattle.simm_params.specs.Weighed.{AreCorrelations}
-use Rattle.pair_sum.specs.PairTotal.{outer_total}
-use Rattle.pair_sum.specs.WithItself.{with_itself}
-use Rattle.pair_sum.proofs.Itself.{with_itself-symmetric, with_itself-at_most_one}
-use Rattle.ir_delta.proofs.Lists.{same_place_by}
-use Rattle.name_delta.specs.Combine.{part_in, parts_in, margins_of, places_of, gamma_at}
-use Rattle.name_delta.proofs.Parts.{each_numbered, numbered_ascend}
+use Rattle.vol_factors.proofs.MhUnits.Integers.{product_size}
+use Rattle.vol_factors.proofs.MhUnits.Roundings.{correlation_size}
+use Rattle.vol_factors.specs.SimmKinds.declared.kinds.BucketId.{BucketId}
+use Rattle.vol_factors.specs.SimmKinds.declared.kinds.BucketId.TheVariants as id
+use Rattle.vol_factors.specs.SimmKinds.declared.bucket.Bucket.{Bucket}
+use Rattle.vol_factors.specs.SimmKinds.declared.bucket.Bucket.TheVariants as bucket
+use Rattle.vol_factors.specs.SimmKinds.Order.{name_cmp, bucket_numbers, bucket_id_cmp, same_bucket}
+use Rattle.vol_factors.specs.SimmRules.declared.values.BucketMargin.{BucketMargin}
+use Rattle.vol_factors.specs.SimmRules.Lookups.{at_row, six}
+use Rattle.vol_factors.specs.SimmRules.Concentration.{one}
+use Rattle.vol_factors.specs.SimmRules.Bucket.{root_of, combined}
+use Rattle.vol_factors.specs.SimmRules.Across.{Part, outer, is_residual, numbered, residual, place_among, gamma_squared}
+use Rattle.vol_factors.specs.SimmParams.Weighed.{AreCorrelations}
+use Rattle.vol_factors.specs.PairSums.PairTotal.{outer_total}
+use Rattle.vol_factors.specs.PairSums.WithItself.{with_itself}
+use Rattle.vol_factors.proofs.PairSums.Itself.{with_itself-symmetric, with_itself-at_most_one}
+use Rattle.vol_factors.proofs.IrDelta.Lists.{same_place_by}
+use Rattle.vol_factors.specs.NameDelta.Combine.{part_in, parts_in, margins_of, places_of, gamma_at}
+use Rattle.vol_factors.proofs.NameDelta.Parts.{each_numbered, numbered_ascend}
 use Rattle.curvature_margin.specs.Listed.{squared_at}
 use Rattle.curvature_margin.specs.Numbered.{is_residual_id}
 use Rattle.curvature_margin.proofs.Outer.{outer_by}

@@ -8,12 +8,12 @@ use Rattle.std.proofs.lemmas.Int.{ints, clamps, fits_signed_from_abs}
 use Rattle.std.proofs.lemmas.List.{take_more}
 use Rattle.std.proofs.lemmas.List.Elements.{recursion_from_All}
 use Rattle.std.proofs.lemmas.List.Sums.{sum_by-cons, sum_by-take-le, get_or-le-sum_by}
-use Rattle.simm_rules.specs.declared.values.BucketMargin.{BucketMargin}
-use Rattle.simm_rules.specs.Sums.{total_by}
-use Rattle.simm_rules.specs.Across.{Part}
-use Rattle.simm_rules.specs.Curvature.{curvature_part}
-use Rattle.factor_book.proofs.Sums.{total_by-append, total_by-map}
-use Rattle.name_delta.proofs.Sizes.{total_size}
+use Rattle.vol_factors.specs.SimmRules.declared.values.BucketMargin.{BucketMargin}
+use Rattle.vol_factors.specs.SimmRules.Sums.{total_by}
+use Rattle.vol_factors.specs.SimmRules.Across.{Part}
+use Rattle.vol_factors.specs.SimmRules.Curvature.{curvature_part}
+use Rattle.vol_factors.proofs.FactorBook.Sums.{total_by-append, total_by-map}
+use Rattle.vol_factors.proofs.NameDelta.Sizes.{total_size}
 use Rattle.curvature_margin.specs.Numbered.{bound_of}
 use Rattle.curvature_margin.specs.Part.{sum_over, gross_over, margin_over, part_by, part_over}
 

@@ -3,26 +3,26 @@
 use Rattle.std.specs.Prelude.{ℕ, ◌≡◌, ◌^◌, ◌*◌, ◌<◌, ◌≤◌, List, map, sum_by, ℤ, pos, ◌*ℤ◌, ◌≤ℤ◌, unsigned_abs}
 use Rattle.std.specs.List.{AllByRecursion}
 use Rattle.std.specs.List.Sorted.{IsStrictlySortedBy}
-use Rattle.mh_units.specs.Rounding.{up}
-use Rattle.simm_kinds.specs.declared.kinds.RiskClass.{RiskClass}
-use Rattle.simm_kinds.specs.declared.kinds.RiskClass.TheVariants as class
-use Rattle.simm_kinds.specs.declared.kinds.BucketId.{BucketId}
-use Rattle.simm_kinds.specs.declared.kinds.BucketId.TheVariants as id
-use Rattle.simm_kinds.specs.Order.{same_name, bucket_id_cmp}
-use Rattle.simm_rules.specs.declared.values.BucketMargin.{BucketMargin}
-use Rattle.simm_rules.specs.Params.{Params}
-use Rattle.simm_rules.specs.Lookups.{six}
-use Rattle.simm_rules.specs.Net.{Sensitivity}
-use Rattle.simm_rules.specs.Rates.{volatilities_in, volatility_currencies, currency_curvature_value}
-use Rattle.simm_rules.specs.Sums.{total_by}
-use Rattle.simm_rules.specs.Bucket.{combined}
-use Rattle.simm_rules.specs.Across.{Part, outer}
-use Rattle.simm_rules.specs.Credit.{listed_credit}
-use Rattle.simm_rules.specs.Priced.{listed_priced}
-use Rattle.simm_rules.specs.Curvature.{curvature_part, curvature_over}
-use Rattle.ir_delta.specs.Parts.{parts_of, IsCurrency}
-use Rattle.name_delta.specs.Ids.{listed_id}
-use Rattle.name_delta.specs.Combine.{parts_in, IsListed}
+use Rattle.vol_factors.specs.MhUnits.Rounding.{up}
+use Rattle.vol_factors.specs.SimmKinds.declared.kinds.RiskClass.{RiskClass}
+use Rattle.vol_factors.specs.SimmKinds.declared.kinds.RiskClass.TheVariants as class
+use Rattle.vol_factors.specs.SimmKinds.declared.kinds.BucketId.{BucketId}
+use Rattle.vol_factors.specs.SimmKinds.declared.kinds.BucketId.TheVariants as id
+use Rattle.vol_factors.specs.SimmKinds.Order.{same_name, bucket_id_cmp}
+use Rattle.vol_factors.specs.SimmRules.declared.values.BucketMargin.{BucketMargin}
+use Rattle.vol_factors.specs.SimmRules.Params.{Params}
+use Rattle.vol_factors.specs.SimmRules.Lookups.{six}
+use Rattle.vol_factors.specs.SimmRules.Net.{Sensitivity}
+use Rattle.vol_factors.specs.SimmRules.Rates.{volatilities_in, volatility_currencies, currency_curvature_value}
+use Rattle.vol_factors.specs.SimmRules.Sums.{total_by}
+use Rattle.vol_factors.specs.SimmRules.Bucket.{combined}
+use Rattle.vol_factors.specs.SimmRules.Across.{Part, outer}
+use Rattle.vol_factors.specs.SimmRules.Credit.{listed_credit}
+use Rattle.vol_factors.specs.SimmRules.Priced.{listed_priced}
+use Rattle.vol_factors.specs.SimmRules.Curvature.{curvature_part, curvature_over}
+use Rattle.vol_factors.specs.IrDelta.Parts.{parts_of, IsCurrency}
+use Rattle.vol_factors.specs.NameDelta.Ids.{listed_id}
+use Rattle.vol_factors.specs.NameDelta.Combine.{parts_in, IsListed}
 
 -- ---- interest rates: one part over all currencies
 

@@ -1,16 +1,16 @@
 -- The curvature value of a bucket.
 -- (ISDA SIMM methodology, curvature margin: aggregation within a bucket.)
 use Rattle.std.specs.Prelude.{List, Option, Some, option_and_then, option_map, IsSomeAnd}
-use Rattle.simm_kinds.specs.declared.key.FactorKey.{FactorKey}
-use Rattle.simm_rules.specs.declared.values.BucketMargin.{BucketMargin}
-use Rattle.simm_rules.specs.Params.{Params}
-use Rattle.simm_rules.specs.Rates.{currency_curvature_value}
-use Rattle.simm_rules.specs.Credit.{credit_params, credit_curvature_value}
-use Rattle.simm_rules.specs.Priced.{priced_params, price_curvature_value}
-use Rattle.simm_rules.specs.ForeignExchange.{fx_sigma, fx_curvature_value}
-use Rattle.simm_params.specs.ListedBuckets.{credit_bucket_of, priced_bucket_of}
-use Rattle.factor_book.specs.declared.at.BucketAt.{BucketAt}
-use Rattle.factor_book.specs.declared.holding.Holding.{Holding}
+use Rattle.vol_factors.specs.SimmKinds.declared.key.FactorKey.{FactorKey}
+use Rattle.vol_factors.specs.SimmRules.declared.values.BucketMargin.{BucketMargin}
+use Rattle.vol_factors.specs.SimmRules.Params.{Params}
+use Rattle.vol_factors.specs.SimmRules.Rates.{currency_curvature_value}
+use Rattle.vol_factors.specs.SimmRules.Credit.{credit_params, credit_curvature_value}
+use Rattle.vol_factors.specs.SimmRules.Priced.{priced_params, price_curvature_value}
+use Rattle.vol_factors.specs.SimmRules.ForeignExchange.{fx_sigma, fx_curvature_value}
+use Rattle.vol_factors.specs.SimmParams.ListedBuckets.{credit_bucket_of, priced_bucket_of}
+use Rattle.vol_factors.specs.FactorBook.declared.at.BucketAt.{BucketAt}
+use Rattle.vol_factors.specs.FactorBook.declared.holding.Holding.{Holding}
 use Rattle.vol_factors.specs.Buckets.{VolatileBucket, Currency_bucket, Credit_bucket, Priced_bucket, Pairs_bucket, volatile_bucket}
 use Rattle.vol_factors.specs.Places.{volatilities_of, points_of, name_volatilities, pair_volatilities}
 use Rattle.vol_factors.specs.Ranges.{alone}

@@ -1,13 +1,13 @@
 -- What the file says of a class that has buckets, and the correlations of these for curvature.
 -- (ISDA SIMM methodology, curvature margin: squared correlations across buckets.)
 use Rattle.std.specs.Prelude.{ℕ, List, ℤ}
-use Rattle.simm_kinds.specs.declared.bucket.Bucket.{Bucket}
-use Rattle.simm_rules.specs.Params.{Params}
-use Rattle.simm_rules.specs.Bucket.{combined}
-use Rattle.simm_rules.specs.Credit.{credit_params, listed_credit}
-use Rattle.simm_rules.specs.Priced.{priced_params, listed_priced}
-use Rattle.simm_params.specs.ClassKinds.{credit_class, priced_class}
-use Rattle.name_delta.specs.Combine.{gamma_at}
+use Rattle.vol_factors.specs.SimmKinds.declared.bucket.Bucket.{Bucket}
+use Rattle.vol_factors.specs.SimmRules.Params.{Params}
+use Rattle.vol_factors.specs.SimmRules.Bucket.{combined}
+use Rattle.vol_factors.specs.SimmRules.Credit.{credit_params, listed_credit}
+use Rattle.vol_factors.specs.SimmRules.Priced.{priced_params, listed_priced}
+use Rattle.vol_factors.specs.SimmParams.ClassKinds.{credit_class, priced_class}
+use Rattle.vol_factors.specs.NameDelta.Combine.{gamma_at}
 use Rattle.curvature_margin.specs.declared.listed.ListedClass.{ListedClass}
 use Rattle.curvature_margin.specs.declared.listed.ListedClass.TheVariants as listed
 

@@ -1,15 +1,15 @@
 -- The two parts of a class of which the file lists buckets.
 -- (ISDA SIMM methodology, curvature margin: aggregation across buckets, and the residual bucket.)
 use Rattle.std.specs.Prelude.{ℕ, ◌+◌, ◌*◌, List, sum_by, Bool, true, false, ℤ, unsigned_abs}
-use Rattle.simm_kinds.specs.declared.kinds.BucketId.{BucketId}
-use Rattle.simm_kinds.specs.declared.kinds.BucketId.TheVariants as id
-use Rattle.simm_kinds.specs.Order.{same_bucket}
-use Rattle.simm_rules.specs.declared.values.BucketMargin.{BucketMargin}
-use Rattle.simm_rules.specs.Params.{Params}
-use Rattle.simm_rules.specs.Sums.{total_by}
-use Rattle.simm_rules.specs.Across.{outer, numbered, residual, gamma_squared}
-use Rattle.simm_rules.specs.Curvature.{curvature_part}
-use Rattle.name_delta.specs.Combine.{parts_in, margins_of}
+use Rattle.vol_factors.specs.SimmKinds.declared.kinds.BucketId.{BucketId}
+use Rattle.vol_factors.specs.SimmKinds.declared.kinds.BucketId.TheVariants as id
+use Rattle.vol_factors.specs.SimmKinds.Order.{same_bucket}
+use Rattle.vol_factors.specs.SimmRules.declared.values.BucketMargin.{BucketMargin}
+use Rattle.vol_factors.specs.SimmRules.Params.{Params}
+use Rattle.vol_factors.specs.SimmRules.Sums.{total_by}
+use Rattle.vol_factors.specs.SimmRules.Across.{outer, numbered, residual, gamma_squared}
+use Rattle.vol_factors.specs.SimmRules.Curvature.{curvature_part}
+use Rattle.vol_factors.specs.NameDelta.Combine.{parts_in, margins_of}
 use Rattle.curvature_margin.specs.declared.listed.ListedClass.{ListedClass}
 use Rattle.curvature_margin.specs.Listed.{listed_in, gamma_in}
 

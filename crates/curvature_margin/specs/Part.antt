@@ -2,11 +2,11 @@
 -- (ISDA SIMM methodology, curvature margin: theta and lambda.)
 use Rattle.std.specs.Prelude.{List, ◌==◌, ℤ, pos, ◌+ℤ◌, ◌*ℤ◌, unsigned_abs, if◌then◌else◌}
 use Rattle.std.specs.Int.{int_max}
-use Rattle.mh_units.specs.Rounding.{up}
-use Rattle.simm_rules.specs.declared.values.BucketMargin.{BucketMargin}
-use Rattle.simm_rules.specs.Sums.{total_by}
-use Rattle.simm_rules.specs.Concentration.{one}
-use Rattle.simm_rules.specs.Curvature.{lambda}
+use Rattle.vol_factors.specs.MhUnits.Rounding.{up}
+use Rattle.vol_factors.specs.SimmRules.declared.values.BucketMargin.{BucketMargin}
+use Rattle.vol_factors.specs.SimmRules.Sums.{total_by}
+use Rattle.vol_factors.specs.SimmRules.Concentration.{one}
+use Rattle.vol_factors.specs.SimmRules.Curvature.{lambda}
 
 abbrev pub sum_over : List BucketMargin → ℤ
 sum_over values = total_by (λ b. b.sum) values

@@ -1,12 +1,12 @@
 -- The curvature risk of a factor by the sum of its nets, and what is known of a bucket of such risks.
 -- (ISDA SIMM methodology, curvature margin: the curvature risk exposure.)
 use Rattle.std.specs.Prelude.{ℕ, ◌≡◌, ◌+◌, ◌*◌, ◌^◌, ◌≤◌, List, length, sum_by, ℤ, pos, ◌*ℤ◌, ◌≤ℤ◌, ◌<ℤ◌, unsigned_abs, if◌then◌else◌}
-use Rattle.mh_units.specs.Rounding.{away}
-use Rattle.simm_rules.specs.declared.values.BucketMargin.{BucketMargin}
-use Rattle.simm_rules.specs.Params.{Params, BucketTerms}
-use Rattle.simm_rules.specs.Concentration.{one}
-use Rattle.simm_rules.specs.ForeignExchange.{fx_sigma}
-use Rattle.weighted_bucket.specs.declared.weighed.Weighed.{Weighed}
+use Rattle.vol_factors.specs.MhUnits.Rounding.{away}
+use Rattle.vol_factors.specs.SimmRules.declared.values.BucketMargin.{BucketMargin}
+use Rattle.vol_factors.specs.SimmRules.Params.{Params, BucketTerms}
+use Rattle.vol_factors.specs.SimmRules.Concentration.{one}
+use Rattle.vol_factors.specs.SimmRules.ForeignExchange.{fx_sigma}
+use Rattle.vol_factors.specs.WeightedBucket.declared.weighed.Weighed.{Weighed}
 use Rattle.vol_factors.specs.declared.pairs.PairSum.{PairSum}
 
 -- the volatility at which a bucket's factors count: none where the bucket has no curvature

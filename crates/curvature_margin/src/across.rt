@@ -4,12 +4,12 @@ ghost use Rattle.curvature_margin.specs.Combine.{curvature_by_class, margins_siz
 use crate::listed::ListedClass;
 use crate::numbered_parts::over_numbered;
 use crate::whole_parts::{over_currencies, over_single};
-use factor_book::ClassAt;
-use mh_units::Cents;
-use simm_kinds::{BucketId, RiskClass};
-use simm_params::{CreditKind, Params, PricedKind};
-use simm_rules::BucketMargin;
 use std::alloc::{AllocError, Global};
+use vol_factors::factor_book::ClassAt;
+use vol_factors::mh_units::Cents;
+use vol_factors::simm_kinds::{BucketId, RiskClass};
+use vol_factors::simm_params::{CreditKind, Params, PricedKind};
+use vol_factors::simm_rules::BucketMargin;
 
 /// The curvature margin of a risk class in a product class, over the values of its buckets, in cents: that of all buckets but the
 /// residual one, and beside it that of the residual one; in interest rates divided by the square of the historical volatility

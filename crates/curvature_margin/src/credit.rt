@@ -1,23 +1,23 @@
 //! Credit that qualifies and that does not: the volatilities of the points of a bucket.
 ghost use Rattle.std.specs.Prelude.{◌≡◌, ◌+◌, ◌*◌, ◌≤◌, Some, IfOk, IsSomeAnd, length, option_map};
-ghost use Rattle.simm_rules.specs.Credit.{credit_params, credit_curvature_value};
-ghost use Rattle.simm_params.specs.ClassKinds.{credit_class};
-ghost use Rattle.simm_params.specs.ListedBuckets.{credit_bucket_of, credit_bucket_view};
-ghost use Rattle.simm_params.specs.Weighed.{IsWeighedCredit};
-ghost use Rattle.factor_book.specs.Factors.{IsBook};
-ghost use Rattle.name_delta.specs.Values.{IsInRange};
+ghost use Rattle.vol_factors.specs.SimmRules.Credit.{credit_params, credit_curvature_value};
+ghost use Rattle.vol_factors.specs.SimmParams.ClassKinds.{credit_class};
+ghost use Rattle.vol_factors.specs.SimmParams.ListedBuckets.{credit_bucket_of, credit_bucket_view};
+ghost use Rattle.vol_factors.specs.SimmParams.Weighed.{IsWeighedCredit};
+ghost use Rattle.vol_factors.specs.FactorBook.Factors.{IsBook};
+ghost use Rattle.vol_factors.specs.NameDelta.Values.{IsInRange};
 ghost use Rattle.vol_factors.specs.Places.{points_of};
 ghost use Rattle.vol_factors.specs.Ranges.{alone};
 ghost use Rattle.curvature_margin.specs.Values.{IsSized};
 
 use crate::risk::{UNIT, curved_bucket, volatility_in};
-use factor_book::Factors;
-use name_delta::{IssuerRho, group_points, in_millionths};
-use pair_sum::Steps;
-use simm_params::{CreditBucket, Params};
-use simm_rules::BucketMargin;
 use std::alloc::{AllocError, Global};
 use std::sync::ledger::Ledger;
+use vol_factors::factor_book::Factors;
+use vol_factors::name_delta::{IssuerRho, group_points, in_millionths};
+use vol_factors::pair_sum::Steps;
+use vol_factors::simm_params::{CreditBucket, Params};
+use vol_factors::simm_rules::BucketMargin;
 use vol_factors::{CreditAt, TenorScale, point_sums};
 
 /// The curvature value of a bucket that the file lists, whose factors are those of a book in range. Its `n` volatilities take at

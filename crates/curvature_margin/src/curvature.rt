@@ -7,13 +7,13 @@ use crate::credit::credit_bucket;
 use crate::fx::pair_bucket;
 use crate::priced::priced_bucket;
 use crate::rates::currency_bucket;
-use factor_book::{BucketAt, Factors};
-use pair_sum::Steps;
-use simm_params::Params;
-use simm_rules::BucketMargin;
 use std::alloc::{AllocError, Global};
 use std::sync::ledger::Ledger;
 use vol_factors::VolatileAt;
+use vol_factors::factor_book::{BucketAt, Factors};
+use vol_factors::pair_sum::Steps;
+use vol_factors::simm_params::Params;
+use vol_factors::simm_rules::BucketMargin;
 
 /// The curvature value of a bucket: that of a currency in interest rates, the one of foreign exchange, or one that the file lists for
 /// the class. Its factors are those of a book in range. `n` factors take at most `n * n` steps. Want of memory is the only error.

@@ -1,22 +1,22 @@
 //! Foreign exchange: the pairs of currencies of a product class, in one bucket, whose volatilities of all tenors are one factor.
 ghost use Rattle.std.specs.Prelude.{◌≡◌, ◌+◌, ◌*◌, ◌^◌, ◌≤◌, All, IfOk, length, map, unsigned_abs};
-ghost use Rattle.simm_rules.specs.ForeignExchange.{pairs_of, fx_sigma, fx_curvature_value};
+ghost use Rattle.vol_factors.specs.SimmRules.ForeignExchange.{pairs_of, fx_sigma, fx_curvature_value};
 ghost use Rattle.vol_factors.specs.Places.{pair_volatilities};
 ghost use Rattle.vol_factors.specs.Ranges.{ArePairsInRange};
 ghost use Rattle.curvature_margin.specs.Risk.{pair_curved_by};
 ghost use Rattle.curvature_margin.specs.Values.{IsSized};
 
 use crate::risk::{curve, value_of_risks};
-use factor_book::Factors;
-use name_delta::{EvenRho, in_millionths};
-use pair_sum::Steps;
-use simm_kinds::ProductClass;
-use simm_params::Params;
-use simm_rules::BucketMargin;
 use std::alloc::{AllocError, Global};
 use std::sync::ledger::Ledger;
+use vol_factors::factor_book::Factors;
+use vol_factors::name_delta::{EvenRho, in_millionths};
+use vol_factors::pair_sum::Steps;
+use vol_factors::simm_kinds::ProductClass;
+use vol_factors::simm_params::Params;
+use vol_factors::simm_rules::BucketMargin;
+use vol_factors::weighted_bucket::Weighed;
 use vol_factors::{PairSum, TenorScale, pair_sums, pair_volatility};
-use weighted_bucket::Weighed;
 
 /// The curvature value of the one bucket of a product class's pairs, whose factors are those of a book in range. Its `n` pairs take
 /// at most `n * n` steps. Want of memory is the only error.

@@ -1,14 +1,14 @@
 //! The correlations of buckets, squared.
 ghost use Rattle.std.specs.Prelude.{◌≡◌, ℕ, ◌<◌, ◌≤◌, length, unsigned_abs};
-ghost use Rattle.pair_sum.specs.WithItself.{with_itself, with_itself-one};
+ghost use Rattle.vol_factors.specs.PairSums.WithItself.{with_itself, with_itself-one};
 ghost use Rattle.curvature_margin.specs.Listed.{gamma_in, squared_at};
 
 use crate::listed::ListedClass;
-use concentration::combine;
-use mh_units::Corr6;
-use name_delta::in_millionths;
-use pair_sum::Correlation;
-use simm_params::Params;
+use vol_factors::concentration::combine;
+use vol_factors::mh_units::Corr6;
+use vol_factors::name_delta::in_millionths;
+use vol_factors::pair_sum::Correlation;
+use vol_factors::simm_params::Params;
 
 /// Those of numbered buckets, by their places among those that the file lists.
 #[derive(Drop)]

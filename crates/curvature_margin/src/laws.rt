@@ -2,24 +2,24 @@
 ghost use Rattle.std.specs.Prelude.{◌≡◌, ◌*◌, ◌^◌, ◌≤◌, Bool, ℕ, false, List, [], map, sum_by, ℤ, pos, ◌≤ℤ◌};
 ghost use Rattle.std.specs.List.{filter, AllByRecursion};
 ghost use Rattle.std.specs.List.Sorted.{IsStrictlySortedBy};
-ghost use Rattle.simm_kinds.specs.declared.bucket.Bucket.{Bucket as AnyBucket};
-ghost use Rattle.simm_kinds.specs.declared.kinds.BucketId.{BucketId};
-ghost use Rattle.simm_kinds.specs.declared.kinds.RiskClass.TheVariants as class;
-ghost use Rattle.simm_kinds.specs.Order.{bucket_id_cmp};
-ghost use Rattle.simm_rules.specs.declared.values.BucketMargin.{BucketMargin};
-ghost use Rattle.simm_rules.specs.Params.{CreditParams, PricedParams, Params as ParamsValue};
-ghost use Rattle.simm_rules.specs.Net.{Sensitivity};
-ghost use Rattle.simm_rules.specs.Sums.{total_by};
-ghost use Rattle.simm_rules.specs.Risks.{CreditClass, PricedClass, select};
-ghost use Rattle.simm_rules.specs.Curvature.{curvature_over};
-ghost use Rattle.simm_rules.specs.Rates.{rate_curvature};
-ghost use Rattle.simm_rules.specs.Credit.{as_credit_volatility, listed_credit, credit_curvature_parts, credit_curvature};
-ghost use Rattle.simm_rules.specs.Priced.{as_price_volatility, listed_priced, price_curvature_parts, price_curvature};
-ghost use Rattle.simm_rules.specs.ForeignExchange.{as_pair_volatility, fx_curvature};
+ghost use Rattle.vol_factors.specs.SimmKinds.declared.bucket.Bucket.{Bucket as AnyBucket};
+ghost use Rattle.vol_factors.specs.SimmKinds.declared.kinds.BucketId.{BucketId};
+ghost use Rattle.vol_factors.specs.SimmKinds.declared.kinds.RiskClass.TheVariants as class;
+ghost use Rattle.vol_factors.specs.SimmKinds.Order.{bucket_id_cmp};
+ghost use Rattle.vol_factors.specs.SimmRules.declared.values.BucketMargin.{BucketMargin};
+ghost use Rattle.vol_factors.specs.SimmRules.Params.{CreditParams, PricedParams, Params as ParamsValue};
+ghost use Rattle.vol_factors.specs.SimmRules.Net.{Sensitivity};
+ghost use Rattle.vol_factors.specs.SimmRules.Sums.{total_by};
+ghost use Rattle.vol_factors.specs.SimmRules.Risks.{CreditClass, PricedClass, select};
+ghost use Rattle.vol_factors.specs.SimmRules.Curvature.{curvature_over};
+ghost use Rattle.vol_factors.specs.SimmRules.Rates.{rate_curvature};
+ghost use Rattle.vol_factors.specs.SimmRules.Credit.{as_credit_volatility, listed_credit, credit_curvature_parts, credit_curvature};
+ghost use Rattle.vol_factors.specs.SimmRules.Priced.{as_price_volatility, listed_priced, price_curvature_parts, price_curvature};
+ghost use Rattle.vol_factors.specs.SimmRules.ForeignExchange.{as_pair_volatility, fx_curvature};
 ghost use Rattle.curvature_margin.specs.Combine.{curvature_by_class, currency_buckets, AreSized};
 ghost use Rattle.curvature_margin.specs.Values.{IsSizedBy};
 
-use simm_params::Params;
+use vol_factors::simm_params::Params;
 
 /// The margin over the buckets of the currencies that have a volatility is the rule's curvature margin of interest rates. It does
 /// nothing.

@@ -1,13 +1,13 @@
 ghost use Rattle.std.specs.Prelude.{◌≡◌, ◌≤◌, true, unsigned_abs, ℕ};
-ghost use Rattle.simm_rules.specs.Across.{place_among};
-ghost use Rattle.simm_rules.specs.Admits.{lists};
-ghost use Rattle.simm_rules.specs.Lookups.{at_row};
-ghost use Rattle.simm_params.specs.Weighed.{AreCorrelations};
+ghost use Rattle.vol_factors.specs.SimmRules.Across.{place_among};
+ghost use Rattle.vol_factors.specs.SimmRules.Admits.{lists};
+ghost use Rattle.vol_factors.specs.SimmRules.Lookups.{at_row};
+ghost use Rattle.vol_factors.specs.SimmParams.Weighed.{AreCorrelations};
 ghost use Rattle.curvature_margin.specs.Listed.{listed_in, gamma_in};
 
-use mh_units::Rate4;
-use simm_kinds::Bucket;
-use simm_params::{CreditKind, Params, PricedKind};
+use vol_factors::mh_units::Rate4;
+use vol_factors::simm_kinds::Bucket;
+use vol_factors::simm_params::{CreditKind, Params, PricedKind};
 
 /// A class of which the file lists buckets.
 #[derive(Clone, Copy)]

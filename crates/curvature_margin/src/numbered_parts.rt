@@ -1,10 +1,10 @@
 //! The classes of which the file lists buckets: one part over the numbered buckets, and one of the residual bucket.
 ghost use Rattle.std.specs.Prelude.{◌≡◌, ◌+◌, ◌*◌, IfOk, pos, ◌≤ℤ◌, ◌+ℤ◌};
 ghost use Rattle.std.specs.List.{AllByRecursion};
-ghost use Rattle.simm_rules.specs.Across.{numbered as numbered_of, residual as residual_of};
-ghost use Rattle.simm_rules.specs.Curvature.{curvature_over};
-ghost use Rattle.name_delta.specs.Ids.{listed_id};
-ghost use Rattle.name_delta.specs.Combine.{parts_in, margins_of, places_of, number_place, IsListed};
+ghost use Rattle.vol_factors.specs.SimmRules.Across.{numbered as numbered_of, residual as residual_of};
+ghost use Rattle.vol_factors.specs.SimmRules.Curvature.{curvature_over};
+ghost use Rattle.vol_factors.specs.NameDelta.Ids.{listed_id};
+ghost use Rattle.vol_factors.specs.NameDelta.Combine.{parts_in, margins_of, places_of, number_place, IsListed};
 ghost use Rattle.curvature_margin.specs.Listed.{listed_in, gamma_in};
 ghost use Rattle.curvature_margin.specs.Numbered.{is_residual_id, numbered_part, residual_part, numbered_bound, residual_bound};
 ghost use Rattle.curvature_margin.specs.Combine.{margins_size, gross_size, AreSized};
@@ -12,12 +12,12 @@ ghost use Rattle.curvature_margin.specs.Combine.{margins_size, gross_size, AreSi
 use crate::gamma::SquaredGamma;
 use crate::listed::ListedClass;
 use crate::part::{margin_over, part_over};
-use mh_units::Cents;
-use pair_sum::outer_root;
-use simm_kinds::{Bucket, BucketId};
-use simm_params::Params;
-use simm_rules::BucketMargin;
 use std::alloc::{AllocError, Global};
+use vol_factors::mh_units::Cents;
+use vol_factors::pair_sum::outer_root;
+use vol_factors::simm_kinds::{Bucket, BucketId};
+use vol_factors::simm_params::Params;
+use vol_factors::simm_rules::BucketMargin;
 
 /// The margin of such a class, in cents, over the values of its buckets. Want of memory is the only error.
 pub fn over_numbered(

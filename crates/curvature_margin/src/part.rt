@@ -1,13 +1,13 @@
 //! A part of the margin: the sum of the risks of its buckets, and lambda times the margin over them.
 ghost use Rattle.std.specs.Prelude.{◌≡◌, ◌+◌, ◌*◌, ◌^◌, ◌<◌, ◌≤◌, All, sum_by, pos, ◌≤ℤ◌, ◌<ℤ◌, ◌*ℤ◌, unsigned_abs};
-ghost use Rattle.mh_units.specs.Rounding.{up};
-ghost use Rattle.simm_rules.specs.Concentration.{one};
-ghost use Rattle.simm_rules.specs.Curvature.{lambda};
-ghost use Rattle.simm_params.specs.Ranges.{lambda_bases, IsWithin};
+ghost use Rattle.vol_factors.specs.MhUnits.Rounding.{up};
+ghost use Rattle.vol_factors.specs.SimmRules.Concentration.{one};
+ghost use Rattle.vol_factors.specs.SimmRules.Curvature.{lambda};
+ghost use Rattle.vol_factors.specs.SimmParams.Ranges.{lambda_bases, IsWithin};
 ghost use Rattle.curvature_margin.specs.Part.{sum_over, gross_over, margin_over, part_over};
 
-use mh_units::{Corr6, div_up};
-use simm_rules::BucketMargin;
+use vol_factors::mh_units::{Corr6, div_up};
+use vol_factors::simm_rules::BucketMargin;
 
 /// A part of the margin in cents, over the values of its buckets, where `root` is the margin over them: the sum of all risks and
 /// lambda times the root, and at least 0; 0 where all risks are 0. `base` is that of lambda.

@@ -1,9 +1,9 @@
 //! Equity and commodities: the names of a bucket, whose volatilities of all tenors are one factor.
 ghost use Rattle.std.specs.Prelude.{◌≡◌, ◌+◌, ◌*◌, ◌^◌, ◌≤◌, Some, IfOk, IsSomeAnd, length, map, option_map, sum_by, unsigned_abs};
-ghost use Rattle.simm_rules.specs.Priced.{names_of, priced_params, price_curvature_value};
-ghost use Rattle.simm_params.specs.ClassKinds.{priced_class};
-ghost use Rattle.simm_params.specs.ListedBuckets.{priced_bucket_of, priced_bucket_view};
-ghost use Rattle.simm_params.specs.Weighed.{IsWeighedPriced};
+ghost use Rattle.vol_factors.specs.SimmRules.Priced.{names_of, priced_params, price_curvature_value};
+ghost use Rattle.vol_factors.specs.SimmParams.ClassKinds.{priced_class};
+ghost use Rattle.vol_factors.specs.SimmParams.ListedBuckets.{priced_bucket_of, priced_bucket_view};
+ghost use Rattle.vol_factors.specs.SimmParams.Weighed.{IsWeighedPriced};
 ghost use Rattle.vol_factors.specs.declared.tenor_scale.TenorScale.TheVariants as scale;
 ghost use Rattle.vol_factors.specs.Names.{name_total};
 ghost use Rattle.vol_factors.specs.Places.{name_volatilities};
@@ -11,13 +11,13 @@ ghost use Rattle.vol_factors.specs.Ranges.{IsPricedInRange};
 ghost use Rattle.curvature_margin.specs.Values.{IsSized};
 
 use crate::risk::{curved_bucket, volatility_in};
-use factor_book::Factors;
-use name_delta::{EvenRho, in_millionths};
-use pair_sum::Steps;
-use simm_params::{Params, PricedBucket};
-use simm_rules::BucketMargin;
 use std::alloc::{AllocError, Global};
 use std::sync::ledger::Ledger;
+use vol_factors::factor_book::Factors;
+use vol_factors::name_delta::{EvenRho, in_millionths};
+use vol_factors::pair_sum::Steps;
+use vol_factors::simm_params::{Params, PricedBucket};
+use vol_factors::simm_rules::BucketMargin;
 use vol_factors::{NameSum, PricedAt, TenorScale, name_sums};
 
 /// The curvature value of a bucket that the file lists, whose factors are those of a book in range. Its `n` names take at most

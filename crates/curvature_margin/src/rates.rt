@@ -1,18 +1,18 @@
 //! Interest rates: the volatilities of a currency's rates and of its inflation.
 ghost use Rattle.std.specs.Prelude.{◌≡◌, ◌+◌, ◌*◌, ◌^◌, ◌≤◌, IfOk, length, map, unsigned_abs};
-ghost use Rattle.simm_rules.specs.Rates.{currency_curvature_value};
-ghost use Rattle.name_delta.specs.Values.{IsInRange};
+ghost use Rattle.vol_factors.specs.SimmRules.Rates.{currency_curvature_value};
+ghost use Rattle.vol_factors.specs.NameDelta.Values.{IsInRange};
 ghost use Rattle.vol_factors.specs.Places.{volatilities_of};
 ghost use Rattle.vol_factors.specs.Ranges.{alone};
 ghost use Rattle.curvature_margin.specs.Values.{IsSized};
 
 use crate::risk::{UNIT, curved_bucket};
-use factor_book::Factors;
-use pair_sum::Steps;
-use simm_params::Params;
-use simm_rules::BucketMargin;
 use std::alloc::{AllocError, Global};
 use std::sync::ledger::Ledger;
+use vol_factors::factor_book::Factors;
+use vol_factors::pair_sum::Steps;
+use vol_factors::simm_params::Params;
+use vol_factors::simm_rules::BucketMargin;
 use vol_factors::{CurrencyAt, TenorScale, VolatilityRho, VolatilitySum, volatility_sums};
 
 /// The curvature value of a currency's bucket, whose factors are those of a book in range. Its `n` volatilities take at most

@@ -1,19 +1,19 @@
 //! Curvature risks, and the value of a bucket of them.
 ghost use Rattle.std.specs.Prelude.{◌≡◌, ◌+◌, ◌*◌, ◌^◌, ◌<◌, ◌≤◌, ℕ, All, IfOk, length, map, sum_by, unsigned_abs};
-ghost use Rattle.simm_rules.specs.Concentration.{one};
-ghost use Rattle.simm_params.specs.Ranges.{sigmas, IsWithin};
-ghost use Rattle.simm_params.specs.BucketView.{terms_view};
-ghost use Rattle.weighted_bucket.specs.Bucket.{bucket_value};
-ghost use Rattle.weighted_bucket.specs.declared.scaling.Scaling.TheVariants as scaling;
+ghost use Rattle.vol_factors.specs.SimmRules.Concentration.{one};
+ghost use Rattle.vol_factors.specs.SimmParams.Ranges.{sigmas, IsWithin};
+ghost use Rattle.vol_factors.specs.SimmParams.BucketView.{terms_view};
+ghost use Rattle.vol_factors.specs.WeightedBucket.Bucket.{bucket_value};
+ghost use Rattle.vol_factors.specs.WeightedBucket.declared.scaling.Scaling.TheVariants as scaling;
 ghost use Rattle.curvature_margin.specs.Risk.{curved_by, risk_of, volatility_in, AreNear, IsCurved};
 
-use mh_units::{Corr6, Rate4, div_away};
-use pair_sum::Steps;
-use simm_params::BucketTerms;
-use simm_rules::BucketMargin;
 use std::alloc::{AllocError, Global};
 use std::sync::ledger::Ledger;
-use weighted_bucket::{Rho, Scaling, Weighed, bucket_margin};
+use vol_factors::mh_units::{Corr6, Rate4, div_away};
+use vol_factors::pair_sum::Steps;
+use vol_factors::simm_params::BucketTerms;
+use vol_factors::simm_rules::BucketMargin;
+use vol_factors::weighted_bucket::{Rho, Scaling, Weighed, bucket_margin};
 
 /// A volatility of 1: that of rates and of credit, whose amounts are already volatility times vega.
 pub const UNIT: Rate4 = Rate4(10_000);

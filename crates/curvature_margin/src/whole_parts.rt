@@ -2,20 +2,20 @@
 //! one in all.
 ghost use Rattle.std.specs.Prelude.{◌≡◌, ◌+◌, ◌*◌, ◌^◌, ◌≤◌, IfOk, map, pos, ◌≤ℤ◌, unsigned_abs};
 ghost use Rattle.std.specs.List.{AllByRecursion};
-ghost use Rattle.simm_params.specs.Ranges.{ir_hvrs, IsWithin};
-ghost use Rattle.ir_delta.specs.Parts.{IsCurrency};
+ghost use Rattle.vol_factors.specs.SimmParams.Ranges.{ir_hvrs, IsWithin};
+ghost use Rattle.vol_factors.specs.IrDelta.Parts.{IsCurrency};
 ghost use Rattle.curvature_margin.specs.Combine.{gamma_across, over_currencies, over_ratio, over_single, margins_size, gross_size, AreSized};
 
 use crate::gamma::EvenGamma;
 use crate::part::{margin_over, part_over};
-use concentration::combine;
-use mh_units::{Cents, Corr6, Rate4, div_up};
-use name_delta::in_millionths;
-use pair_sum::outer_root;
-use simm_kinds::BucketId;
-use simm_params::Params;
-use simm_rules::BucketMargin;
 use std::alloc::{AllocError, Global};
+use vol_factors::concentration::combine;
+use vol_factors::mh_units::{Cents, Corr6, Rate4, div_up};
+use vol_factors::name_delta::in_millionths;
+use vol_factors::pair_sum::outer_root;
+use vol_factors::simm_kinds::BucketId;
+use vol_factors::simm_params::Params;
+use vol_factors::simm_rules::BucketMargin;
 
 /// The margin of interest rates, in cents, over the buckets of currencies. Want of memory is the only error.
 pub fn over_currencies(

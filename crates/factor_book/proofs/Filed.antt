@@ -11,8 +11,8 @@ use Rattle.std.proofs.lemmas.Bool.{false≢true}
 use Rattle.std.proofs.lemmas.List.Elements.{filter_agree}
 use Rattle.std.proofs.lemmas.Map.Entries.{lookup_head, lookup_tail, lookup-filter-keys}
 use Rattle.std.proofs.lemmas.Map.Keys.{sorted_tail}
-use Rattle.simm_kinds.specs.declared.key.FactorKey.{FactorKey}
-use Rattle.simm_kinds.specs.Order.{same_key, key_cmp}
+use Rattle.simm_rules.specs.SimmKinds.declared.key.FactorKey.{FactorKey}
+use Rattle.simm_rules.specs.SimmKinds.Order.{same_key, key_cmp}
 use Rattle.simm_rules.specs.Sums.{different, put_in}
 use Rattle.simm_rules.specs.Net.{Sensitivity}
 use Rattle.factor_book.specs.declared.place.Place.{Place}
@@ -24,7 +24,7 @@ use Rattle.factor_book.specs.Places.{stands_at, factors_at, places_of, by_place}
 use Rattle.factor_book.specs.declared.filing.Left.{Left}
 use Rattle.factor_book.specs.Holdings.{shrunk}
 use Rattle.factor_book.specs.Filing.{found, found_in, StandAt, FillPlace, AreFiled, in_order, gathered, Leaves, TakesAt}
-use Rattle.simm_kinds.proofs.Orders.{key_total, exact_keys}
+use Rattle.simm_rules.proofs.SimmKinds.Orders.{key_total, exact_keys}
 use Rattle.factor_book.proofs.Keys.{same_key_refl, same_key_sym, one_key}
 use Rattle.factor_book.proofs.Standing.{place_total, exact_places, one_place, own_place, tied_place, at_place, found_place, updated_place, ordered_places}
 use Rattle.factor_book.proofs.Sorting.{one_unless, lookup-insert_entry, keys-insert_entry, length-insert_entry, different_ascends, put_ascends, any_different, same_entries, past_head, some_not_none, filter_ascends, keys-graph, lookup-graph}

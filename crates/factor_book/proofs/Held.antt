@@ -8,15 +8,15 @@ use Rattle.std.proofs.lemmas.Bool.{false≢true}
 use Rattle.std.proofs.lemmas.Bool.Decides.{nat_tests}
 use Rattle.std.proofs.lemmas.Int.{ints}
 use Rattle.std.proofs.lemmas.List.Elements.{filter-append}
-use Rattle.simm_kinds.specs.declared.key.FactorKey.{FactorKey}
-use Rattle.simm_kinds.specs.Order.{same_key, key_cmp}
+use Rattle.simm_rules.specs.SimmKinds.declared.key.FactorKey.{FactorKey}
+use Rattle.simm_rules.specs.SimmKinds.Order.{same_key, key_cmp}
 use Rattle.simm_rules.specs.Sums.{total_by}
 use Rattle.simm_rules.specs.Net.{Sensitivity, net, keys_of}
 use Rattle.factor_book.specs.declared.holding.Holding.{Holding}
 use Rattle.factor_book.specs.Factors.{size_of, count_of, factor_of, factors_in}
 use Rattle.factor_book.specs.Holdings.{grown, shrunk, net_in, rows_in}
 use Rattle.factor_book.specs.Filing.{AreSmall}
-use Rattle.simm_kinds.proofs.Orders.{key_total, exact_keys}
+use Rattle.simm_rules.proofs.SimmKinds.Orders.{key_total, exact_keys}
 use Rattle.factor_book.proofs.Keys.{same_key_refl, same_key_sym, one_key, tied_test}
 use Rattle.factor_book.proofs.Sorting.{any_different, different_ascends, keys-graph, lookup-graph, same_entries}
 use Rattle.factor_book.proofs.Sums.{total_by-append, total_by-none, total_by-size}

@@ -8,11 +8,11 @@ use Rattle.std.proofs.lemmas.Cmp.{eq_by_cmp_equiv, tied_itself, alike_right}
 use Rattle.std.specs.List.Sorted.{IsStrictlySortedBy}
 use Rattle.std.specs.Map.{lookup, keys_of}
 use Rattle.std.specs.BTreeMap.{is_at}
-use Rattle.simm_kinds.specs.declared.key.FactorKey.{FactorKey}
-use Rattle.simm_kinds.specs.Order.{same_key, key_cmp}
-use Rattle.simm_kinds.specs.contracts.key.FactorKeyOrd.TheImpl as key_order
+use Rattle.simm_rules.specs.SimmKinds.declared.key.FactorKey.{FactorKey}
+use Rattle.simm_rules.specs.SimmKinds.Order.{same_key, key_cmp}
+use Rattle.simm_rules.specs.SimmKinds.contracts.key.FactorKeyOrd.TheImpl as key_order
 use Rattle.factor_book.specs.declared.holding.Holding.{Holding}
-use Rattle.simm_kinds.proofs.Orders.{key_cmp_is, key_total, exact_keys}
+use Rattle.simm_rules.proofs.SimmKinds.Orders.{key_cmp_is, key_total, exact_keys}
 
 pub key_orders : (key_order.cmp-value).it ≡ key_cmp
 key_orders = λ i a b. key_cmp_is a b i

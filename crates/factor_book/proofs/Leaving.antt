@@ -9,9 +9,9 @@ use Rattle.std.proofs.lemmas.List.Kept.{IsStrictlySortedBy-filter}
 use Rattle.std.proofs.lemmas.List.Sorted.{sum_by-IsPermutation}
 use Rattle.std.proofs.lemmas.List.Sums.{sum_by-cons, sum_by-append}
 use Rattle.std.proofs.lemmas.Map.Views.{any-filter_same}
-use Rattle.simm_kinds.specs.declared.key.FactorKey.{FactorKey}
-use Rattle.simm_kinds.specs.Order.{same_key, key_cmp}
-use Rattle.simm_kinds.proofs.Orders.{key_total, exact_keys}
+use Rattle.simm_rules.specs.SimmKinds.declared.key.FactorKey.{FactorKey}
+use Rattle.simm_rules.specs.SimmKinds.Order.{same_key, key_cmp}
+use Rattle.simm_rules.proofs.SimmKinds.Orders.{key_total, exact_keys}
 use Rattle.simm_rules.specs.Net.{Sensitivity, sensitivities, keys_of}
 use Rattle.factor_book.specs.declared.holding.Holding.{Holding}
 use Rattle.factor_book.specs.declared.place.Place.{Place}

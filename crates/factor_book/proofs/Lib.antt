@@ -10,3 +10,4 @@ pub mod Sides
 pub mod Books
 pub mod Rows
 pub mod Leaving
+pub use Rattle.simm_rules.proofs.SimmKinds as SimmKinds

@@ -8,13 +8,13 @@ use Rattle.std.proofs.lemmas.Bool.{false≢true}
 use Rattle.std.proofs.lemmas.Int.{ints}
 use Rattle.std.proofs.lemmas.Map.Entries.{lookup-filter-keys}
 use Rattle.std.proofs.lemmas.Map.Keys.{sorted_head, sorted_tail}
-use Rattle.mh_units.proofs.Integers.{add-mul_ℤ}
-use Rattle.simm_kinds.specs.declared.key.FactorKey.{FactorKey}
-use Rattle.simm_kinds.specs.Order.{same_key, key_cmp}
+use Rattle.simm_rules.proofs.MhUnits.Integers.{add-mul_ℤ}
+use Rattle.simm_rules.specs.SimmKinds.declared.key.FactorKey.{FactorKey}
+use Rattle.simm_rules.specs.SimmKinds.Order.{same_key, key_cmp}
 use Rattle.simm_rules.specs.Sums.{total_by}
 use Rattle.simm_rules.specs.Net.{Sensitivity, net, keys_of, netted}
 use Rattle.factor_book.specs.Factors.{factor_of, factors_in, net_of}
-use Rattle.simm_kinds.proofs.Orders.{key_total}
+use Rattle.simm_rules.proofs.SimmKinds.Orders.{key_total}
 use Rattle.factor_book.proofs.Keys.{same_key_refl, one_key}
 use Rattle.factor_book.proofs.Sorting.{different_ascends, filter_ascends, each_weaker}
 use Rattle.factor_book.proofs.Grouping.{or_right}

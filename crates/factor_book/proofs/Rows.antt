@@ -8,10 +8,10 @@ use Rattle.std.proofs.lemmas.List.{length-append, take_more, drop_all}
 use Rattle.std.proofs.lemmas.List.Concat.{flat_map-append}
 use Rattle.std.proofs.lemmas.List.Sorted.{sum_by-IsPermutation}
 use Rattle.std.proofs.lemmas.List.Sums.{sum_by-cons}
-use Rattle.simm_kinds.specs.declared.key.FactorKey.{FactorKey}
-use Rattle.simm_kinds.specs.declared.row.CrifRow.{CrifRow}
-use Rattle.simm_kinds.specs.declared.row.CrifRow.TheVariants as row
-use Rattle.simm_kinds.specs.Batch.{is_in_range}
+use Rattle.simm_rules.specs.SimmKinds.declared.key.FactorKey.{FactorKey}
+use Rattle.simm_rules.specs.SimmKinds.declared.row.CrifRow.{CrifRow}
+use Rattle.simm_rules.specs.SimmKinds.declared.row.CrifRow.TheVariants as row
+use Rattle.simm_rules.specs.SimmKinds.Batch.{is_in_range}
 use Rattle.simm_rules.specs.Sums.{total_by}
 use Rattle.simm_rules.specs.Net.{Sensitivity, sensitivity, sensitivities, keys_of}
 use Rattle.factor_book.specs.declared.holding.Holding.{Holding}

@@ -18,14 +18,14 @@ use Rattle.std.proofs.lemmas.Bool.Decides.{nat_tests}
 use Rattle.std.proofs.lemmas.List.Elements.{filter_agree}
 use Rattle.std.proofs.lemmas.Simd.{map-map}
 use Rattle.std.proofs.lemmas.Map.Entries.{lookup-filter-keys}
-use Rattle.simm_kinds.specs.declared.kinds.RiskClass.{RiskClass}
-use Rattle.simm_kinds.specs.declared.kinds.RiskClass.TheVariants as class
-use Rattle.simm_kinds.specs.declared.kinds.BucketId.{BucketId}
-use Rattle.simm_kinds.specs.declared.kinds.BucketId.TheVariants as id
-use Rattle.simm_kinds.specs.declared.key.FactorKey.{FactorKey}
-use Rattle.simm_kinds.specs.Factors.{bucket_of}
-use Rattle.simm_kinds.specs.Order.{product_place, class_place, bucket_id_cmp, same_product, same_class}
-use Rattle.simm_kinds.proofs.Orders.{one_product, one_class}
+use Rattle.simm_rules.specs.SimmKinds.declared.kinds.RiskClass.{RiskClass}
+use Rattle.simm_rules.specs.SimmKinds.declared.kinds.RiskClass.TheVariants as class
+use Rattle.simm_rules.specs.SimmKinds.declared.kinds.BucketId.{BucketId}
+use Rattle.simm_rules.specs.SimmKinds.declared.kinds.BucketId.TheVariants as id
+use Rattle.simm_rules.specs.SimmKinds.declared.key.FactorKey.{FactorKey}
+use Rattle.simm_rules.specs.SimmKinds.Factors.{bucket_of}
+use Rattle.simm_rules.specs.SimmKinds.Order.{product_place, class_place, bucket_id_cmp, same_product, same_class}
+use Rattle.simm_rules.proofs.SimmKinds.Orders.{one_product, one_class}
 use Rattle.simm_rules.specs.Sums.{placed, put_in, different}
 use Rattle.factor_book.specs.declared.at.SideAt.{SideAt}
 use Rattle.factor_book.specs.declared.place.BookSide.{BookSide}

@@ -11,15 +11,15 @@ use Rattle.std.specs.Prelude.{◌==◌}
 use Rattle.std.proofs.lemmas.Bool.Decides.{nat_tests}
 use Rattle.std.proofs.lemmas.Cmp.{nat_cmp_total, nat_list_cmp_total, eq_by_cmp_equiv, on_total, then_total, tied_itself, alike_right}
 use Rattle.std.proofs.lemmas.Map.Lookups.{CmpEqualImpliesEq, exact_unsigned, exact_bytes}
-use Rattle.simm_kinds.specs.contracts.kinds.ProductClass as product_type
-use Rattle.simm_kinds.specs.contracts.kinds.RiskClass as class_type
-use Rattle.simm_kinds.specs.declared.key.FactorKey.{FactorKey}
-use Rattle.simm_kinds.specs.declared.kinds.BucketId.{BucketId}
-use Rattle.simm_kinds.specs.declared.kinds.BucketId.TheVariants as id
-use Rattle.simm_kinds.specs.Factors.{class_of, side_of, bucket_of}
-use Rattle.simm_kinds.specs.Order.{product_place, class_place, bucket_id_numbers, bucket_id_cmp, same_product, same_class, same_bucket_id}
-use Rattle.simm_kinds.proofs.Variants.{by_variant}
-use Rattle.simm_kinds.proofs.Orders.{product_cmp, class_cmp, one_product, one_class, derived_id_cmp, bucket_id_cmp_is}
+use Rattle.simm_rules.specs.SimmKinds.contracts.kinds.ProductClass as product_type
+use Rattle.simm_rules.specs.SimmKinds.contracts.kinds.RiskClass as class_type
+use Rattle.simm_rules.specs.SimmKinds.declared.key.FactorKey.{FactorKey}
+use Rattle.simm_rules.specs.SimmKinds.declared.kinds.BucketId.{BucketId}
+use Rattle.simm_rules.specs.SimmKinds.declared.kinds.BucketId.TheVariants as id
+use Rattle.simm_rules.specs.SimmKinds.Factors.{class_of, side_of, bucket_of}
+use Rattle.simm_rules.specs.SimmKinds.Order.{product_place, class_place, bucket_id_numbers, bucket_id_cmp, same_product, same_class, same_bucket_id}
+use Rattle.simm_rules.proofs.SimmKinds.Variants.{by_variant}
+use Rattle.simm_rules.proofs.SimmKinds.Orders.{product_cmp, class_cmp, one_product, one_class, derived_id_cmp, bucket_id_cmp_is}
 use Rattle.factor_book.specs.contracts.place.BookSide as side_type
 use Rattle.factor_book.specs.declared.place.BookSide.{BookSide}
 use Rattle.factor_book.specs.declared.place.BookSide.TheVariants as book

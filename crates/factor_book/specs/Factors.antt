@@ -2,10 +2,10 @@
 -- (ISDA SIMM methodology, structure of the methodology: sensitivities to one risk factor net.)
 use Rattle.std.specs.Prelude.{ℕ, ◌≡◌, ◌+◌, ◌*◌, ◌^◌, ◌<◌, ◌≤◌, List, ◌++◌, map, length, true, ℤ, pos, unsigned_abs}
 use Rattle.std.specs.List.{filter, list_all}
-use Rattle.simm_kinds.specs.declared.key.FactorKey.{FactorKey}
-use Rattle.simm_kinds.specs.declared.row.CrifRow.{CrifRow}
-use Rattle.simm_kinds.specs.Order.{same_key}
-use Rattle.simm_kinds.specs.Batch.{is_in_range}
+use Rattle.simm_rules.specs.SimmKinds.declared.key.FactorKey.{FactorKey}
+use Rattle.simm_rules.specs.SimmKinds.declared.row.CrifRow.{CrifRow}
+use Rattle.simm_rules.specs.SimmKinds.Order.{same_key}
+use Rattle.simm_rules.specs.SimmKinds.Batch.{is_in_range}
 use Rattle.simm_rules.specs.Sums.{total_by}
 use Rattle.simm_rules.specs.Net.{Sensitivity, sensitivities, net, keys_of}
 use Rattle.factor_book.specs.declared.holding.Holding.{Holding}

@@ -4,8 +4,8 @@ use Rattle.std.specs.List.{flat_map, AllByRecursion}
 use Rattle.std.specs.List.Sorted.{IsStrictlySortedBy}
 use Rattle.std.specs.Map.{lookup, keys_of}
 use Rattle.std.specs.BTreeMap.{insert_entry, is_at}
-use Rattle.simm_kinds.specs.declared.key.FactorKey.{FactorKey}
-use Rattle.simm_kinds.specs.Order.{product_place, class_place, same_product, same_class, same_key, key_cmp}
+use Rattle.simm_rules.specs.SimmKinds.declared.key.FactorKey.{FactorKey}
+use Rattle.simm_rules.specs.SimmKinds.Order.{product_place, class_place, same_product, same_class, same_key, key_cmp}
 use Rattle.simm_rules.specs.Net.{Sensitivity}
 use Rattle.factor_book.specs.declared.place.Place.{Place}
 use Rattle.factor_book.specs.declared.at.SideAt.{SideAt}

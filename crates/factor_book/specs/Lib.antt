@@ -3,3 +3,6 @@ pub mod Factors
 pub mod Places
 pub mod Holdings
 pub mod Filing
+pub use Rattle.simm_rules.specs.MhUnits as MhUnits
+pub use Rattle.simm_rules.specs.SimmKinds as SimmKinds
+pub use Rattle.simm_rules.specs as SimmRules

@@ -2,11 +2,11 @@
 use Rattle.std.specs.Prelude.{ℕ}
 use Rattle.std.specs.Ordering.{nat_cmp, ordering_then}
 use Rattle.std.specs.declared.cmp.Ordering.{Ordering}
-use Rattle.simm_kinds.specs.declared.kinds.Side.{Side}
-use Rattle.simm_kinds.specs.declared.kinds.Side.TheVariants as side
-use Rattle.simm_kinds.specs.declared.key.FactorKey.{FactorKey}
-use Rattle.simm_kinds.specs.Factors.{class_of, side_of, bucket_of}
-use Rattle.simm_kinds.specs.Order.{product_place, class_place, bucket_id_cmp}
+use Rattle.simm_rules.specs.SimmKinds.declared.kinds.Side.{Side}
+use Rattle.simm_rules.specs.SimmKinds.declared.kinds.Side.TheVariants as side
+use Rattle.simm_rules.specs.SimmKinds.declared.key.FactorKey.{FactorKey}
+use Rattle.simm_rules.specs.SimmKinds.Factors.{class_of, side_of, bucket_of}
+use Rattle.simm_rules.specs.SimmKinds.Order.{product_place, class_place, bucket_id_cmp}
 use Rattle.factor_book.specs.declared.place.BookSide.{BookSide}
 use Rattle.factor_book.specs.declared.place.BookSide.TheVariants as book
 use Rattle.factor_book.specs.declared.place.Place.{Place}

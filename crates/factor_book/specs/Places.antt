@@ -1,10 +1,10 @@
 -- The factors of a book place by place.
 use Rattle.std.specs.Prelude.{List, map, Bool, true, false, ◌&&◌}
 use Rattle.std.specs.List.{filter}
-use Rattle.simm_kinds.specs.declared.kinds.BucketId.{BucketId}
-use Rattle.simm_kinds.specs.declared.key.FactorKey.{FactorKey}
-use Rattle.simm_kinds.specs.Factors.{class_of, side_of, bucket_of}
-use Rattle.simm_kinds.specs.Order.{same_product, same_class, same_bucket_id, bucket_id_cmp}
+use Rattle.simm_rules.specs.SimmKinds.declared.kinds.BucketId.{BucketId}
+use Rattle.simm_rules.specs.SimmKinds.declared.key.FactorKey.{FactorKey}
+use Rattle.simm_rules.specs.SimmKinds.Factors.{class_of, side_of, bucket_of}
+use Rattle.simm_rules.specs.SimmKinds.Order.{same_product, same_class, same_bucket_id, bucket_id_cmp}
 use Rattle.simm_rules.specs.Sums.{different}
 use Rattle.factor_book.specs.declared.holding.Holding.{Holding}
 use Rattle.factor_book.specs.declared.place.BookSide.{BookSide}

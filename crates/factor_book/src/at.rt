@@ -1,5 +1,5 @@
 use crate::place::BookSide;
-use simm_kinds::{BucketId, ProductClass, RiskClass};
+use simm_rules::simm_kinds::{BucketId, ProductClass, RiskClass};
 
 /// One bucket of one risk class in one product class.
 #[derive(Clone, Copy)]

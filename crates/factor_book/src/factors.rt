@@ -2,10 +2,10 @@ ghost use Rattle.std.specs.Prelude.{◌≡◌, ◌≤◌, ◌∷◌, ◌++◌, L
 ghost use Rattle.std.specs.List.{list_all};
 ghost use Rattle.std.specs.Map.{lookup};
 ghost use Rattle.std.specs.Map.Iter.{ShowsInOrder, deref_pair};
-ghost use Rattle.simm_kinds.specs.declared.key.FactorKey.{FactorKey};
-ghost use Rattle.simm_kinds.specs.declared.row.CrifRow.{CrifRow as Row};
-ghost use Rattle.simm_kinds.specs.Batch.{is_in_range};
-ghost use Rattle.simm_kinds.specs.Order.{same_key};
+ghost use Rattle.simm_rules.specs.SimmKinds.declared.key.FactorKey.{FactorKey};
+ghost use Rattle.simm_rules.specs.SimmKinds.declared.row.CrifRow.{CrifRow as Row};
+ghost use Rattle.simm_rules.specs.SimmKinds.Batch.{is_in_range};
+ghost use Rattle.simm_rules.specs.SimmKinds.Order.{same_key};
 ghost use Rattle.simm_rules.specs.Net.{Sensitivity, sensitivity, sensitivities, net};
 ghost use Rattle.factor_book.specs.declared.place.Place.{Place};
 ghost use Rattle.factor_book.specs.declared.holding.Holding.{Holding};
@@ -20,8 +20,8 @@ use crate::holding::Holding;
 use crate::place::Place;
 use crate::place_factors::PlaceFactors;
 use crate::side_places::side_bounds;
-use mh_units::Cents;
-use simm_kinds::{CrifRow, FactorKey};
+use simm_rules::mh_units::Cents;
+use simm_rules::simm_kinds::{CrifRow, FactorKey};
 use std::alloc::{AllocError, Global};
 use std::collections::BTreeMap;
 use std::collections::btree_map::{Iter, Range};
@@ -40,7 +40,7 @@ pub struct Factors {
 
 impl Model for Factors {
     ghost use Rattle.std.specs.Prelude.{List};
-    ghost use Rattle.simm_kinds.specs.declared.key.FactorKey.{FactorKey};
+    ghost use Rattle.simm_rules.specs.SimmKinds.declared.key.FactorKey.{FactorKey};
     ghost use Rattle.factor_book.specs.declared.holding.Holding.{Holding};
     ghost use Rattle.factor_book.specs.Filing.{gathered, IsFiledBook};
 

@@ -1,14 +1,14 @@
 //! Sensitivities go into the factors of their place, and out of them.
 ghost use Rattle.std.specs.Prelude.{◌≡◌, [], cond, is_none, true, false, Some, IfSome, IsSomeAnd, IfOk, OnOk, OnErr};
-ghost use Rattle.simm_kinds.specs.declared.key.FactorKey.{FactorKey};
-ghost use Rattle.simm_kinds.specs.Order.{same_key};
+ghost use Rattle.simm_rules.specs.SimmKinds.declared.key.FactorKey.{FactorKey};
+ghost use Rattle.simm_rules.specs.SimmKinds.Order.{same_key};
 ghost use Rattle.factor_book.specs.Holdings.{CanGrow, CanShrink, IsSmall, grown, shrunk};
 ghost use Rattle.factor_book.specs.Filing.{AreFiled, TakesAt, found};
 
 use crate::place::Place;
 use crate::place_factors::PlaceFactors;
-use mh_units::Cents;
-use simm_kinds::FactorKey;
+use simm_rules::mh_units::Cents;
+use simm_rules::simm_kinds::FactorKey;
 use std::alloc::{AllocError, Global};
 use std::collections::BTreeMap;
 

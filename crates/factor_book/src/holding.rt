@@ -1,7 +1,7 @@
 ghost use Rattle.std.specs.Prelude.{◌≡◌, Some, pos, unsigned_abs};
 ghost use Rattle.factor_book.specs.Holdings.{CanGrow, CanShrink, IsSmall, first, grown, shrunk};
 
-use mh_units::Cents;
+use simm_rules::mh_units::Cents;
 
 /// What the sensitivities of one key come to.
 #[derive(Clone, Copy)]

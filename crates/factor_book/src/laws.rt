@@ -1,9 +1,9 @@
 //! What the factors of rows depend on.
 ghost use Rattle.std.specs.Prelude.{◌≡◌, ◌++◌, Bool, true, List, map, length, ℤ, pos, ◌*ℤ◌, unsigned_abs, IsPermutation};
 ghost use Rattle.std.specs.List.{filter, list_all, AllByRecursion};
-ghost use Rattle.simm_kinds.specs.declared.key.FactorKey.{FactorKey};
-ghost use Rattle.simm_kinds.specs.declared.row.CrifRow.{CrifRow as Row};
-ghost use Rattle.simm_kinds.specs.Batch.{is_in_range};
+ghost use Rattle.simm_rules.specs.SimmKinds.declared.key.FactorKey.{FactorKey};
+ghost use Rattle.simm_rules.specs.SimmKinds.declared.row.CrifRow.{CrifRow as Row};
+ghost use Rattle.simm_rules.specs.SimmKinds.Batch.{is_in_range};
 ghost use Rattle.simm_rules.specs.Sums.{total_by};
 ghost use Rattle.simm_rules.specs.Net.{Sensitivity, sensitivities, net, netted};
 ghost use Rattle.factor_book.specs.Factors.{factors_in, factors_of, net_of, size_of, count_of, IsWithin};

@@ -18,3 +18,7 @@ pub use holding::Holding;
 pub use laws::{factors_are_netted, order_is_free};
 pub use place::{BookSide, Place};
 pub use place_factors::PlaceFactors;
+
+// what the crates above reach through this one
+pub use simm_rules;
+pub use simm_rules::{mh_units, simm_kinds};

@@ -1,7 +1,7 @@
 ghost use Rattle.std.specs.Prelude.{◌≡◌};
 ghost use Rattle.factor_book.specs.Place.{book_side, place_of};
 
-use simm_kinds::{BucketId, FactorKey, ProductClass, RiskClass, Side};
+use simm_rules::simm_kinds::{BucketId, FactorKey, ProductClass, RiskClass, Side};
 
 /// A side of a risk class, whose sensitivities are counted and sized together.
 #[derive(Clone, Copy, PartialEq, Eq, PartialOrd, Ord)]

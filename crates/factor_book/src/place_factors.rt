@@ -2,14 +2,14 @@ ghost use Rattle.std.specs.Prelude.{◌≡◌, [], List, cond, is_none, length, 
 ghost use Rattle.std.specs.Map.{lookup, keys_of};
 ghost use Rattle.std.specs.Map.Iter.{ShowsInOrder, deref_pair};
 ghost use Rattle.std.specs.List.Sorted.{IsStrictlySortedBy};
-ghost use Rattle.simm_kinds.specs.declared.key.FactorKey.{FactorKey};
-ghost use Rattle.simm_kinds.specs.Order.{same_key, key_cmp};
+ghost use Rattle.simm_rules.specs.SimmKinds.declared.key.FactorKey.{FactorKey};
+ghost use Rattle.simm_rules.specs.SimmKinds.Order.{same_key, key_cmp};
 ghost use Rattle.factor_book.specs.declared.holding.Holding.{Holding};
 ghost use Rattle.factor_book.specs.Holdings.{CanGrow, CanShrink, IsSmall, grown, shrunk};
 
 use crate::holding::Holding;
-use mh_units::Cents;
-use simm_kinds::FactorKey;
+use simm_rules::mh_units::Cents;
+use simm_rules::simm_kinds::FactorKey;
 use std::alloc::{AllocError, Global};
 use std::collections::BTreeMap;
 use std::collections::btree_map::Iter;
@@ -24,7 +24,7 @@ pub struct PlaceFactors {
 
 impl Model for PlaceFactors {
     ghost use Rattle.std.specs.Prelude.{List};
-    ghost use Rattle.simm_kinds.specs.declared.key.FactorKey.{FactorKey};
+    ghost use Rattle.simm_rules.specs.SimmKinds.declared.key.FactorKey.{FactorKey};
     ghost use Rattle.factor_book.specs.declared.holding.Holding.{Holding};
 
     ghost Value = { List (FactorKey × Holding) };

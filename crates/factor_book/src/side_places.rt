@@ -2,8 +2,8 @@
 ghost use Rattle.std.specs.Prelude.{◌≡◌, ◌+◌, MatchOption};
 ghost use Rattle.std.specs.BTreeMap.Range.{IsLeBy, IsLtBy, range_contains};
 ghost use Rattle.std.specs.Bound.{IsForward};
-ghost use Rattle.simm_kinds.specs.Order.{product_place, class_place};
-ghost use Rattle.simm_kinds.specs.declared.kinds.BucketId.TheVariants as id;
+ghost use Rattle.simm_rules.specs.SimmKinds.Order.{product_place, class_place};
+ghost use Rattle.simm_rules.specs.SimmKinds.declared.kinds.BucketId.TheVariants as id;
 ghost use Rattle.factor_book.specs.declared.place.Place.{Place};
 ghost use Rattle.factor_book.specs.Place.{place_cmp};
 ghost use Rattle.factor_book.specs.Places.{place_in};
@@ -11,7 +11,7 @@ ghost use Rattle.factor_book.specs.Filing.{is_of, sides_before};
 
 use crate::at::SideAt;
 use crate::place::{BookSide, Place};
-use simm_kinds::{BucketId, ProductClass, RiskClass};
+use simm_rules::simm_kinds::{BucketId, ProductClass, RiskClass};
 use std::ops::Bound;
 
 /// The bounds of the places of a side.

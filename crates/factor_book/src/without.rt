@@ -1,6 +1,6 @@
 //! What is left of a book when some of its rows go: which keys go with them, before any row is taken.
 ghost use Rattle.std.specs.Prelude.{◌≡◌, ◌+◌, ◌≤◌, List, length, count_by};
-ghost use Rattle.simm_kinds.specs.declared.key.FactorKey.{FactorKey};
+ghost use Rattle.simm_rules.specs.SimmKinds.declared.key.FactorKey.{FactorKey};
 ghost use Rattle.factor_book.specs.declared.holding.Holding.{Holding};
 ghost use Rattle.factor_book.specs.Factors.{IsWithout};
 ghost use Rattle.factor_book.specs.Holdings.{goes};

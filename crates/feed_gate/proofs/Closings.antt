@@ -3,10 +3,10 @@ use Rattle.std.proofs.Common.{◌≡◌, ℕ, zero, suc, ◌+◌, arith, List, [
 use Rattle.std.specs.List.{slice_get}
 use Rattle.std.proofs.lemmas.Option.{none-some, same_Some}
 use Rattle.std.proofs.lemmas.List.{same_from_push, take_all}
-use Rattle.held_cell.specs.declared.entry.Entry.{Entry}
-use Rattle.held_cell.specs.Entries.{own_of}
-use Rattle.held_cell.specs.Seats.{IsJoined}
-use Rattle.held_cell.proofs.Owns.{own_within}
+use Rattle.set_core.specs.HeldCell.declared.entry.Entry.{Entry}
+use Rattle.set_core.specs.HeldCell.Entries.{own_of}
+use Rattle.set_core.specs.HeldCell.Seats.{IsJoined}
+use Rattle.set_core.proofs.HeldCell.Owns.{own_within}
 use Rattle.set_core.specs.declared.event.Event.{Event}
 use Rattle.set_core.specs.declared.reply.Reply.{Reply}
 use Rattle.set_core.specs.Set.{Set}

@@ -5,9 +5,9 @@ use Rattle.std.specs.Option.{is_none}
 use Rattle.std.proofs.lemmas.List.{map-append}
 use Rattle.std.proofs.lemmas.List.Elements.{filter_map-append}
 use Rattle.std.proofs.lemmas.List.Sums.{sum_by-append}
-use Rattle.mh_io.specs.Source.{SourceSeen}
-use Rattle.mh_io.specs.Lined.{Lined}
-use Rattle.simm_kinds.specs.Order.{same_name}
+use Rattle.feed_reader.specs.MhIo.Source.{SourceSeen}
+use Rattle.feed_reader.specs.MhIo.Lined.{Lined}
+use Rattle.crif_reader.specs.SimmKinds.Order.{same_name}
 use Rattle.feed_reader.specs.declared.message.Fed.{Fed}
 use Rattle.feed_reader.specs.Feed.{Item, Sent, BadAt, line_of}
 use Rattle.feed_reader.specs.Answers.{TellsItems, ComesTo}

@@ -5,11 +5,11 @@ use Rattle.std.specs.Option.{is_none}
 use Rattle.std.proofs.lemmas.List.{map-append}
 use Rattle.std.proofs.lemmas.List.Elements.{filter_map-append}
 use mathlib.Core.List.{IsPrefix}
-use Rattle.held_cell.specs.declared.entry.Entry.{Entry}
-use Rattle.held_cell.specs.Entries.{entry, own_of}
-use Rattle.held_cell.specs.Seats.{HasOwn}
-use Rattle.held_cell.specs.Calls.{IsSameSeat}
-use Rattle.held_cell.proofs.Begins.{prefix_self, prefix_trans}
+use Rattle.set_core.specs.HeldCell.declared.entry.Entry.{Entry}
+use Rattle.set_core.specs.HeldCell.Entries.{entry, own_of}
+use Rattle.set_core.specs.HeldCell.Seats.{HasOwn}
+use Rattle.set_core.specs.HeldCell.Calls.{IsSameSeat}
+use Rattle.set_core.proofs.HeldCell.Begins.{prefix_self, prefix_trans}
 use Rattle.set_core.specs.declared.event.Event.{Event}
 use Rattle.set_core.specs.declared.reply.Reply.{Reply}
 use Rattle.feed_gate.specs.declared.report.RefusedMessage.{RefusedMessage}

@@ -2,10 +2,10 @@
 use Rattle.std.proofs.Common.{◌≡◌, ℕ, ◌+◌, ◌-◌, ◌<◌, arith, List, [], ◌∷◌, ◌++◌, length, map, drop, get_or, All, refl, sym, ap, ◌∙◌, subst, length-append}
 use Rattle.std.specs.List.{AllZip}
 use Rattle.std.proofs.lemmas.List.{get_or_at, get_or-drop, map-append, length-map}
-use Rattle.held_cell.specs.Entries.{own_of}
-use Rattle.held_cell.specs.Seats.{left_seat, right_seat}
+use Rattle.set_core.specs.HeldCell.Entries.{own_of}
+use Rattle.set_core.specs.HeldCell.Seats.{left_seat, right_seat}
 use Rattle.feed_reader.specs.Answers.{fresh}
-use Rattle.mh_io.specs.Lined.{Lined}
+use Rattle.feed_reader.specs.MhIo.Lined.{Lined}
 use Rattle.feed_gate.specs.declared.job.FeedJob.{FeedJob}
 use Rattle.feed_gate.specs.Seats.{Cell, Seat}
 use Rattle.feed_gate.specs.Share.{IsUnused, AreRows}

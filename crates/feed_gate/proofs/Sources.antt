@@ -5,10 +5,10 @@ use Rattle.std.specs.Option.{option_map}
 use Rattle.std.proofs.lemmas.List.{length-map}
 use Rattle.std.proofs.lemmas.List.Elements.{All-nil, All-cons, recursion_from_All}
 use Rattle.std.proofs.lemmas.Option.{slice_get-map, slice_get-get_or, slice_get_within}
-use Rattle.simm_kinds.specs.Order.{same_name}
-use Rattle.mh_io.specs.Source.{SourceSeen}
-use Rattle.mh_io.specs.Lined.{is_ended}
-use Rattle.held_cell.specs.declared.entry.Entry.{Entry}
+use Rattle.crif_reader.specs.SimmKinds.Order.{same_name}
+use Rattle.feed_reader.specs.MhIo.Source.{SourceSeen}
+use Rattle.feed_reader.specs.MhIo.Lined.{is_ended}
+use Rattle.set_core.specs.HeldCell.declared.entry.Entry.{Entry}
 use Rattle.set_core.specs.declared.event.Event.{Event}
 use Rattle.set_core.specs.declared.reply.Reply.{Reply}
 use Rattle.set_core.specs.Set.{Set}

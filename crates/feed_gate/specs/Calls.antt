@@ -1,7 +1,7 @@
 -- The calls of a feed on a set.
 use Rattle.std.specs.Prelude.{ℕ, List, Option, None, Result, Ok, if◌then◌else◌}
 use Rattle.std.specs.Result.{result_map_both, result_ok}
-use Rattle.simm_kinds.specs.Order.{same_name}
+use Rattle.crif_reader.specs.SimmKinds.Order.{same_name}
 use Rattle.crif_reader.specs.declared.fault.CrifFault.{CrifFault}
 use Rattle.crif_reader.specs.Grammar.{crif_of}
 use Rattle.feed_reader.specs.declared.message.Message.{Message}

@@ -1,6 +1,6 @@
 -- What a message comes to by its text alone: a call on a set, or a refusal with its cause.
 use Rattle.std.specs.Prelude.{ℕ, List, Option, Some, None, Result, Ok, Err, position}
-use Rattle.simm_kinds.specs.Order.{same_name}
+use Rattle.crif_reader.specs.SimmKinds.Order.{same_name}
 use Rattle.crif_reader.specs.declared.fault.CrifFault.{CrifFault}
 use Rattle.feed_reader.specs.declared.message.Fed.{Fed}
 use Rattle.feed_reader.specs.Feed.{Item, Sent, BadAt}

@@ -2,10 +2,10 @@
 use Rattle.std.specs.Prelude.{◌≡◌, ℕ, List, [], ◌∷◌, ◌++◌, map, Option, Some, None}
 use Rattle.std.specs.List.{AllByRecursion}
 use mathlib.Core.List.{IsPrefix}
-use Rattle.mh_io.specs.Source.{SourceSeen}
-use Rattle.mh_io.specs.Lined.{Lined}
-use Rattle.held_cell.specs.Seats.{HasOwn}
-use Rattle.held_cell.specs.Calls.{IsSameSeat}
+use Rattle.feed_reader.specs.MhIo.Source.{SourceSeen}
+use Rattle.feed_reader.specs.MhIo.Lined.{Lined}
+use Rattle.set_core.specs.HeldCell.Seats.{HasOwn}
+use Rattle.set_core.specs.HeldCell.Calls.{IsSameSeat}
 use Rattle.feed_reader.specs.Feed.{Item, line_of}
 use Rattle.feed_reader.specs.Answers.{TellsItems}
 use Rattle.feed_gate.specs.declared.report.RefusedMessage.{RefusedMessage}

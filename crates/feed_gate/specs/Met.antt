@@ -2,8 +2,8 @@
 use Rattle.std.specs.Prelude.{◌≡◌, ℕ, ◌<◌, List, [], ◌∷◌, ◌++◌, length, map, Option, Some, None, is_none, if◌then◌else◌}
 use Rattle.std.specs.List.{filter_map, count_by}
 use mathlib.Core.List.{IsPrefix}
-use Rattle.held_cell.specs.declared.entry.Entry.{Entry}
-use Rattle.held_cell.specs.Entries.{own_of}
+use Rattle.set_core.specs.HeldCell.declared.entry.Entry.{Entry}
+use Rattle.set_core.specs.HeldCell.Entries.{own_of}
 use Rattle.feed_reader.specs.Feed.{Item}
 use Rattle.set_core.specs.declared.event.Event.{Event}
 use Rattle.set_core.specs.declared.reply.Reply.{Reply}

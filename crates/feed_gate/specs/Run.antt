@@ -1,11 +1,11 @@
 -- The report of a feed, and how a feed ends.
 use Rattle.std.specs.Prelude.{◌≡◌, ℕ, ◌+◌, List, [], ◌∷◌, ◌++◌, length, Bool, Option, Some, None}
-use Rattle.mh_io.specs.Source.{SourceSeen}
-use Rattle.mh_io.specs.Lines as cut
-use Rattle.mh_io.specs.Lines.{lines}
-use Rattle.mh_io.specs.Lined.{Lined}
-use Rattle.mh_io.specs.declared.lines_answer.Supply.TheVariants as supply
-use Rattle.mh_io.specs.Limits.{most_bytes}
+use Rattle.feed_reader.specs.MhIo.Source.{SourceSeen}
+use Rattle.feed_reader.specs.MhIo.Lines as cut
+use Rattle.feed_reader.specs.MhIo.Lines.{lines}
+use Rattle.feed_reader.specs.MhIo.Lined.{Lined}
+use Rattle.feed_reader.specs.MhIo.declared.lines_answer.Supply.TheVariants as supply
+use Rattle.feed_reader.specs.MhIo.Limits.{most_bytes}
 use Rattle.feed_reader.specs.Feed as message
 use Rattle.feed_reader.specs.Feed.{Item, items_of, feed}
 use Rattle.feed_reader.specs.Answers.{ComesTo, ReadsFeed, GoesOn}

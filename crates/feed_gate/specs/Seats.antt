@@ -1,11 +1,11 @@
 -- The seats by which a feed calls its sets, one for each set, and what one call makes of a seat.
 use Rattle.std.specs.Prelude.{◌≡◌, ◌≢◌, ℕ, ◌≤◌, List, length, Some, slice_get}
 use Rattle.std.specs.List.{IsDistinct}
-use Rattle.simm_kinds.specs.Order.{same_name}
-use Rattle.simm_rules.specs.Params.{Params}
-use Rattle.csa_terms.specs.Terms.{Agreement}
-use Rattle.held_cell.specs.Seats.{CellState, SeatState, IsSeatOf, HasOwn}
-use Rattle.held_cell.specs.Calls.{SeesMore, AddsCall}
+use Rattle.crif_reader.specs.SimmKinds.Order.{same_name}
+use Rattle.set_core.specs.SimmRules.Params.{Params}
+use Rattle.feed_reader.specs.CsaTerms.Terms.{Agreement}
+use Rattle.set_core.specs.HeldCell.Seats.{CellState, SeatState, IsSeatOf, HasOwn}
+use Rattle.set_core.specs.HeldCell.Calls.{SeesMore, AddsCall}
 use Rattle.set_core.specs.declared.event.Event.{Event}
 use Rattle.set_core.specs.declared.reply.Reply.{Reply}
 use Rattle.set_core.specs.Room.{journal_rows, IsFull}

@@ -1,7 +1,7 @@
 -- Sets that feeds can call: at most sixteen, of different names.
 use Rattle.std.specs.Prelude.{List, ◌≤◌, length, map}
 use Rattle.std.specs.List.{IsDistinct}
-use Rattle.simm_kinds.specs.Order.{same_name}
+use Rattle.crif_reader.specs.SimmKinds.Order.{same_name}
 use Rattle.set_core.specs.Set.{Set}
 
 pub record AreApart (sets : List Set) : Type 0 where

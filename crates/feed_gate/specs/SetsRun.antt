@@ -2,12 +2,12 @@
 use Rattle.std.specs.Prelude.{◌≡◌, ℕ, ◌+◌, ◌≤◌, List, [], ◌∷◌, length, map, Bool, true}
 use Rattle.std.specs.List.{AllByRecursion, AllZip}
 use Rattle.std.specs.Io.KnownBytes.{IsAtEnd}
-use Rattle.mh_io.specs.Source.{SourceSeen}
-use Rattle.mh_io.specs.Source as source
-use Rattle.mh_io.specs.Faults.{Rises}
-use Rattle.mh_io.specs.Limits.{most_bytes}
-use Rattle.held_cell.specs.declared.entry.Entry.{Entry}
-use Rattle.held_cell.specs.Entries.{own_of}
+use Rattle.feed_reader.specs.MhIo.Source.{SourceSeen}
+use Rattle.feed_reader.specs.MhIo.Source as source
+use Rattle.feed_reader.specs.MhIo.Faults.{Rises}
+use Rattle.feed_reader.specs.MhIo.Limits.{most_bytes}
+use Rattle.set_core.specs.HeldCell.declared.entry.Entry.{Entry}
+use Rattle.set_core.specs.HeldCell.Entries.{own_of}
 use Rattle.set_core.specs.declared.event.Event.{Event}
 use Rattle.set_core.specs.declared.reply.Reply.{Reply}
 use Rattle.set_core.specs.Set.{Set, IsSet}

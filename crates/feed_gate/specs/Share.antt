@@ -2,9 +2,9 @@
 use Rattle.std.specs.Prelude.{◌≡◌, ℕ, ◌+◌, List, [], ◌∷◌, ◌++◌, Some, slice_get}
 use Rattle.std.specs.List.{AllZip}
 use mathlib.Core.List.{IsPrefix}
-use Rattle.held_cell.specs.declared.entry.Entry.{Entry}
-use Rattle.held_cell.specs.Entries.{own_of}
-use Rattle.held_cell.specs.Seats.{IsSeatOf}
+use Rattle.set_core.specs.HeldCell.declared.entry.Entry.{Entry}
+use Rattle.set_core.specs.HeldCell.Entries.{own_of}
+use Rattle.set_core.specs.HeldCell.Seats.{IsSeatOf}
 use Rattle.set_core.specs.declared.event.Event.{Event}
 use Rattle.set_core.specs.declared.reply.Reply.{Reply}
 use Rattle.set_core.specs.Set.{Set, base_of, IsSet}

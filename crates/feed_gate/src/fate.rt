@@ -9,11 +9,11 @@ ghost use Rattle.feed_gate.specs.Calls.{set_of, submit_of, event_of};
 ghost use Rattle.feed_gate.specs.Fates.{place_of, fate_of};
 
 use crate::RefusedMessage;
+use crif_reader::simm_kinds::Name;
 use crif_reader::{CrifFault, read_batch};
+use feed_reader::mh_units::Bytes;
 use feed_reader::{Fed, Message};
-use mh_units::Bytes;
 use set_core::Event;
-use simm_kinds::Name;
 use std::alloc::{AllocError, Global};
 
 /// A call on the set at a place, from 0, of the message that begins in a line.

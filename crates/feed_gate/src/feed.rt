@@ -1,6 +1,6 @@
 //! A feed from its next line to its end.
 ghost use Rattle.std.specs.Prelude.{◌≡◌, ◌^◌, ◌-◌, ◌<◌, ◌≤◌, List, None, Some};
-ghost use Rattle.mh_io.specs.Lined.{Lined};
+ghost use Rattle.feed_reader.specs.MhIo.Lined.{Lined};
 ghost use Rattle.feed_reader.specs.Feed.{Item, Sent};
 ghost use Rattle.feed_reader.specs.Answers.{TellsItems};
 ghost use Rattle.feed_gate.specs.declared.report.RefusedMessage.TheVariants as refused;
@@ -11,11 +11,11 @@ ghost use Rattle.feed_gate.specs.Jobs.{Takes, Meets, RanFeed};
 use crate::fate::fate_of;
 use crate::set_call::make_call;
 use crate::{FeedEnd, FeedJob, FeedReport, Gate, RefusedMessage};
+use crif_reader::simm_kinds::Name;
+use feed_reader::mh_io::Source;
 use feed_reader::{Fed, FeedFault, next_message};
-use held_cell::HeldCell;
-use mh_io::Source;
 use set_core::SetState;
-use simm_kinds::Name;
+use set_core::held_cell::HeldCell;
 use std::alloc::Global;
 use std::sync::Wait;
 

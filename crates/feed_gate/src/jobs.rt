@@ -6,10 +6,10 @@ ghost use Rattle.feed_gate.specs.Jobs.{RanFeed};
 
 use crate::feed::run_feed;
 use crate::{FeedJob, Gate};
-use held_cell::HeldCell;
-use mh_io::Source;
+use crif_reader::simm_kinds::Name;
+use feed_reader::mh_io::Source;
 use set_core::SetState;
-use simm_kinds::Name;
+use set_core::held_cell::HeldCell;
 use std::alloc::Global;
 use std::sync::Wait;
 use std::thread::{Threads, for_each_mut};

@@ -3,7 +3,7 @@ ghost use Rattle.feed_gate.specs.Numbers.{refused_number};
 ghost use Rattle.feed_gate.specs.Run.{no_report};
 
 use crif_reader::CrifFault;
-use simm_kinds::Listed;
+use crif_reader::simm_kinds::Listed;
 use std::alloc::Global;
 
 /// A message that made no call. `line` is the number of its first line, from 1.

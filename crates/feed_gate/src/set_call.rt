@@ -1,13 +1,13 @@
 //! A call on the set of a message, by the feed's seat of it.
 ghost use Rattle.std.specs.Prelude.{IfOk, OnErr, length};
-ghost use Rattle.held_cell.specs.Seats.{IsSeatOf};
+ghost use Rattle.set_core.specs.HeldCell.Seats.{IsSeatOf};
 ghost use Rattle.feed_gate.specs.Seats.{AreSeats, AllSee, Sees};
 ghost use Rattle.feed_gate.specs.Met.{MayBeFull, CallsSeat, MeetsFate, IsWithin};
 
 use crate::fate::{Call, Fate};
 use crate::{Gate, RefusedMessage};
-use held_cell::{HeldCell, Outcome, Seat};
 use set_core::SetState;
+use set_core::held_cell::{HeldCell, Outcome, Seat};
 use std::alloc::AllocError;
 use std::sync::Wait;
 

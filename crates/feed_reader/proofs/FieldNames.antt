@@ -3,10 +3,10 @@ use Rattle.std.proofs.Common.{◌≡◌, ◌<◌, ◌==◌, ◌∷◌, [], ◌++
 use Rattle.std.specs.List.{list_all}
 use Rattle.std.proofs.lemmas.List.{append-nil}
 use Rattle.std.proofs.lemmas.List.Folds.{list_all-append}
-use Rattle.simm_kinds.specs.NameText.{is_full_name}
+use Rattle.csa_terms.specs.SimmKinds.NameText.{is_full_name}
 use Rattle.feed_reader.specs.Fields.{fields_of, first, is_nil}
 use Rattle.feed_reader.specs.Values.{full_name, full_names}
-use Rattle.mh_units.proofs.Cuts.{first_part}
+use Rattle.mh_io.proofs.MhUnits.Cuts.{first_part}
 
 -- a line has a field
 pub some_field : (line : List ℕ) → false ≡ is_nil (fields_of line)

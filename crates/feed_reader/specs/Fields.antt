@@ -1,6 +1,6 @@
 -- Feed grammar: the fields of a line, and what reading them one after another gives.
 use Rattle.std.specs.Prelude.{◌≡◌, ℕ, List, [], ◌∷◌, Bool, true, false, if◌then◌else◌, Option, Some, None, option_map, option_and_then, Result, Ok, Err}
-use Rattle.mh_units.specs.Cut.{parts_at}
+use Rattle.mh_io.specs.MhUnits.Cut.{parts_at}
 use Rattle.feed_reader.specs.declared.fields.Fields.{Fields}
 use Rattle.feed_reader.specs.declared.unread.Unread.{Unread}
 use Rattle.feed_reader.specs.declared.unread.Unread.TheVariants as unread

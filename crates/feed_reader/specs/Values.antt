@@ -4,8 +4,8 @@ use Rattle.std.specs.List.{list_all}
 use Rattle.std.specs.Result.{result_ok}
 use Rattle.std.specs.Str.{bytes_eq, all_ascii_digits}
 use Rattle.std.specs.Str.Parse.{digits_value}
-use Rattle.mh_units.specs.Numeral.{cents_of}
-use Rattle.simm_kinds.specs.NameText.{is_full_name}
+use Rattle.mh_io.specs.MhUnits.Numeral.{cents_of}
+use Rattle.csa_terms.specs.SimmKinds.NameText.{is_full_name}
 use Rattle.csa_terms.specs.declared.lot_currency.LotCurrency.{LotCurrency}
 use Rattle.csa_terms.specs.declared.lot_currency.LotCurrency.TheVariants.{Same, Other}
 use Rattle.feed_reader.specs.Fields.{is_nil}

@@ -7,8 +7,8 @@ ghost use Rattle.mh_io.specs.Lined.{IsStopped, ComesWhere};
 ghost use Rattle.mh_io.specs.Lined as reader;
 
 use crate::words::{is_end, is_passed_over};
+use mh_io::mh_units::Bytes;
 use mh_io::{LineFault, LineStep, Lines, Source};
-use mh_units::Bytes;
 
 /// Gives the next line that isn't passed over outside a block.
 pub(crate) fn skip_to_line<S: Source>(

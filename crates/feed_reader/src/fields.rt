@@ -9,9 +9,9 @@ ghost use Rattle.feed_reader.specs.Words.{word_of};
 use crate::unread::Unread;
 use crate::values::{cents_in, currency_in, number_in};
 use crate::words::Word;
+use csa_terms::simm_kinds::{Listed, Name};
 use csa_terms::{LotCurrency, Moment};
-use mh_units::cut_at;
-use simm_kinds::{Listed, Name};
+use mh_io::mh_units::cut_at;
 use std::alloc::Global;
 
 /// What separates the fields of a line.

@@ -15,3 +15,8 @@ mod words;
 pub use fault::FeedFault;
 pub use message::{Fed, Message};
 pub use read::next_message;
+
+// what the crates above reach through this one
+pub use csa_terms;
+pub use mh_io;
+pub use mh_io::mh_units;

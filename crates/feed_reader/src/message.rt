@@ -1,6 +1,6 @@
+use csa_terms::simm_kinds::{Listed, Name};
 use csa_terms::{LotCurrency, Moment};
-use mh_units::Bytes;
-use simm_kinds::{Listed, Name};
+use mh_io::mh_units::Bytes;
 
 /// A message of a feed. Names are not empty, amounts are in cents. Its fields stand in a line with tabs between.
 #[derive(Drop)]

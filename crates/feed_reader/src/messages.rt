@@ -7,7 +7,7 @@ use crate::fields::Fields;
 use crate::message::{Meaning, Message};
 use crate::unread::Unread;
 use crate::words::Word;
-use simm_kinds::Name;
+use csa_terms::simm_kinds::Name;
 use std::alloc::Global;
 
 /// The set that is the only field.

@@ -11,9 +11,9 @@ use crate::block::{read_block, skip_to_line};
 use crate::line::read_line;
 use crate::message::Meaning;
 use crate::{Fed, FeedFault, Message};
+use csa_terms::simm_kinds::Name;
+use mh_io::mh_units::Bytes;
 use mh_io::{LineFault, LineStep, Lines, Source};
-use mh_units::Bytes;
-use simm_kinds::Name;
 use std::alloc::Global;
 
 /// A line's fault as one of the feed: a long line is the one numbered `next`, and memory was wanted for the message that

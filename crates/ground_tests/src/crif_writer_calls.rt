@@ -1,5 +1,5 @@
 use crate::makers::{is_rewritten, trade, written};
-use simm_kinds::{Batch, Listed};
+use crif_writer::simm_kinds::{Batch, Listed};
 use std::process::Abort;
 
 /// A batch as it is written: the name of one of its two trades has a quote, which csv doubles between quotes.

@@ -1,10 +1,10 @@
 //! What the tests are made of: trades, and batches as they are read and written.
-use crif_reader::read_batch;
-use crif_writer::write_batch;
-use mh_units::{Cents, Text};
-use simm_kinds::{
+use crif_writer::crif_reader::read_batch;
+use crif_writer::simm_kinds::{
     Batch, CrifRow, Currency, Factor, FactorKey, Listed, Name, ProductClass, TradeRows,
 };
+use crif_writer::write_batch;
+use mh_io::mh_units::{Cents, Text};
 use std::process::Abort;
 
 fn name(rt: &(impl Abort + AllocGlobal), text: &str) -> Name {

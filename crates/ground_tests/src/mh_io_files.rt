@@ -1,5 +1,5 @@
+use mh_io::mh_units::Bytes;
 use mh_io::{Folder, PutFault, RealFolder, RealSink, put_all, read_all};
-use mh_units::Bytes;
 use std::fs;
 use std::process::Abort;
 

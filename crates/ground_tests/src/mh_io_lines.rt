@@ -1,7 +1,7 @@
 ghost use Rattle.std.specs.Prelude.{None};
 
+use mh_io::mh_units::Bytes;
 use mh_io::{Failed, LINE_BYTES, LineFault, Source, lines_of};
-use mh_units::Bytes;
 
 // A line of `x` without end.
 #[derive(Drop)]

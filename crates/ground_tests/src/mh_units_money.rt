@@ -1,4 +1,4 @@
-use mh_units::{Cents, write_cents};
+use mh_io::mh_units::{Cents, write_cents};
 
 /// Cents, and the amount of money that they are.
 static AMOUNTS: [(i128, &str); 4] = [

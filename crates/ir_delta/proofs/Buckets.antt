@@ -2,18 +2,18 @@
 use Rattle.std.proofs.Common.{◌≡◌, ℕ, List, map, length, Result, Ok, Err, IfOk, ◌⊎◌, ⊎_elim, refl, sym, ap, ◌∙◌, subst, ℤ, pos, arith}
 use Rattle.std.proofs.lemmas.Int.{ints}
 use Rattle.std.proofs.lemmas.List.{length-map}
-use Rattle.mh_units.specs.Rounding.{up, clamp}
-use Rattle.simm_kinds.specs.declared.kinds.ProductClass.{ProductClass}
-use Rattle.simm_kinds.specs.declared.kinds.RiskClass.{RiskClass}
-use Rattle.simm_kinds.specs.declared.kinds.RiskClass.TheVariants as class
-use Rattle.simm_kinds.specs.declared.kinds.BucketId.{BucketId}
-use Rattle.simm_kinds.specs.declared.kinds.BucketId.TheVariants as id
-use Rattle.simm_kinds.specs.declared.key.FactorKey.{FactorKey}
-use Rattle.simm_rules.specs.declared.values.BucketMargin.{BucketMargin}
-use Rattle.simm_rules.specs.Params.{Params}
-use Rattle.simm_rules.specs.Net.{Sensitivity}
-use Rattle.simm_rules.specs.Concentration.{one}
-use Rattle.simm_rules.specs.Rates.{rates_in, currency_value}
+use Rattle.simm_params.specs.MhUnits.Rounding.{up, clamp}
+use Rattle.simm_params.specs.SimmKinds.declared.kinds.ProductClass.{ProductClass}
+use Rattle.simm_params.specs.SimmKinds.declared.kinds.RiskClass.{RiskClass}
+use Rattle.simm_params.specs.SimmKinds.declared.kinds.RiskClass.TheVariants as class
+use Rattle.simm_params.specs.SimmKinds.declared.kinds.BucketId.{BucketId}
+use Rattle.simm_params.specs.SimmKinds.declared.kinds.BucketId.TheVariants as id
+use Rattle.simm_params.specs.SimmKinds.declared.key.FactorKey.{FactorKey}
+use Rattle.simm_params.specs.SimmRules.declared.values.BucketMargin.{BucketMargin}
+use Rattle.simm_params.specs.SimmRules.Params.{Params}
+use Rattle.simm_params.specs.SimmRules.Net.{Sensitivity}
+use Rattle.simm_params.specs.SimmRules.Concentration.{one}
+use Rattle.simm_params.specs.SimmRules.Rates.{rates_in, currency_value}
 use Rattle.simm_params.specs.Facts.{IsParams}
 use Rattle.factor_book.specs.declared.at.BucketAt.{BucketAt}
 use Rattle.factor_book.specs.declared.place.Place.{Place}
@@ -21,7 +21,7 @@ use Rattle.factor_book.specs.declared.place.BookSide.TheVariants as side
 use Rattle.factor_book.specs.declared.holding.Holding.{Holding}
 use Rattle.factor_book.specs.Factors.{IsBook}
 use Rattle.factor_book.specs.Places.{factors_at}
-use Rattle.pair_sum.proofs.RootBounds.{root_none}
+use Rattle.weighted_bucket.proofs.PairSums.RootBounds.{root_none}
 use Rattle.ir_delta.specs.declared.nets.RateNet.{RateNet}
 use Rattle.ir_delta.specs.Rate.{amount_of, amounts, net_alone}
 use Rattle.ir_delta.specs.Bucket.{place_of, nets_of, rates_at, no_rates, delta_value}

@@ -2,10 +2,10 @@
 use Rattle.std.proofs.Common.{◌≡◌, ◌^◌, ◌*◌, ℕ, ◌≤◌, List, ap, sym, subst, ℤ, pos, ◌≤ℤ◌, unsigned_abs, arith}
 use Rattle.std.specs.Prelude.{sum_by}
 use Rattle.std.proofs.lemmas.Int.{ints}
-use Rattle.simm_rules.specs.Params.{Params}
-use Rattle.simm_rules.specs.Concentration.{cr}
-use Rattle.simm_rules.specs.Risks.{Amount}
-use Rattle.simm_rules.specs.Rates.{RateIn, rate_thresholds, rate_cr}
+use Rattle.simm_params.specs.SimmRules.Params.{Params}
+use Rattle.simm_params.specs.SimmRules.Concentration.{cr}
+use Rattle.simm_params.specs.SimmRules.Risks.{Amount}
+use Rattle.simm_params.specs.SimmRules.Rates.{RateIn, rate_thresholds, rate_cr}
 use Rattle.simm_params.specs.Facts.{IsParams}
 use Rattle.ir_delta.specs.declared.nets.RateNet.{RateNet}
 use Rattle.ir_delta.specs.Rate.{amount_of, amounts, group_net}

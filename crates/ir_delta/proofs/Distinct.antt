@@ -6,22 +6,22 @@ use Rattle.std.specs.List.Sorted.{IsStrictlySortedBy}
 use Rattle.std.specs.Map.{keys_of}
 use Rattle.std.proofs.lemmas.Bool.{and_parts, and_from, eqb-true, eq-eqb, false≢true, false_from_ne_true}
 use Rattle.std.proofs.lemmas.Map.Lookups.{exact_bytes}
-use Rattle.simm_kinds.specs.declared.kinds.ProductClass.{ProductClass}
-use Rattle.simm_kinds.specs.declared.factor.Factor.{Factor}
-use Rattle.simm_kinds.specs.declared.factor.Factor.TheVariants as factor
-use Rattle.simm_kinds.specs.declared.key.FactorKey.{FactorKey}
-use Rattle.simm_kinds.specs.Order.{same_product, product_place, key_cmp, same_key, same_name, tenor_place, sub_place}
-use Rattle.simm_kinds.proofs.Variants.{is_eq-Equal}
-use Rattle.simm_kinds.proofs.Orders.{one_product, one_tenor, one_sub, key_total, same_key-equal}
-use Rattle.simm_rules.specs.Risks.{risk, Amount, select, Curve, Inflation, Basis}
-use Rattle.simm_rules.specs.Risks.{Rate as RuleRate}
-use Rattle.simm_rules.specs.Rates.{RateIn, as_rate, rates_in, same_rate}
+use Rattle.simm_params.specs.SimmKinds.declared.kinds.ProductClass.{ProductClass}
+use Rattle.simm_params.specs.SimmKinds.declared.factor.Factor.{Factor}
+use Rattle.simm_params.specs.SimmKinds.declared.factor.Factor.TheVariants as factor
+use Rattle.simm_params.specs.SimmKinds.declared.key.FactorKey.{FactorKey}
+use Rattle.simm_params.specs.SimmKinds.Order.{same_product, product_place, key_cmp, same_key, same_name, tenor_place, sub_place}
+use Rattle.simm_params.proofs.SimmKinds.Variants.{is_eq-Equal}
+use Rattle.simm_params.proofs.SimmKinds.Orders.{one_product, one_tenor, one_sub, key_total, same_key-equal}
+use Rattle.simm_params.specs.SimmRules.Risks.{risk, Amount, select, Curve, Inflation, Basis}
+use Rattle.simm_params.specs.SimmRules.Risks.{Rate as RuleRate}
+use Rattle.simm_params.specs.SimmRules.Rates.{RateIn, as_rate, rates_in, same_rate}
 use Rattle.factor_book.specs.declared.holding.Holding.{Holding}
 use Rattle.factor_book.specs.Factors.{net_of, IsBook}
 use Rattle.factor_book.specs.Places.{stands_at, factors_at}
 use Rattle.factor_book.proofs.Held.{factors_ascend}
 use Rattle.factor_book.proofs.Sorting.{filter_ascends}
-use Rattle.simm_rules.specs.Net.{sensitivities}
+use Rattle.simm_params.specs.SimmRules.Net.{sensitivities}
 use Rattle.ir_delta.specs.Rate.{rate_of}
 use Rattle.ir_delta.specs.Bucket.{nets_of}
 use Rattle.ir_delta.proofs.Lists.{kept_pass, same_place_by}

@@ -6,20 +6,20 @@ use Rattle.std.specs.List.Sorted.{IsStrictlySortedBy}
 use Rattle.std.proofs.lemmas.Cmp.{nat_list_cmp_total}
 use Rattle.std.proofs.lemmas.List.{get_or-map, length-map}
 use Rattle.std.proofs.lemmas.List.Elements.{All-from_recursion}
-use Rattle.simm_kinds.specs.declared.kinds.BucketId.{BucketId}
-use Rattle.simm_kinds.specs.declared.kinds.BucketId.TheVariants as id
-use Rattle.simm_kinds.specs.Order.{name_cmp, same_name, bucket_id_cmp}
-use Rattle.simm_rules.specs.declared.values.BucketMargin.{BucketMargin}
-use Rattle.simm_rules.specs.Params.{Params}
-use Rattle.simm_rules.specs.Lookups.{six}
-use Rattle.simm_rules.specs.Sums.{total_by, total_by_pairs}
-use Rattle.simm_rules.specs.Concentration.{one, ratio}
-use Rattle.simm_rules.specs.Bucket.{root_of, combined}
-use Rattle.simm_rules.specs.Across.{Part}
-use Rattle.simm_rules.specs.Rates.{across_currencies}
-use Rattle.pair_sum.specs.PairTotal.{outer_total}
-use Rattle.pair_sum.proofs.Sums.{total_by-ext}
-use Rattle.pair_sum.proofs.OverLists.{outer_total-buckets}
+use Rattle.simm_params.specs.SimmKinds.declared.kinds.BucketId.{BucketId}
+use Rattle.simm_params.specs.SimmKinds.declared.kinds.BucketId.TheVariants as id
+use Rattle.simm_params.specs.SimmKinds.Order.{name_cmp, same_name, bucket_id_cmp}
+use Rattle.simm_params.specs.SimmRules.declared.values.BucketMargin.{BucketMargin}
+use Rattle.simm_params.specs.SimmRules.Params.{Params}
+use Rattle.simm_params.specs.SimmRules.Lookups.{six}
+use Rattle.simm_params.specs.SimmRules.Sums.{total_by, total_by_pairs}
+use Rattle.simm_params.specs.SimmRules.Concentration.{one, ratio}
+use Rattle.simm_params.specs.SimmRules.Bucket.{root_of, combined}
+use Rattle.simm_params.specs.SimmRules.Across.{Part}
+use Rattle.simm_params.specs.SimmRules.Rates.{across_currencies}
+use Rattle.weighted_bucket.specs.PairSums.PairTotal.{outer_total}
+use Rattle.weighted_bucket.proofs.PairSums.Sums.{total_by-ext}
+use Rattle.weighted_bucket.proofs.PairSums.OverLists.{outer_total-buckets}
 use Rattle.weighted_bucket.specs.declared.scaling.Scaling.TheVariants as scaling
 use Rattle.weighted_bucket.specs.declared.weighed.Weighed.{Weighed}
 use Rattle.weighted_bucket.specs.Correlated.{no_factor, cr_at}

@@ -6,9 +6,9 @@ use Rattle.std.specs.List.{filter}
 use Rattle.std.proofs.lemmas.Int.{ints, fits_signed_from_abs}
 use Rattle.std.proofs.lemmas.List.{take_more}
 use Rattle.std.proofs.lemmas.List.Sums.{sum_by-take-le, get_or-le-sum_by}
-use Rattle.simm_rules.specs.Sums.{total_by}
-use Rattle.simm_rules.specs.Risks.{Amount}
-use Rattle.simm_rules.specs.Rates.{RateIn, is_basis}
+use Rattle.simm_params.specs.SimmRules.Sums.{total_by}
+use Rattle.simm_params.specs.SimmRules.Risks.{Amount}
+use Rattle.simm_params.specs.SimmRules.Rates.{RateIn, is_basis}
 use Rattle.factor_book.proofs.Sums.{total_by-append}
 use Rattle.ir_delta.specs.declared.nets.RateNet.{RateNet}
 use Rattle.ir_delta.specs.Rate.{rule_rate, amount_of, amounts, group_part, group_net}

@@ -10,33 +10,33 @@ use Rattle.std.proofs.lemmas.Cmp.{nat_list_cmp_total, on_total, alike_right, eq_
 use Rattle.std.proofs.lemmas.Int.{ints}
 use Rattle.std.proofs.lemmas.List.{length-map}
 use Rattle.std.proofs.lemmas.List.Sums.{length-filter, count_by-le-length}
-use Rattle.mh_units.specs.Rounding.{up}
-use Rattle.mh_units.proofs.Integers.{mul-le_ℤ}
-use Rattle.mh_units.proofs.Roundings.{up_is}
-use Rattle.simm_kinds.specs.declared.kinds.ProductClass.{ProductClass}
-use Rattle.simm_kinds.specs.declared.kinds.ProductClass.TheVariants as product
-use Rattle.simm_kinds.specs.declared.kinds.RiskClass.{RiskClass}
-use Rattle.simm_kinds.specs.declared.kinds.RiskClass.TheVariants as class
-use Rattle.simm_kinds.specs.declared.kinds.Side.{Side}
-use Rattle.simm_kinds.specs.declared.kinds.Side.TheVariants as kinds_side
-use Rattle.simm_kinds.specs.declared.kinds.BucketId.{BucketId}
-use Rattle.simm_kinds.specs.declared.kinds.BucketId.TheVariants as id
-use Rattle.simm_kinds.specs.declared.key.FactorKey.{FactorKey}
-use Rattle.simm_kinds.specs.declared.row.CrifRow.{CrifRow}
-use Rattle.simm_kinds.specs.Factors.{class_of, side_of, bucket_of}
-use Rattle.simm_kinds.proofs.Variants.{is_eq-Equal}
-use Rattle.simm_kinds.specs.Order.{same_product, same_class, same_bucket_id, bucket_id_cmp, bucket_id_numbers, same_key}
-use Rattle.simm_rules.specs.declared.values.RangeKind.{RangeKind}
-use Rattle.simm_rules.specs.declared.values.RangeKind.TheVariants as range_kind
-use Rattle.simm_rules.specs.declared.values.RangeFault.{RangeFault}
-use Rattle.simm_rules.specs.Params.{Params}
-use Rattle.simm_rules.specs.Sums.{total_by, different, first_some}
-use Rattle.simm_rules.specs.Net.{Sensitivity, sensitivities, in_product, net, keys_of}
-use Rattle.simm_rules.specs.Risks.{risk, select}
-use Rattle.simm_rules.specs.Rates.{RateIn, as_rate, rate_weight, rates_in}
-use Rattle.simm_rules.specs.Gross.{size_by, delta_gross, vega_gross}
-use Rattle.simm_rules.specs.Simm.{products, classes}
-use Rattle.simm_rules.specs.Range.{Delta_side, is_on, on_side, above, key_count, bucket_keys, sides, each_class, range}
+use Rattle.simm_params.specs.MhUnits.Rounding.{up}
+use Rattle.simm_params.proofs.MhUnits.Integers.{mul-le_ℤ}
+use Rattle.simm_params.proofs.MhUnits.Roundings.{up_is}
+use Rattle.simm_params.specs.SimmKinds.declared.kinds.ProductClass.{ProductClass}
+use Rattle.simm_params.specs.SimmKinds.declared.kinds.ProductClass.TheVariants as product
+use Rattle.simm_params.specs.SimmKinds.declared.kinds.RiskClass.{RiskClass}
+use Rattle.simm_params.specs.SimmKinds.declared.kinds.RiskClass.TheVariants as class
+use Rattle.simm_params.specs.SimmKinds.declared.kinds.Side.{Side}
+use Rattle.simm_params.specs.SimmKinds.declared.kinds.Side.TheVariants as kinds_side
+use Rattle.simm_params.specs.SimmKinds.declared.kinds.BucketId.{BucketId}
+use Rattle.simm_params.specs.SimmKinds.declared.kinds.BucketId.TheVariants as id
+use Rattle.simm_params.specs.SimmKinds.declared.key.FactorKey.{FactorKey}
+use Rattle.simm_params.specs.SimmKinds.declared.row.CrifRow.{CrifRow}
+use Rattle.simm_params.specs.SimmKinds.Factors.{class_of, side_of, bucket_of}
+use Rattle.simm_params.proofs.SimmKinds.Variants.{is_eq-Equal}
+use Rattle.simm_params.specs.SimmKinds.Order.{same_product, same_class, same_bucket_id, bucket_id_cmp, bucket_id_numbers, same_key}
+use Rattle.simm_params.specs.SimmRules.declared.values.RangeKind.{RangeKind}
+use Rattle.simm_params.specs.SimmRules.declared.values.RangeKind.TheVariants as range_kind
+use Rattle.simm_params.specs.SimmRules.declared.values.RangeFault.{RangeFault}
+use Rattle.simm_params.specs.SimmRules.Params.{Params}
+use Rattle.simm_params.specs.SimmRules.Sums.{total_by, different, first_some}
+use Rattle.simm_params.specs.SimmRules.Net.{Sensitivity, sensitivities, in_product, net, keys_of}
+use Rattle.simm_params.specs.SimmRules.Risks.{risk, select}
+use Rattle.simm_params.specs.SimmRules.Rates.{RateIn, as_rate, rate_weight, rates_in}
+use Rattle.simm_params.specs.SimmRules.Gross.{size_by, delta_gross, vega_gross}
+use Rattle.simm_params.specs.SimmRules.Simm.{products, classes}
+use Rattle.simm_params.specs.SimmRules.Range.{Delta_side, is_on, on_side, above, key_count, bucket_keys, sides, each_class, range}
 use Rattle.simm_params.specs.Facts.{IsParams}
 use Rattle.factor_book.specs.declared.place.BookSide.TheVariants as side
 use Rattle.factor_book.specs.declared.holding.Holding.{Holding}

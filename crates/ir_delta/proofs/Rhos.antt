@@ -3,19 +3,19 @@ use Rattle.std.proofs.Common.{◌≡◌, ℕ, ◌<◌, ◌≤◌, [], Bool, true
 use Rattle.std.proofs.Math.IntN.{*ℤ_comm}
 use Rattle.std.proofs.lemmas.Int.{ints}
 use Rattle.std.proofs.lemmas.Cmp.{nat_eq_equiv}
-use Rattle.mh_units.specs.Rounding.{down, up, trunc}
-use Rattle.mh_units.proofs.Roundings.{down_is, up_is, IsDown_unique, IsUp_unique, trunc_abs}
-use Rattle.mh_units.proofs.Integers.{product_size, size_from_bounds, mul_regroup}
-use Rattle.simm_kinds.specs.declared.kinds.Tenor.{Tenor}
-use Rattle.simm_kinds.specs.declared.kinds.Tenor.TheVariants as tenor
-use Rattle.simm_kinds.specs.declared.kinds.SubCurve.{SubCurve}
-use Rattle.simm_kinds.specs.Order.{tenor_place, sub_place}
-use Rattle.simm_rules.specs.Params.{Params}
-use Rattle.simm_rules.specs.Lookups.{at_row, six}
-use Rattle.simm_rules.specs.Risks.{Rate, Curve, Inflation, Basis}
-use Rattle.simm_rules.specs.Concentration.{one}
-use Rattle.simm_rules.specs.Bucket.{combined}
-use Rattle.simm_rules.specs.Rates.{tenor_rho, sub_rho, rate_rho}
+use Rattle.simm_params.specs.MhUnits.Rounding.{down, up, trunc}
+use Rattle.simm_params.proofs.MhUnits.Roundings.{down_is, up_is, IsDown_unique, IsUp_unique, trunc_abs}
+use Rattle.simm_params.proofs.MhUnits.Integers.{product_size, size_from_bounds, mul_regroup}
+use Rattle.simm_params.specs.SimmKinds.declared.kinds.Tenor.{Tenor}
+use Rattle.simm_params.specs.SimmKinds.declared.kinds.Tenor.TheVariants as tenor
+use Rattle.simm_params.specs.SimmKinds.declared.kinds.SubCurve.{SubCurve}
+use Rattle.simm_params.specs.SimmKinds.Order.{tenor_place, sub_place}
+use Rattle.simm_params.specs.SimmRules.Params.{Params}
+use Rattle.simm_params.specs.SimmRules.Lookups.{at_row, six}
+use Rattle.simm_params.specs.SimmRules.Risks.{Rate, Curve, Inflation, Basis}
+use Rattle.simm_params.specs.SimmRules.Concentration.{one}
+use Rattle.simm_params.specs.SimmRules.Bucket.{combined}
+use Rattle.simm_params.specs.SimmRules.Rates.{tenor_rho, sub_rho, rate_rho}
 use Rattle.simm_params.specs.Facts.{IsParams}
 
 -- ---- tenors

@@ -1,10 +1,10 @@
 -- The rates among sensitivities, one sensitivity more at a time.
 use Rattle.std.proofs.Common.{◌≡◌, List, ◌∷◌, map, Some, None, refl}
-use Rattle.simm_kinds.specs.declared.key.FactorKey.{FactorKey}
-use Rattle.simm_rules.specs.Net.{Sensitivity}
-use Rattle.simm_rules.specs.Risks.{risk, Amount, select}
-use Rattle.simm_rules.specs.Risks.{Rate as RuleRate}
-use Rattle.simm_rules.specs.Rates.{RateIn, as_rate}
+use Rattle.simm_params.specs.SimmKinds.declared.key.FactorKey.{FactorKey}
+use Rattle.simm_params.specs.SimmRules.Net.{Sensitivity}
+use Rattle.simm_params.specs.SimmRules.Risks.{risk, Amount, select}
+use Rattle.simm_params.specs.SimmRules.Risks.{Rate as RuleRate}
+use Rattle.simm_params.specs.SimmRules.Rates.{RateIn, as_rate}
 use Rattle.factor_book.specs.declared.holding.Holding.{Holding}
 use Rattle.factor_book.specs.Factors.{net_of}
 use Rattle.ir_delta.specs.Rate.{amount_alone}

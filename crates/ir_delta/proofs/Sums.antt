@@ -5,10 +5,10 @@ use Rattle.std.specs.List.{filter}
 use Rattle.std.proofs.lemmas.Int.{ints}
 use Rattle.std.proofs.lemmas.Nat.{div-add-mod'}
 use Rattle.std.proofs.lemmas.List.Sums.{sum_by-cons}
-use Rattle.mh_units.specs.Rounding.{away}
-use Rattle.mh_units.proofs.Integers.{unsigned_abs-add, unsigned_abs-neg}
-use Rattle.simm_rules.specs.Sums.{total_by, total_by_pairs}
-use Rattle.pair_sum.proofs.Squares.{term_size}
+use Rattle.simm_params.specs.MhUnits.Rounding.{away}
+use Rattle.simm_params.proofs.MhUnits.Integers.{unsigned_abs-add, unsigned_abs-neg}
+use Rattle.simm_params.specs.SimmRules.Sums.{total_by, total_by_pairs}
+use Rattle.weighted_bucket.proofs.PairSums.Squares.{term_size}
 
 pub not_negative : (z : ℤ) → pos 0 ≤ℤ z → z ≡ pos (unsigned_abs z)
 not_negative (pos n) h = refl

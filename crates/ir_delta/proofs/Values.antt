@@ -4,17 +4,17 @@ use Rattle.std.specs.Prelude.{sum_by}
 use Rattle.std.proofs.lemmas.Int.{ints}
 use Rattle.std.proofs.lemmas.List.{get_or-map, length-map}
 use Rattle.std.proofs.lemmas.Simd.{map-map}
-use Rattle.mh_units.specs.Rounding.{up, clamp}
-use Rattle.mh_units.proofs.Roundings.{root_is, clamp_size}
-use Rattle.simm_rules.specs.Params.{Params}
-use Rattle.simm_rules.specs.Sums.{total_by}
-use Rattle.simm_rules.specs.Risks.{Amount, Basis}
-use Rattle.simm_rules.specs.Risks.{Rate as RuleRate}
-use Rattle.simm_rules.specs.Concentration.{one}
-use Rattle.simm_rules.specs.Bucket.{Weighted, plain, root_of, pair_sum, weighted_sum}
-use Rattle.simm_rules.specs.Rates.{RateIn, same_rate, rate_rho, rate_cr, weighted_rate, currency_value}
+use Rattle.simm_params.specs.MhUnits.Rounding.{up, clamp}
+use Rattle.simm_params.proofs.MhUnits.Roundings.{root_is, clamp_size}
+use Rattle.simm_params.specs.SimmRules.Params.{Params}
+use Rattle.simm_params.specs.SimmRules.Sums.{total_by}
+use Rattle.simm_params.specs.SimmRules.Risks.{Amount, Basis}
+use Rattle.simm_params.specs.SimmRules.Risks.{Rate as RuleRate}
+use Rattle.simm_params.specs.SimmRules.Concentration.{one}
+use Rattle.simm_params.specs.SimmRules.Bucket.{Weighted, plain, root_of, pair_sum, weighted_sum}
+use Rattle.simm_params.specs.SimmRules.Rates.{RateIn, same_rate, rate_rho, rate_cr, weighted_rate, currency_value}
 use Rattle.simm_params.specs.Facts.{IsParams}
-use Rattle.pair_sum.proofs.RootBounds.{root_of_within}
+use Rattle.weighted_bucket.proofs.PairSums.RootBounds.{root_of_within}
 use Rattle.weighted_bucket.specs.declared.scaling.Scaling.TheVariants as scaling
 use Rattle.weighted_bucket.specs.declared.weighed.Weighed.{Weighed}
 use Rattle.weighted_bucket.specs.Bucket.{bucket_value}

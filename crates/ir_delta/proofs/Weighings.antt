@@ -6,13 +6,13 @@ use Rattle.std.proofs.lemmas.Int.{ints}
 use Rattle.std.proofs.lemmas.List.Elements.{All-from_recursion}
 use Rattle.std.proofs.lemmas.List.Sums.{sum_by-cons}
 use Rattle.std.proofs.lemmas.Simd.{map-map}
-use Rattle.simm_kinds.specs.Order.{tenor_place}
-use Rattle.simm_rules.specs.Params.{Params}
-use Rattle.simm_rules.specs.Lookups.{is_listed, at_place}
-use Rattle.simm_rules.specs.Risks.{Amount}
-use Rattle.simm_rules.specs.Concentration.{one}
-use Rattle.simm_rules.specs.Bucket.{weighted_value}
-use Rattle.simm_rules.specs.Rates.{RateIn, is_basis, curve_weights, rate_weight, weighted_rate}
+use Rattle.simm_params.specs.SimmKinds.Order.{tenor_place}
+use Rattle.simm_params.specs.SimmRules.Params.{Params}
+use Rattle.simm_params.specs.SimmRules.Lookups.{is_listed, at_place}
+use Rattle.simm_params.specs.SimmRules.Risks.{Amount}
+use Rattle.simm_params.specs.SimmRules.Concentration.{one}
+use Rattle.simm_params.specs.SimmRules.Bucket.{weighted_value}
+use Rattle.simm_params.specs.SimmRules.Rates.{RateIn, is_basis, curve_weights, rate_weight, weighted_rate}
 use Rattle.simm_params.specs.Facts.{IsParams}
 use Rattle.weighted_bucket.specs.declared.weighed.Weighed.{Weighed}
 use Rattle.weighted_bucket.proofs.OverKeys.{weighed_as}

@@ -4,17 +4,17 @@ use Rattle.std.specs.Prelude.{sum_by}
 use Rattle.std.specs.List.{filter, find}
 use Rattle.std.proofs.Math.IntN.{+ℤ_idl}
 use Rattle.std.proofs.lemmas.Int.{ints, clamps, unsigned_abs-mul}
-use Rattle.mh_units.specs.Rounding.{up, away}
-use Rattle.concentration.proofs.Factors.{square_bound, root_bound}
-use Rattle.simm_kinds.specs.declared.kinds.Tenor.{Tenor}
-use Rattle.simm_kinds.specs.Order.{tenor_place}
-use Rattle.simm_rules.specs.Params.{Params, CurrencyGroup}
-use Rattle.simm_rules.specs.Lookups.{is_listed, at_place}
-use Rattle.simm_rules.specs.Sums.{total_by}
-use Rattle.simm_rules.specs.Risks.{Amount, Rate, Curve, Inflation, Basis}
-use Rattle.simm_rules.specs.Concentration.{one, cr}
-use Rattle.simm_rules.specs.Rates.{RateIn, curve_weights, rate_weight, rate_thresholds, is_basis, rate_cr, weighted_rate}
-use Rattle.simm_rules.specs.Gross.{size_by}
+use Rattle.simm_params.specs.MhUnits.Rounding.{up, away}
+use Rattle.weighted_bucket.proofs.Concentration.Factors.{square_bound, root_bound}
+use Rattle.simm_params.specs.SimmKinds.declared.kinds.Tenor.{Tenor}
+use Rattle.simm_params.specs.SimmKinds.Order.{tenor_place}
+use Rattle.simm_params.specs.SimmRules.Params.{Params, CurrencyGroup}
+use Rattle.simm_params.specs.SimmRules.Lookups.{is_listed, at_place}
+use Rattle.simm_params.specs.SimmRules.Sums.{total_by}
+use Rattle.simm_params.specs.SimmRules.Risks.{Amount, Rate, Curve, Inflation, Basis}
+use Rattle.simm_params.specs.SimmRules.Concentration.{one, cr}
+use Rattle.simm_params.specs.SimmRules.Rates.{RateIn, curve_weights, rate_weight, rate_thresholds, is_basis, rate_cr, weighted_rate}
+use Rattle.simm_params.specs.SimmRules.Gross.{size_by}
 use Rattle.simm_params.specs.Ranges.{weights, IsWithin, IsThick}
 use Rattle.simm_params.specs.Matrix.{AreRates}
 use Rattle.simm_params.specs.Facts.{IsParams, IsIrThreshold, AreIrThresholds}

@@ -11,15 +11,15 @@ use Rattle.std.proofs.lemmas.Map.Lookups.{exact_bytes}
 use Rattle.std.proofs.lemmas.List.Sorted.{sum_by-IsPermutation}
 use Rattle.std.proofs.lemmas.List.Sums.{sum_by-cons, sum_by-append}
 use Rattle.std.proofs.lemmas.Simd.{map-map}
-use Rattle.simm_kinds.specs.declared.kinds.BucketId.{BucketId}
-use Rattle.simm_kinds.specs.declared.kinds.BucketId.TheVariants as id
-use Rattle.simm_kinds.specs.Order.{name_cmp, same_name, bucket_id_cmp}
-use Rattle.simm_rules.specs.declared.values.BucketMargin.{BucketMargin}
-use Rattle.simm_rules.specs.Params.{Params}
-use Rattle.simm_rules.specs.Net.{Sensitivity}
-use Rattle.simm_rules.specs.Risks.{Amount, select}
-use Rattle.simm_rules.specs.Across.{outer}
-use Rattle.simm_rules.specs.Rates.{RateIn, as_rate, rates_in, currency_value, rate_parts, across_currencies, rate_delta}
+use Rattle.simm_params.specs.SimmKinds.declared.kinds.BucketId.{BucketId}
+use Rattle.simm_params.specs.SimmKinds.declared.kinds.BucketId.TheVariants as id
+use Rattle.simm_params.specs.SimmKinds.Order.{name_cmp, same_name, bucket_id_cmp}
+use Rattle.simm_params.specs.SimmRules.declared.values.BucketMargin.{BucketMargin}
+use Rattle.simm_params.specs.SimmRules.Params.{Params}
+use Rattle.simm_params.specs.SimmRules.Net.{Sensitivity}
+use Rattle.simm_params.specs.SimmRules.Risks.{Amount, select}
+use Rattle.simm_params.specs.SimmRules.Across.{outer}
+use Rattle.simm_params.specs.SimmRules.Rates.{RateIn, as_rate, rates_in, currency_value, rate_parts, across_currencies, rate_delta}
 use Rattle.simm_params.specs.Facts.{IsParams}
 use Rattle.factor_book.proofs.Sorting.{any_different, different_ascends}
 use Rattle.factor_book.proofs.Grouping.{grouped_all}

@@ -2,21 +2,21 @@
 -- (ISDA SIMM methodology, interest rate risk: one bucket a currency.)
 use Rattle.std.specs.Prelude.{List, [], map, Bool, ◌&&◌}
 use Rattle.std.specs.List.{filter}
-use Rattle.simm_kinds.specs.declared.kinds.ProductClass.{ProductClass}
-use Rattle.simm_kinds.specs.declared.kinds.RiskClass.TheVariants as class
-use Rattle.simm_kinds.specs.declared.kinds.BucketId.{BucketId}
-use Rattle.simm_kinds.specs.declared.kinds.BucketId.TheVariants as id
-use Rattle.simm_kinds.specs.declared.key.FactorKey.{FactorKey}
-use Rattle.simm_kinds.specs.Factors.{class_of, side_of, bucket_of}
-use Rattle.simm_kinds.specs.Order.{same_product, same_class, bucket_id_cmp}
-use Rattle.simm_rules.specs.declared.values.BucketMargin.{BucketMargin}
-use Rattle.simm_rules.specs.Params.{Params}
-use Rattle.simm_rules.specs.Sums.{different}
-use Rattle.simm_rules.specs.Net.{Sensitivity, in_product}
-use Rattle.simm_rules.specs.Risks.{Amount}
-use Rattle.simm_rules.specs.Concentration.{one}
-use Rattle.simm_rules.specs.Bucket.{plain, bucket_value}
-use Rattle.simm_rules.specs.Rates.{RateIn, same_rate, rate_rho, rates_in, currency_value}
+use Rattle.simm_params.specs.SimmKinds.declared.kinds.ProductClass.{ProductClass}
+use Rattle.simm_params.specs.SimmKinds.declared.kinds.RiskClass.TheVariants as class
+use Rattle.simm_params.specs.SimmKinds.declared.kinds.BucketId.{BucketId}
+use Rattle.simm_params.specs.SimmKinds.declared.kinds.BucketId.TheVariants as id
+use Rattle.simm_params.specs.SimmKinds.declared.key.FactorKey.{FactorKey}
+use Rattle.simm_params.specs.SimmKinds.Factors.{class_of, side_of, bucket_of}
+use Rattle.simm_params.specs.SimmKinds.Order.{same_product, same_class, bucket_id_cmp}
+use Rattle.simm_params.specs.SimmRules.declared.values.BucketMargin.{BucketMargin}
+use Rattle.simm_params.specs.SimmRules.Params.{Params}
+use Rattle.simm_params.specs.SimmRules.Sums.{different}
+use Rattle.simm_params.specs.SimmRules.Net.{Sensitivity, in_product}
+use Rattle.simm_params.specs.SimmRules.Risks.{Amount}
+use Rattle.simm_params.specs.SimmRules.Concentration.{one}
+use Rattle.simm_params.specs.SimmRules.Bucket.{plain, bucket_value}
+use Rattle.simm_params.specs.SimmRules.Rates.{RateIn, same_rate, rate_rho, rates_in, currency_value}
 use Rattle.factor_book.specs.declared.at.BucketAt.{BucketAt}
 use Rattle.factor_book.specs.declared.place.Place.{Place}
 use Rattle.factor_book.specs.declared.place.BookSide.TheVariants as side

@@ -1,8 +1,8 @@
 -- The correlations of currencies by the places of their buckets.
 -- (ISDA SIMM methodology, interest rate risk: the correlation of two currencies, times the ratio of their concentrations.)
 use Rattle.std.specs.Prelude.{ℕ, List, map, ℤ}
-use Rattle.simm_rules.specs.declared.values.BucketMargin.{BucketMargin}
-use Rattle.pair_sum.specs.WithItself.{with_itself}
+use Rattle.simm_params.specs.SimmRules.declared.values.BucketMargin.{BucketMargin}
+use Rattle.weighted_bucket.specs.PairSums.WithItself.{with_itself}
 use Rattle.weighted_bucket.specs.declared.scaling.Scaling.TheVariants as scaling
 use Rattle.weighted_bucket.specs.declared.weighed.Weighed.{Weighed}
 use Rattle.weighted_bucket.specs.Correlated.{scaled_at}

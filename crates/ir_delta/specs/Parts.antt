@@ -3,16 +3,16 @@
 use Rattle.std.specs.Prelude.{ℕ, ◌^◌, ◌*◌, ◌<◌, List, [], ◌∷◌, map, sum_by, ℤ, unsigned_abs}
 use Rattle.std.specs.List.{flat_map, All}
 use Rattle.std.specs.List.Sorted.{IsStrictlySortedBy}
-use Rattle.simm_kinds.specs.declared.kinds.BucketId.{BucketId}
-use Rattle.simm_kinds.specs.declared.kinds.BucketId.TheVariants as id
-use Rattle.simm_kinds.specs.Order.{name_cmp, same_name, bucket_id_cmp}
-use Rattle.simm_rules.specs.declared.values.BucketMargin.{BucketMargin}
-use Rattle.simm_rules.specs.Params.{Params}
-use Rattle.simm_rules.specs.Sums.{different}
-use Rattle.simm_rules.specs.Net.{Sensitivity}
-use Rattle.simm_rules.specs.Risks.{select}
-use Rattle.simm_rules.specs.Across.{Part, outer}
-use Rattle.simm_rules.specs.Rates.{as_rate, across_currencies}
+use Rattle.simm_params.specs.SimmKinds.declared.kinds.BucketId.{BucketId}
+use Rattle.simm_params.specs.SimmKinds.declared.kinds.BucketId.TheVariants as id
+use Rattle.simm_params.specs.SimmKinds.Order.{name_cmp, same_name, bucket_id_cmp}
+use Rattle.simm_params.specs.SimmRules.declared.values.BucketMargin.{BucketMargin}
+use Rattle.simm_params.specs.SimmRules.Params.{Params}
+use Rattle.simm_params.specs.SimmRules.Sums.{different}
+use Rattle.simm_params.specs.SimmRules.Net.{Sensitivity}
+use Rattle.simm_params.specs.SimmRules.Risks.{select}
+use Rattle.simm_params.specs.SimmRules.Across.{Part, outer}
+use Rattle.simm_params.specs.SimmRules.Rates.{as_rate, across_currencies}
 use Rattle.ir_delta.specs.Bucket.{delta_value}
 use Rattle.ir_delta.specs.Range.{IsPart}
 

@@ -1,12 +1,12 @@
 -- The sizes of the rates of a book in range, and of what they come to.
 use Rattle.std.specs.Prelude.{ℕ, ◌^◌, ◌*◌, ◌≤◌, List, length, pos, ◌≤ℤ◌, ◌<ℤ◌, unsigned_abs}
-use Rattle.simm_rules.specs.declared.values.BucketMargin.{BucketMargin}
-use Rattle.simm_rules.specs.Params.{Params}
-use Rattle.simm_rules.specs.Net.{Sensitivity}
-use Rattle.simm_rules.specs.Risks.{Amount, select}
-use Rattle.simm_rules.specs.Concentration.{one}
-use Rattle.simm_rules.specs.Rates.{RateIn, as_rate, rate_weight, rates_in}
-use Rattle.simm_rules.specs.Gross.{size_by}
+use Rattle.simm_params.specs.SimmRules.declared.values.BucketMargin.{BucketMargin}
+use Rattle.simm_params.specs.SimmRules.Params.{Params}
+use Rattle.simm_params.specs.SimmRules.Net.{Sensitivity}
+use Rattle.simm_params.specs.SimmRules.Risks.{Amount, select}
+use Rattle.simm_params.specs.SimmRules.Concentration.{one}
+use Rattle.simm_params.specs.SimmRules.Rates.{RateIn, as_rate, rate_weight, rates_in}
+use Rattle.simm_params.specs.SimmRules.Gross.{size_by}
 
 -- the rates of a bucket of a book in range
 pub record IsBucket (p : Params) (rates : List (Amount RateIn)) : Type 0 where

@@ -1,10 +1,10 @@
 -- Rates and net sensitivities to them as the written rule has them.
 use Rattle.std.specs.Prelude.{ℕ, List, map, Option, Some, None, ℤ, pos, if◌then◌else◌}
-use Rattle.simm_kinds.specs.declared.key.FactorKey.{FactorKey}
-use Rattle.simm_rules.specs.Sums.{total_by}
-use Rattle.simm_rules.specs.Risks.{risk, Amount, Curve, Inflation, Basis}
-use Rattle.simm_rules.specs.Risks.{Rate as RuleRate}
-use Rattle.simm_rules.specs.Rates.{RateIn, as_rate, is_basis}
+use Rattle.simm_params.specs.SimmKinds.declared.key.FactorKey.{FactorKey}
+use Rattle.simm_params.specs.SimmRules.Sums.{total_by}
+use Rattle.simm_params.specs.SimmRules.Risks.{risk, Amount, Curve, Inflation, Basis}
+use Rattle.simm_params.specs.SimmRules.Risks.{Rate as RuleRate}
+use Rattle.simm_params.specs.SimmRules.Rates.{RateIn, as_rate, is_basis}
 use Rattle.ir_delta.specs.declared.rate.Rate.{Rate}
 use Rattle.ir_delta.specs.declared.rate.Rate.TheVariants as rate
 use Rattle.ir_delta.specs.declared.nets.RateNet.{RateNet}

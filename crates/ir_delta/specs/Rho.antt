@@ -1,7 +1,7 @@
 -- The correlations of a currency's rates by their places.
 use Rattle.std.specs.Prelude.{ℕ, List, slice_index_or, ℤ}
-use Rattle.simm_rules.specs.Params.{Params}
-use Rattle.simm_rules.specs.Rates.{rate_rho}
+use Rattle.simm_params.specs.SimmRules.Params.{Params}
+use Rattle.simm_params.specs.SimmRules.Rates.{rate_rho}
 use Rattle.ir_delta.specs.declared.rate.Rate.{Rate}
 use Rattle.ir_delta.specs.declared.rate.Rate.TheVariants as rate
 use Rattle.ir_delta.specs.Rate.{rule_rate}

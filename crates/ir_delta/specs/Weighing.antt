@@ -1,13 +1,13 @@
 -- The weights of rates by the category of their currency.
 -- (ISDA SIMM methodology, interest rate risk: risk weights by volatility, concentration.)
 use Rattle.std.specs.Prelude.{ℕ, List, [], ◌≡◌, ◌==◌, ◌<◌, length, slice_index_or, ℤ, pos, if◌then◌else◌}
-use Rattle.simm_kinds.specs.Order.{tenor_place}
-use Rattle.simm_rules.specs.Params.{Params}
-use Rattle.simm_rules.specs.Lookups.{at_place}
-use Rattle.simm_rules.specs.Concentration.{one}
-use Rattle.simm_rules.specs.Bucket.{weighted_value}
-use Rattle.simm_rules.specs.Risks.{Amount, Basis}
-use Rattle.simm_rules.specs.Rates.{RateIn, same_rate, is_basis}
+use Rattle.simm_params.specs.SimmKinds.Order.{tenor_place}
+use Rattle.simm_params.specs.SimmRules.Params.{Params}
+use Rattle.simm_params.specs.SimmRules.Lookups.{at_place}
+use Rattle.simm_params.specs.SimmRules.Concentration.{one}
+use Rattle.simm_params.specs.SimmRules.Bucket.{weighted_value}
+use Rattle.simm_params.specs.SimmRules.Risks.{Amount, Basis}
+use Rattle.simm_params.specs.SimmRules.Rates.{RateIn, same_rate, is_basis}
 use Rattle.simm_params.specs.RateLookups.{category_curve}
 use Rattle.simm_params.specs.declared.category.CurveCategory.{CurveCategory}
 use Rattle.weighted_bucket.specs.declared.weighed.Weighed.{Weighed}

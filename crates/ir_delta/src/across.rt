@@ -1,18 +1,18 @@
 //! The margin over the currencies of a product class.
 ghost use Rattle.std.specs.Prelude.{◌≡◌, ◌≤◌, ℕ, ◌<◌, All, length, map, sum_by, IfOk, pos, ◌≤ℤ◌, ◌<ℤ◌, unsigned_abs};
-ghost use Rattle.simm_rules.specs.Concentration.{one};
-ghost use Rattle.pair_sum.specs.WithItself.{with_itself-one};
+ghost use Rattle.simm_params.specs.SimmRules.Concentration.{one};
+ghost use Rattle.weighted_bucket.specs.PairSums.WithItself.{with_itself-one};
 ghost use Rattle.ir_delta.specs.Gamma.{gamma_apart, gamma_at};
 ghost use Rattle.ir_delta.specs.Parts.{AreParts, margin_over};
 
 use crate::millionths::in_millionths;
-use concentration::ratio;
-use mh_units::{Cents, Corr6};
-use pair_sum::{Correlation, outer_root};
-use simm_kinds::BucketId;
 use simm_params::Params;
-use simm_rules::BucketMargin;
+use simm_params::mh_units::{Cents, Corr6};
+use simm_params::simm_kinds::BucketId;
+use simm_params::simm_rules::BucketMargin;
 use std::alloc::{AllocError, Global};
+use weighted_bucket::concentration::ratio;
+use weighted_bucket::pair_sum::{Correlation, outer_root};
 
 /// The correlations of currencies by the places of their buckets: gamma, times how alike both are concentrated.
 #[derive(Drop)]
@@ -45,7 +45,10 @@ impl Correlation for CurrencyGamma<'_> {
         if i == j {
             return Corr6::ONE;
         }
-        concentration::combine(self.gamma, ratio(self.buckets[i].cr, self.buckets[j].cr))
+        weighted_bucket::concentration::combine(
+            self.gamma,
+            ratio(self.buckets[i].cr, self.buckets[j].cr),
+        )
     }
 }
 

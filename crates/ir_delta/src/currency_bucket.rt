@@ -1,8 +1,8 @@
 //! The value of a currency's bucket.
 ghost use Rattle.std.specs.Prelude.{◌≡◌, ◌+◌, ◌*◌, ◌≤◌, length, map, IfOk};
-ghost use Rattle.simm_kinds.specs.declared.kinds.RiskClass.TheVariants as class;
-ghost use Rattle.simm_rules.specs.Risks.{select};
-ghost use Rattle.simm_rules.specs.Rates.{as_rate, currency_value};
+ghost use Rattle.simm_params.specs.SimmKinds.declared.kinds.RiskClass.TheVariants as class;
+ghost use Rattle.simm_params.specs.SimmRules.Risks.{select};
+ghost use Rattle.simm_params.specs.SimmRules.Rates.{as_rate, currency_value};
 ghost use Rattle.factor_book.specs.Factors.{net_of};
 ghost use Rattle.factor_book.specs.Places.{factors_at};
 ghost use Rattle.ir_delta.specs.Rate.{amounts, amount_alone, net_alone};
@@ -14,13 +14,13 @@ use crate::nets::{RateNet, rate_nets};
 use crate::rho::RateRho;
 use crate::weighing::{currency_cr, weigh_all};
 use factor_book::{BookSide, BucketAt, Factors, Place};
-use mh_units::Corr6;
-use pair_sum::Steps;
-use simm_kinds::{BucketId, Currency};
 use simm_params::Params;
-use simm_rules::BucketMargin;
+use simm_params::mh_units::Corr6;
+use simm_params::simm_kinds::{BucketId, Currency};
+use simm_params::simm_rules::BucketMargin;
 use std::alloc::{AllocError, Global};
 use std::sync::ledger::Ledger;
+use weighted_bucket::pair_sum::Steps;
 use weighted_bucket::{Scaling, bucket_margin};
 
 /// What no rates come to.

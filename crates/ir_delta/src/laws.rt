@@ -1,13 +1,13 @@
 //! What the buckets of a product class come to.
 ghost use Rattle.std.specs.Prelude.{◌≡◌, List, None, map};
-ghost use Rattle.simm_kinds.specs.declared.kinds.ProductClass.{ProductClass as Product};
-ghost use Rattle.simm_kinds.specs.declared.kinds.BucketId.{BucketId};
-ghost use Rattle.simm_kinds.specs.declared.kinds.BucketId.TheVariants as id;
-ghost use Rattle.simm_kinds.specs.declared.key.FactorKey.{FactorKey};
-ghost use Rattle.simm_kinds.specs.declared.row.CrifRow.{CrifRow as Row};
-ghost use Rattle.simm_rules.specs.Net.{Sensitivity};
-ghost use Rattle.simm_rules.specs.Rates.{rate_delta};
-ghost use Rattle.simm_rules.specs.Range.{range};
+ghost use Rattle.simm_params.specs.SimmKinds.declared.kinds.ProductClass.{ProductClass as Product};
+ghost use Rattle.simm_params.specs.SimmKinds.declared.kinds.BucketId.{BucketId};
+ghost use Rattle.simm_params.specs.SimmKinds.declared.kinds.BucketId.TheVariants as id;
+ghost use Rattle.simm_params.specs.SimmKinds.declared.key.FactorKey.{FactorKey};
+ghost use Rattle.simm_params.specs.SimmKinds.declared.row.CrifRow.{CrifRow as Row};
+ghost use Rattle.simm_params.specs.SimmRules.Net.{Sensitivity};
+ghost use Rattle.simm_params.specs.SimmRules.Rates.{rate_delta};
+ghost use Rattle.simm_params.specs.SimmRules.Range.{range};
 ghost use Rattle.factor_book.specs.declared.holding.Holding.{Holding};
 ghost use Rattle.factor_book.specs.Factors.{factors_of};
 ghost use Rattle.ir_delta.specs.Bucket.{buckets_at, nets_of, rates_at};

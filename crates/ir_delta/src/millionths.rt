@@ -1,7 +1,7 @@
 ghost use Rattle.std.specs.Prelude.{◌≡◌, ◌≤◌, unsigned_abs};
-ghost use Rattle.simm_rules.specs.Lookups.{six};
+ghost use Rattle.simm_params.specs.SimmRules.Lookups.{six};
 
-use mh_units::{Corr6, Rate4};
+use simm_params::mh_units::{Corr6, Rate4};
 
 /// A correlation in millionths.
 pub fn in_millionths(rate: Rate4) -> Corr6

@@ -1,7 +1,7 @@
 //! The net sensitivities to rates that a place of a factor book lends.
 ghost use Rattle.std.specs.Prelude.{◌≡◌, ◌^◌, ◌≤◌, IfOk, map, sum_by, unsigned_abs};
-ghost use Rattle.simm_rules.specs.Risks.{select};
-ghost use Rattle.simm_rules.specs.Rates.{as_rate};
+ghost use Rattle.simm_params.specs.SimmRules.Risks.{select};
+ghost use Rattle.simm_params.specs.SimmRules.Rates.{as_rate};
 ghost use Rattle.factor_book.specs.Factors.{net_of};
 ghost use Rattle.ir_delta.specs.Rate.{amount_alone, net_alone, group_part, group_net};
 

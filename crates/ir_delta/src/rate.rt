@@ -1,7 +1,7 @@
 ghost use Rattle.std.specs.Prelude.{◌≡◌};
 ghost use Rattle.ir_delta.specs.Rate.{rate_of, rule_rates};
 
-use simm_kinds::{Factor, FactorKey, SubCurve, Tenor};
+use simm_params::simm_kinds::{Factor, FactorKey, SubCurve, Tenor};
 
 /// A rate of a currency, by what its weight and its correlations go by.
 #[derive(Clone, Copy)]

@@ -4,10 +4,10 @@ ghost use Rattle.ir_delta.specs.Rho.{rho_at, rho_of};
 
 use crate::millionths::in_millionths;
 use crate::rate::Rate;
-use concentration::combine;
-use mh_units::Corr6;
 use simm_params::Params;
+use simm_params::mh_units::Corr6;
 use weighted_bucket::Rho;
+use weighted_bucket::concentration::combine;
 
 /// The parameters' correlations of the rates of one currency, by their places.
 #[derive(Drop)]

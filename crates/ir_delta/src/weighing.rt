@@ -1,18 +1,18 @@
 //! The rates of a currency, weighed.
 ghost use Rattle.std.specs.Prelude.{◌≡◌, ◌*◌, ◌^◌, ◌<◌, ◌≤◌, All, map, IfOk, pos, ◌≤ℤ◌, ◌<ℤ◌, unsigned_abs};
-ghost use Rattle.simm_rules.specs.Concentration.{one};
-ghost use Rattle.simm_rules.specs.Rates.{rate_cr};
+ghost use Rattle.simm_params.specs.SimmRules.Concentration.{one};
+ghost use Rattle.simm_params.specs.SimmRules.Rates.{rate_cr};
 ghost use Rattle.ir_delta.specs.Rate.{amounts};
 ghost use Rattle.ir_delta.specs.Range.{IsBucket};
 ghost use Rattle.ir_delta.specs.Weighing.{weight_in, weighed_in};
 
 use crate::nets::{RateNet, group_net};
 use crate::rate::Rate;
-use concentration::cr;
-use mh_units::{Corr6, Rate4};
-use simm_kinds::Currency;
+use simm_params::mh_units::{Corr6, Rate4};
+use simm_params::simm_kinds::Currency;
 use simm_params::{CurveCategory, Params};
 use std::alloc::{AllocError, Global};
+use weighted_bucket::concentration::cr;
 use weighted_bucket::{Weighed, weigh};
 
 /// The rates of a bucket, and each one weighed.

@@ -6,7 +6,7 @@ use Rattle.std.specs.BTreeMap.{is_at}
 use Rattle.std.proofs.Math.Nat.{le_refl, mul-le-mul_right}
 use Rattle.std.proofs.lemmas.List.{length-map}
 use Rattle.std.proofs.lemmas.List.Sums.{sum_by-cons}
-use Rattle.simm_kinds.specs.declared.key.FactorKey.{FactorKey}
+use Rattle.factor_book.specs.SimmKinds.declared.key.FactorKey.{FactorKey}
 use Rattle.factor_book.specs.declared.holding.Holding.{Holding}
 use Rattle.factor_book.specs.declared.place.Place.{Place}
 use Rattle.factor_book.specs.declared.place.BookSide.{BookSide}

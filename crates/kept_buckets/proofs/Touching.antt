@@ -7,11 +7,11 @@ use Rattle.std.proofs.lemmas.Cmp.{eq_by_cmp_equiv}
 use Rattle.std.proofs.lemmas.List.{take_more}
 use Rattle.std.proofs.lemmas.List.Elements.{filter-append}
 use Rattle.std.proofs.lemmas.List.Folds.{list_any-append}
-use Rattle.mh_units.specs.declared.quantities.Cents.{Cents}
-use Rattle.simm_kinds.specs.declared.key.FactorKey.{FactorKey}
-use Rattle.simm_kinds.specs.declared.row.CrifRow.{CrifRow}
-use Rattle.simm_kinds.specs.declared.row.CrifRow.TheVariants as row
-use Rattle.simm_rules.specs.Net.{sensitivities}
+use Rattle.factor_book.specs.MhUnits.declared.quantities.Cents.{Cents}
+use Rattle.factor_book.specs.SimmKinds.declared.key.FactorKey.{FactorKey}
+use Rattle.factor_book.specs.SimmKinds.declared.row.CrifRow.{CrifRow}
+use Rattle.factor_book.specs.SimmKinds.declared.row.CrifRow.TheVariants as row
+use Rattle.factor_book.specs.SimmRules.Net.{sensitivities}
 use Rattle.factor_book.specs.declared.at.ClassAt.{ClassAt}
 use Rattle.factor_book.specs.declared.holding.Holding.{Holding}
 use Rattle.factor_book.specs.declared.place.Place.{Place}

@@ -1,12 +1,12 @@
 -- The values kept of buckets, measure by measure.
 use Rattle.std.specs.Prelude.{Bool, true, false, not, Option, Some, None, option_map, if◌then◌else◌}
-use Rattle.simm_kinds.specs.declared.kinds.Measure.{Measure}
-use Rattle.simm_kinds.specs.declared.kinds.Measure.TheVariants as measure
-use Rattle.simm_kinds.specs.declared.kinds.RiskClass.{RiskClass}
-use Rattle.simm_kinds.specs.declared.kinds.RiskClass.TheVariants as class
-use Rattle.simm_kinds.specs.declared.kinds.BucketId.{BucketId}
-use Rattle.simm_kinds.specs.declared.kinds.BucketId.TheVariants as id
-use Rattle.simm_rules.specs.declared.values.BucketMargin.{BucketMargin}
+use Rattle.factor_book.specs.SimmKinds.declared.kinds.Measure.{Measure}
+use Rattle.factor_book.specs.SimmKinds.declared.kinds.Measure.TheVariants as measure
+use Rattle.factor_book.specs.SimmKinds.declared.kinds.RiskClass.{RiskClass}
+use Rattle.factor_book.specs.SimmKinds.declared.kinds.RiskClass.TheVariants as class
+use Rattle.factor_book.specs.SimmKinds.declared.kinds.BucketId.{BucketId}
+use Rattle.factor_book.specs.SimmKinds.declared.kinds.BucketId.TheVariants as id
+use Rattle.factor_book.specs.SimmRules.declared.values.BucketMargin.{BucketMargin}
 use Rattle.factor_book.specs.declared.at.BucketAt.{BucketAt}
 use Rattle.factor_book.specs.declared.place.Place.{Place}
 use Rattle.factor_book.specs.declared.place.BookSide.{BookSide}

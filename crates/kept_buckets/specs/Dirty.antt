@@ -1,6 +1,6 @@
 -- What of a book is not kept, and what it may cost to work it out.
 use Rattle.std.specs.Prelude.{ℕ, ◌*◌, List, length, sum_by, is_some, if◌then◌else◌}
-use Rattle.simm_kinds.specs.declared.key.FactorKey.{FactorKey}
+use Rattle.factor_book.specs.SimmKinds.declared.key.FactorKey.{FactorKey}
 use Rattle.factor_book.specs.declared.holding.Holding.{Holding}
 use Rattle.factor_book.specs.declared.place.Place.{Place}
 use Rattle.factor_book.specs.declared.place.BookSide.{BookSide}

@@ -2,7 +2,7 @@
 use Rattle.std.specs.Prelude.{◌≡◌, List, Option, Some, if◌then◌else◌}
 use Rattle.std.specs.Map.{lookup}
 use Rattle.std.specs.BTreeMap.{is_at}
-use Rattle.mh_units.specs.declared.quantities.Cents.{Cents}
+use Rattle.factor_book.specs.MhUnits.declared.quantities.Cents.{Cents}
 use Rattle.factor_book.specs.declared.at.ClassAt.{ClassAt}
 use Rattle.factor_book.specs.declared.place.Place.{Place}
 use Rattle.factor_book.specs.Place.{place_cmp}

@@ -3,3 +3,7 @@ pub mod Kept
 pub mod Touched
 pub mod Dirty
 pub mod Cached
+pub use Rattle.factor_book.specs.MhUnits as MhUnits
+pub use Rattle.factor_book.specs.SimmKinds as SimmKinds
+pub use Rattle.factor_book.specs.SimmRules as SimmRules
+pub use Rattle.factor_book.specs as FactorBook

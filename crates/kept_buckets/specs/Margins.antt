@@ -1,11 +1,11 @@
 -- The margins kept of risk classes.
 use Rattle.std.specs.Prelude.{Bool, ◌&&◌, Option}
-use Rattle.mh_units.specs.declared.quantities.Cents.{Cents}
-use Rattle.simm_kinds.specs.declared.kinds.ProductClass.{ProductClass}
-use Rattle.simm_kinds.specs.declared.kinds.ProductClass.TheVariants as product
-use Rattle.simm_kinds.specs.declared.kinds.RiskClass.{RiskClass}
-use Rattle.simm_kinds.specs.declared.kinds.RiskClass.TheVariants as class
-use Rattle.simm_kinds.specs.Order.{same_product, same_class}
+use Rattle.factor_book.specs.MhUnits.declared.quantities.Cents.{Cents}
+use Rattle.factor_book.specs.SimmKinds.declared.kinds.ProductClass.{ProductClass}
+use Rattle.factor_book.specs.SimmKinds.declared.kinds.ProductClass.TheVariants as product
+use Rattle.factor_book.specs.SimmKinds.declared.kinds.RiskClass.{RiskClass}
+use Rattle.factor_book.specs.SimmKinds.declared.kinds.RiskClass.TheVariants as class
+use Rattle.factor_book.specs.SimmKinds.Order.{same_product, same_class}
 use Rattle.factor_book.specs.declared.at.ClassAt.{ClassAt}
 use Rattle.kept_buckets.specs.declared.margins.KeptClasses.{KeptClasses}
 use Rattle.kept_buckets.specs.declared.margins.KeptMargins.{KeptMargins}

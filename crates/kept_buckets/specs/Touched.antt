@@ -1,9 +1,9 @@
 -- What rows touch that come to a book or go from it: the places that they lie in, and the classes of these.
 use Rattle.std.specs.Prelude.{◌≡◌, List, Bool, false, None, if◌then◌else◌}
 use Rattle.std.specs.List.{filter, list_any}
-use Rattle.simm_kinds.specs.declared.key.FactorKey.{FactorKey}
-use Rattle.simm_kinds.specs.declared.row.CrifRow.{CrifRow}
-use Rattle.simm_rules.specs.Net.{sensitivities}
+use Rattle.factor_book.specs.SimmKinds.declared.key.FactorKey.{FactorKey}
+use Rattle.factor_book.specs.SimmKinds.declared.row.CrifRow.{CrifRow}
+use Rattle.factor_book.specs.SimmRules.Net.{sensitivities}
 use Rattle.factor_book.specs.declared.at.ClassAt.{ClassAt}
 use Rattle.factor_book.specs.declared.holding.Holding.{Holding}
 use Rattle.factor_book.specs.declared.place.Place.{Place}

@@ -14,10 +14,10 @@ ghost use Rattle.kept_buckets.specs.Cached.{cached_in, kept_delta, kept_volatili
 
 use crate::margins::KeptMargins;
 use crate::value::{KeptValue, VolatilityMargins, measures_of};
+use factor_book::mh_units::Cents;
+use factor_book::simm_kinds::{BucketId, CrifRow, Measure, RiskClass};
+use factor_book::simm_rules::BucketMargin;
 use factor_book::{BookSide, BucketAt, ClassAt, Factors, Place};
-use mh_units::Cents;
-use simm_kinds::{BucketId, CrifRow, Measure, RiskClass};
-use simm_rules::BucketMargin;
 use std::alloc::{AllocError, Global};
 use std::collections::BTreeMap;
 use std::marker::Model;

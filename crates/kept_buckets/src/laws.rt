@@ -1,7 +1,7 @@
 //! What rows touch, and what they leave as it was.
 ghost use Rattle.std.specs.Prelude.{◌≡◌, ◌≢◌, ◌+◌, ◌*◌, ◌≤◌, ◌++◌, List, [], None, length};
-ghost use Rattle.simm_kinds.specs.declared.key.FactorKey.{FactorKey};
-ghost use Rattle.simm_kinds.specs.declared.row.CrifRow.{CrifRow as Row};
+ghost use Rattle.factor_book.specs.SimmKinds.declared.key.FactorKey.{FactorKey};
+ghost use Rattle.factor_book.specs.SimmKinds.declared.row.CrifRow.{CrifRow as Row};
 ghost use Rattle.factor_book.specs.declared.holding.Holding.{Holding};
 ghost use Rattle.factor_book.specs.declared.place.Place.{Place};
 ghost use Rattle.factor_book.specs.Factors.{factors_of};

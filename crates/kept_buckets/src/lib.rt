@@ -11,3 +11,7 @@ mod value;
 pub use kept::KeptBuckets;
 pub use laws::{kept_values_save_steps, other_factors_stand, touches_add_up};
 pub use value::{KeptValue, VolatilityMargins};
+
+// what the crates above reach through this one
+pub use factor_book;
+pub use factor_book::{mh_units, simm_kinds, simm_rules};

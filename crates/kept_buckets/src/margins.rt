@@ -1,13 +1,13 @@
 //! The margins kept of risk classes, each in cents; `None` of a class whose margin is not kept.
 ghost use Rattle.std.specs.Prelude.{◌≡◌, if◌then◌else◌};
-ghost use Rattle.simm_kinds.specs.declared.kinds.RiskClass.{RiskClass as Class};
-ghost use Rattle.simm_kinds.specs.Order.{same_class};
+ghost use Rattle.factor_book.specs.SimmKinds.declared.kinds.RiskClass.{RiskClass as Class};
+ghost use Rattle.factor_book.specs.SimmKinds.Order.{same_class};
 ghost use Rattle.factor_book.specs.declared.at.ClassAt.{ClassAt as At};
 ghost use Rattle.kept_buckets.specs.Margins.{class_in, margin_in, is_class};
 
 use factor_book::ClassAt;
-use mh_units::Cents;
-use simm_kinds::{ProductClass, RiskClass};
+use factor_book::mh_units::Cents;
+use factor_book::simm_kinds::{ProductClass, RiskClass};
 
 /// Those of one product class.
 #[derive(Clone, Copy)]

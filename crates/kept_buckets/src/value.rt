@@ -2,7 +2,7 @@ ghost use Rattle.std.specs.Prelude.{◌≡◌};
 ghost use Rattle.kept_buckets.specs.Dirty.{measures_of};
 
 use factor_book::BookSide;
-use simm_rules::BucketMargin;
+use factor_book::simm_rules::BucketMargin;
 
 /// What is kept of a place of a book.
 #[derive(Clone, Copy)]

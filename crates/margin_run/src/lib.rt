@@ -9,5 +9,6 @@ mod run_printing;
 mod running;
 mod telling;
 
+pub use margin_text::journal_text;
 pub use run_files::RunFiles;
 pub use running::run;

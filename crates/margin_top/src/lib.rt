@@ -8,4 +8,4 @@ pub use command_files::Status;
 pub use feed_gate::{Gate, NoGate};
 pub use house::margin_house;
 pub use margin_calc::calc;
-pub use margin_text::journal_text;
+pub use margin_run::journal_text;

@@ -8,3 +8,4 @@ pub mod LinesLooks
 pub mod LinesTaken
 pub mod LinesStops
 pub mod LinesGiven
+pub use Rattle.mh_units.proofs as MhUnits

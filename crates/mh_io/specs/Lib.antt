@@ -8,3 +8,4 @@ pub mod Memory
 pub mod Lines
 pub mod Lined
 pub mod LinesSteps
+pub use Rattle.mh_units.specs as MhUnits

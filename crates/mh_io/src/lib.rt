@@ -28,3 +28,6 @@ pub use real::{RealFolder, RealSink, RealSource};
 pub use sink::Sink;
 pub use source::{Failed, Source};
 pub use writing::{PutFault, put_all};
+
+// what the crates above reach through this one
+pub use mh_units;

@@ -2,7 +2,7 @@
 use Rattle.std.proofs.Common.{◌≡◌, ℕ, suc, ◌+◌, ◌<◌, List, [], ◌∷◌, ◌++◌, take, map, length, get_or, Bool, true, false, cond, refl, sym, ap, ◌∙◌, subst, ℤ, ◌+ℤ◌, All, arith}
 use Rattle.std.specs.List.{filter}
 use Rattle.std.proofs.lemmas.List.{get_or_default, map_more}
-use Rattle.simm_rules.specs.Sums.{total_by}
+use Rattle.simm_params.specs.SimmRules.Sums.{total_by}
 
 pub maps_alike : {X Y B : Type 0} (f : X → B) (g : Y → B) (xs : List X) (ys : List Y) (d : X) (e : Y) → length xs ≡ length ys → ((k : ℕ) → k < length ys → f (get_or xs k d) ≡ g (get_or ys k e)) → map f xs ≡ map g ys
 maps_alike f g [] [] d e n h = refl

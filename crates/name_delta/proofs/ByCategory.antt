@@ -1,10 +1,10 @@
 -- Currencies by their categories: weights, thresholds, and correlations, which are the same both ways round and at most 1 in size.
 use Rattle.std.proofs.Common.{◌≡◌, ◌≤◌, ℕ, List, Bool, true, false, cond, ◌&&◌, ◌||◌, if◌then◌else◌, pos, ◌*ℤ◌, ◌≤ℤ◌, unsigned_abs, refl, sym, ap, ◌∙◌, subst, arith}
 use Rattle.std.proofs.lemmas.Int.{ints}
-use Rattle.mh_units.proofs.Integers.{product_size}
-use Rattle.simm_rules.specs.Params.{Params}
-use Rattle.simm_rules.specs.Lookups.{is_listed}
-use Rattle.simm_rules.specs.ForeignExchange.{is_high, is_own_currency, fx_weight, fx_threshold, currency_rho}
+use Rattle.simm_params.proofs.MhUnits.Integers.{product_size}
+use Rattle.simm_params.specs.SimmRules.Params.{Params}
+use Rattle.simm_params.specs.SimmRules.Lookups.{is_listed}
+use Rattle.simm_params.specs.SimmRules.ForeignExchange.{is_high, is_own_currency, fx_weight, fx_threshold, currency_rho}
 use Rattle.simm_params.specs.declared.category.VolatilityCategory.{VolatilityCategory}
 use Rattle.simm_params.specs.declared.category.VolatilityCategory.TheVariants.{Regular, High}
 use Rattle.simm_params.specs.declared.category.ConcentrationCategory.TheVariants.{First, Second, Third}

@@ -6,17 +6,17 @@ use Rattle.std.specs.Ordering.{nat_cmp, ordering_then, is_eq, then_cmp, on}
 use Rattle.std.specs.Cmp.{IsTotalOrder}
 use Rattle.std.specs.List.Sorted.{IsStrictlySortedBy}
 use Rattle.std.proofs.lemmas.Cmp.{nat_cmp_total, nat_list_cmp_total, then_total, on_total}
-use Rattle.simm_kinds.specs.declared.kinds.ProductClass.{ProductClass}
-use Rattle.simm_kinds.specs.declared.kinds.BucketId.TheVariants as id
-use Rattle.simm_kinds.specs.declared.bucket.Bucket.{Bucket}
-use Rattle.simm_kinds.specs.declared.bucket.Bucket.TheVariants as bucket
-use Rattle.simm_kinds.specs.declared.factor.Factor.{Factor}
-use Rattle.simm_kinds.specs.declared.factor.Factor.TheVariants as factor
-use Rattle.simm_kinds.specs.declared.key.FactorKey.{FactorKey}
-use Rattle.simm_kinds.specs.Factors.{bucket_id_of}
-use Rattle.simm_kinds.specs.Order.{same_product, key_cmp, name_cmp, credit_tenor_place, bucket_numbers, same_bucket, same_bucket_id}
-use Rattle.simm_rules.specs.Risks.{risk, CreditClass, Qualifying, Non_qualifying, CreditPoint, credit_point, Amount}
-use Rattle.simm_rules.specs.Credit.{as_credit, same_point}
+use Rattle.simm_params.specs.SimmKinds.declared.kinds.ProductClass.{ProductClass}
+use Rattle.simm_params.specs.SimmKinds.declared.kinds.BucketId.TheVariants as id
+use Rattle.simm_params.specs.SimmKinds.declared.bucket.Bucket.{Bucket}
+use Rattle.simm_params.specs.SimmKinds.declared.bucket.Bucket.TheVariants as bucket
+use Rattle.simm_params.specs.SimmKinds.declared.factor.Factor.{Factor}
+use Rattle.simm_params.specs.SimmKinds.declared.factor.Factor.TheVariants as factor
+use Rattle.simm_params.specs.SimmKinds.declared.key.FactorKey.{FactorKey}
+use Rattle.simm_params.specs.SimmKinds.Factors.{bucket_id_of}
+use Rattle.simm_params.specs.SimmKinds.Order.{same_product, key_cmp, name_cmp, credit_tenor_place, bucket_numbers, same_bucket, same_bucket_id}
+use Rattle.simm_params.specs.SimmRules.Risks.{risk, CreditClass, Qualifying, Non_qualifying, CreditPoint, credit_point, Amount}
+use Rattle.simm_params.specs.SimmRules.Credit.{as_credit, same_point}
 use Rattle.factor_book.specs.declared.place.Place.{Place}
 use Rattle.factor_book.specs.declared.holding.Holding.{Holding}
 use Rattle.factor_book.specs.Factors.{IsBook}

@@ -7,17 +7,17 @@ use Rattle.std.specs.List.Sorted.{IsStrictlySortedBy}
 use Rattle.std.proofs.lemmas.Int.{ints}
 use Rattle.std.proofs.lemmas.List.{get_or-map, length-map}
 use Rattle.std.proofs.lemmas.List.Sorted.{IsNonDecreasingBy-from_default}
-use Rattle.simm_kinds.specs.declared.credit_tenor.CreditTenor.TheVariants as credit
-use Rattle.simm_kinds.specs.Order.{same_name}
-use Rattle.simm_rules.specs.Params.{CreditBucket}
-use Rattle.simm_rules.specs.Lookups.{six}
-use Rattle.simm_rules.specs.Sums.{total_by}
-use Rattle.simm_rules.specs.Risks.{CreditPoint, credit_point, Amount}
-use Rattle.simm_rules.specs.Concentration.{one, cr}
-use Rattle.simm_rules.specs.Bucket.{weighted_value, concentrated}
-use Rattle.simm_rules.specs.Bucket.{bucket_value as value_of_factors}
-use Rattle.simm_rules.specs.declared.values.BucketMargin.{BucketMargin}
-use Rattle.simm_rules.specs.Credit.{same_point, credit_rho, issuer_cr, weighted_point, credit_value}
+use Rattle.simm_params.specs.SimmKinds.declared.credit_tenor.CreditTenor.TheVariants as credit
+use Rattle.simm_params.specs.SimmKinds.Order.{same_name}
+use Rattle.simm_params.specs.SimmRules.Params.{CreditBucket}
+use Rattle.simm_params.specs.SimmRules.Lookups.{six}
+use Rattle.simm_params.specs.SimmRules.Sums.{total_by}
+use Rattle.simm_params.specs.SimmRules.Risks.{CreditPoint, credit_point, Amount}
+use Rattle.simm_params.specs.SimmRules.Concentration.{one, cr}
+use Rattle.simm_params.specs.SimmRules.Bucket.{weighted_value, concentrated}
+use Rattle.simm_params.specs.SimmRules.Bucket.{bucket_value as value_of_factors}
+use Rattle.simm_params.specs.SimmRules.declared.values.BucketMargin.{BucketMargin}
+use Rattle.simm_params.specs.SimmRules.Credit.{same_point, credit_rho, issuer_cr, weighted_point, credit_value}
 use Rattle.weighted_bucket.specs.declared.group.Grouped.{Grouped}
 use Rattle.weighted_bucket.specs.declared.scaling.Scaling.TheVariants as scaling
 use Rattle.weighted_bucket.specs.declared.weighed.Weighed.{Weighed}

@@ -6,16 +6,16 @@ use Rattle.std.specs.List.Sorted.{IsStrictlySortedBy}
 use Rattle.std.proofs.lemmas.Bool.{not-true}
 use Rattle.std.proofs.lemmas.Cmp.{nat_list_cmp_total}
 use Rattle.std.proofs.lemmas.List.{get_or-map}
-use Rattle.simm_kinds.specs.declared.kinds.ProductClass.{ProductClass}
-use Rattle.simm_kinds.specs.declared.factor.Factor.{Factor}
-use Rattle.simm_kinds.specs.declared.factor.Factor.TheVariants as factor
-use Rattle.simm_kinds.specs.declared.key.FactorKey.{FactorKey}
-use Rattle.simm_kinds.specs.Order.{same_product, key_cmp, name_cmp, same_name}
-use Rattle.simm_rules.specs.Params.{Params}
-use Rattle.simm_rules.specs.Net.{Sensitivity}
-use Rattle.simm_rules.specs.Risks.{risk, Amount, select}
-use Rattle.simm_rules.specs.Concentration.{one}
-use Rattle.simm_rules.specs.ForeignExchange.{as_currency, is_own_currency, fx_weight, fx_threshold, weighted_currency, currency_rho, fx_value}
+use Rattle.simm_params.specs.SimmKinds.declared.kinds.ProductClass.{ProductClass}
+use Rattle.simm_params.specs.SimmKinds.declared.factor.Factor.{Factor}
+use Rattle.simm_params.specs.SimmKinds.declared.factor.Factor.TheVariants as factor
+use Rattle.simm_params.specs.SimmKinds.declared.key.FactorKey.{FactorKey}
+use Rattle.simm_params.specs.SimmKinds.Order.{same_product, key_cmp, name_cmp, same_name}
+use Rattle.simm_params.specs.SimmRules.Params.{Params}
+use Rattle.simm_params.specs.SimmRules.Net.{Sensitivity}
+use Rattle.simm_params.specs.SimmRules.Risks.{risk, Amount, select}
+use Rattle.simm_params.specs.SimmRules.Concentration.{one}
+use Rattle.simm_params.specs.SimmRules.ForeignExchange.{as_currency, is_own_currency, fx_weight, fx_threshold, weighted_currency, currency_rho, fx_value}
 use Rattle.factor_book.specs.declared.holding.Holding.{Holding}
 use Rattle.factor_book.specs.Factors.{net_of, IsBook}
 use Rattle.factor_book.specs.Places.{stands_at, factors_at}

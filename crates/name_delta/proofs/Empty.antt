@@ -2,23 +2,23 @@
 use Rattle.std.proofs.Common.{◌≡◌, List, [], ◌∷◌, Bool, true, false, not, cond, if◌then◌else◌, refl, sym, ap, ◌∙◌, ℤ, pos, ◌+ℤ◌, ◌*ℤ◌}
 use Rattle.std.specs.List.{filter, AllByRecursion}
 use Rattle.std.proofs.Math.IntN.{+ℤ_idl, *ℤ_comm, zero-*ℤ}
-use Rattle.mh_units.specs.Rounding.{clamp}
-use Rattle.mh_units.proofs.Roundings.{root_square}
-use Rattle.simm_kinds.specs.declared.bucket.Bucket.{Bucket}
-use Rattle.simm_kinds.specs.Order.{same_bucket, same_name}
-use Rattle.simm_rules.specs.declared.values.BucketMargin.{BucketMargin}
-use Rattle.simm_rules.specs.Params.{Params, CreditBucket, PricedBucket, CreditParams, PricedParams}
-use Rattle.simm_rules.specs.Net.{Sensitivity}
-use Rattle.simm_rules.specs.Risks.{CreditClass, PricedClass, select}
-use Rattle.simm_rules.specs.Sums.{total_by, total_by_pairs}
-use Rattle.simm_rules.specs.Concentration.{one}
-use Rattle.simm_rules.specs.Bucket.{Weighted, root_of, concentrated, bucket_value, plain}
-use Rattle.simm_rules.specs.Across.{Part, outer, is_residual, numbered, residual, gamma_among, margin_over}
-use Rattle.simm_rules.specs.BaseCorrelation.{as_index, index_rho, base_value, base_margin}
-use Rattle.simm_rules.specs.ForeignExchange.{currencies_of, currency_rho, fx_value, fx_delta}
-use Rattle.simm_rules.specs.Credit.{as_credit, same_point, credit_rho, listed_credit, credit_value, credit_parts, credit_delta}
-use Rattle.simm_rules.specs.Priced.{as_price, name_rho, listed_priced, price_value, price_parts, price_delta}
-use Rattle.pair_sum.proofs.Sums.{total_by-ext}
+use Rattle.simm_params.specs.MhUnits.Rounding.{clamp}
+use Rattle.simm_params.proofs.MhUnits.Roundings.{root_square}
+use Rattle.simm_params.specs.SimmKinds.declared.bucket.Bucket.{Bucket}
+use Rattle.simm_params.specs.SimmKinds.Order.{same_bucket, same_name}
+use Rattle.simm_params.specs.SimmRules.declared.values.BucketMargin.{BucketMargin}
+use Rattle.simm_params.specs.SimmRules.Params.{Params, CreditBucket, PricedBucket, CreditParams, PricedParams}
+use Rattle.simm_params.specs.SimmRules.Net.{Sensitivity}
+use Rattle.simm_params.specs.SimmRules.Risks.{CreditClass, PricedClass, select}
+use Rattle.simm_params.specs.SimmRules.Sums.{total_by, total_by_pairs}
+use Rattle.simm_params.specs.SimmRules.Concentration.{one}
+use Rattle.simm_params.specs.SimmRules.Bucket.{Weighted, root_of, concentrated, bucket_value, plain}
+use Rattle.simm_params.specs.SimmRules.Across.{Part, outer, is_residual, numbered, residual, gamma_among, margin_over}
+use Rattle.simm_params.specs.SimmRules.BaseCorrelation.{as_index, index_rho, base_value, base_margin}
+use Rattle.simm_params.specs.SimmRules.ForeignExchange.{currencies_of, currency_rho, fx_value, fx_delta}
+use Rattle.simm_params.specs.SimmRules.Credit.{as_credit, same_point, credit_rho, listed_credit, credit_value, credit_parts, credit_delta}
+use Rattle.simm_params.specs.SimmRules.Priced.{as_price, name_rho, listed_priced, price_value, price_parts, price_delta}
+use Rattle.weighted_bucket.proofs.PairSums.Sums.{total_by-ext}
 use Rattle.name_delta.proofs.Lists.{each_always, each_weaker, each_map, each_kept}
 
 -- the value of no factors

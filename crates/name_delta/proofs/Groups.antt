@@ -3,8 +3,8 @@ use Rattle.std.proofs.Common.{◌≡◌, ℕ, ◌+◌, ◌-◌, ◌<◌, ◌≤�
 use Rattle.std.proofs.Math.Seq.{get_or-append_seam}
 use Rattle.std.proofs.lemmas.Bool.{cases_lt}
 use Rattle.std.proofs.lemmas.List.{get_or_append_left, get_or-map, length-append, length-map}
-use Rattle.mh_units.specs.declared.quantities.Corr6.{Corr6}
-use Rattle.simm_rules.specs.Risks.{Amount}
+use Rattle.simm_params.specs.MhUnits.declared.quantities.Corr6.{Corr6}
+use Rattle.simm_params.specs.SimmRules.Risks.{Amount}
 use Rattle.weighted_bucket.specs.declared.group.Grouped.{Grouped}
 use Rattle.weighted_bucket.specs.Group.{at, group_factor}
 use Rattle.name_delta.specs.Points.{net_at, changes, AreGrouped}

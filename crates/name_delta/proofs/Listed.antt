@@ -5,15 +5,15 @@ use Rattle.std.specs.Ordering.{nat_cmp, is_eq}
 use Rattle.std.proofs.lemmas.Bool.{ne_eqb}
 use Rattle.std.proofs.lemmas.Cmp.{nat_list_cmp_total, tied_itself}
 use Rattle.std.proofs.lemmas.List.Elements.{recursion_from_All}
-use Rattle.simm_kinds.specs.declared.bucket.Bucket.{Bucket}
-use Rattle.simm_kinds.specs.declared.bucket.Bucket.TheVariants as bucket
-use Rattle.simm_kinds.specs.Order.{same_bucket, bucket_numbers}
+use Rattle.simm_params.specs.SimmKinds.declared.bucket.Bucket.{Bucket}
+use Rattle.simm_params.specs.SimmKinds.declared.bucket.Bucket.TheVariants as bucket
+use Rattle.simm_params.specs.SimmKinds.Order.{same_bucket, bucket_numbers}
 use Rattle.simm_params.specs.Buckets.{bucket_slot, AreInOrder}
 use Rattle.name_delta.proofs.Keys.{then_Equal, is_eq-nat}
-use Rattle.simm_rules.specs.Params.{Params, CreditBucket, PricedBucket}
-use Rattle.simm_rules.specs.Risks.{CreditClass, Qualifying, Non_qualifying, PricedClass, Equities, Commodities}
-use Rattle.simm_rules.specs.Credit.{credit_params}
-use Rattle.simm_rules.specs.Priced.{priced_params}
+use Rattle.simm_params.specs.SimmRules.Params.{Params, CreditBucket, PricedBucket}
+use Rattle.simm_params.specs.SimmRules.Risks.{CreditClass, Qualifying, Non_qualifying, PricedClass, Equities, Commodities}
+use Rattle.simm_params.specs.SimmRules.Credit.{credit_params}
+use Rattle.simm_params.specs.SimmRules.Priced.{priced_params}
 use Rattle.simm_params.specs.ClassRanges.{IsCreditBucket, IsPricedBucket}
 use Rattle.simm_params.specs.Facts.{IsParams, IsCreditParams, IsPricedParams}
 use Rattle.simm_params.specs.ListedBuckets.{credit_bucket_of, priced_bucket_of}

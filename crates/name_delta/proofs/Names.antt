@@ -6,20 +6,20 @@ use Rattle.std.specs.List.{AllByRecursion}
 use Rattle.std.specs.List.Sorted.{IsStrictlySortedBy}
 use Rattle.std.proofs.lemmas.Cmp.{nat_list_cmp_total}
 use Rattle.std.proofs.lemmas.Simd.{map-map}
-use Rattle.simm_kinds.specs.declared.kinds.ProductClass.{ProductClass}
-use Rattle.simm_kinds.specs.declared.kinds.BucketId.TheVariants as id
-use Rattle.simm_kinds.specs.declared.bucket.Bucket.{Bucket}
-use Rattle.simm_kinds.specs.declared.bucket.Bucket.TheVariants as bucket
-use Rattle.simm_kinds.specs.declared.factor.Factor.{Factor}
-use Rattle.simm_kinds.specs.declared.factor.Factor.TheVariants as factor
-use Rattle.simm_kinds.specs.declared.key.FactorKey.{FactorKey}
-use Rattle.simm_kinds.specs.Factors.{bucket_id_of}
-use Rattle.simm_kinds.specs.Order.{same_product, key_cmp, name_cmp, same_name, same_bucket, same_bucket_id}
-use Rattle.simm_rules.specs.Params.{PricedBucket}
-use Rattle.simm_rules.specs.Lookups.{six}
-use Rattle.simm_rules.specs.Risks.{risk, PricedClass, Equities, Commodities, Amount}
-use Rattle.simm_rules.specs.Concentration.{one, cr}
-use Rattle.simm_rules.specs.Priced.{as_price, name_rho, weighted_name, price_value}
+use Rattle.simm_params.specs.SimmKinds.declared.kinds.ProductClass.{ProductClass}
+use Rattle.simm_params.specs.SimmKinds.declared.kinds.BucketId.TheVariants as id
+use Rattle.simm_params.specs.SimmKinds.declared.bucket.Bucket.{Bucket}
+use Rattle.simm_params.specs.SimmKinds.declared.bucket.Bucket.TheVariants as bucket
+use Rattle.simm_params.specs.SimmKinds.declared.factor.Factor.{Factor}
+use Rattle.simm_params.specs.SimmKinds.declared.factor.Factor.TheVariants as factor
+use Rattle.simm_params.specs.SimmKinds.declared.key.FactorKey.{FactorKey}
+use Rattle.simm_params.specs.SimmKinds.Factors.{bucket_id_of}
+use Rattle.simm_params.specs.SimmKinds.Order.{same_product, key_cmp, name_cmp, same_name, same_bucket, same_bucket_id}
+use Rattle.simm_params.specs.SimmRules.Params.{PricedBucket}
+use Rattle.simm_params.specs.SimmRules.Lookups.{six}
+use Rattle.simm_params.specs.SimmRules.Risks.{risk, PricedClass, Equities, Commodities, Amount}
+use Rattle.simm_params.specs.SimmRules.Concentration.{one, cr}
+use Rattle.simm_params.specs.SimmRules.Priced.{as_price, name_rho, weighted_name, price_value}
 use Rattle.factor_book.specs.declared.place.Place.{Place}
 use Rattle.factor_book.specs.declared.holding.Holding.{Holding}
 use Rattle.factor_book.specs.Factors.{IsBook}

@@ -5,8 +5,8 @@ use Rattle.std.specs.Ordering.{is_eq, ordering_reverse}
 use Rattle.std.proofs.lemmas.Bool.{cases_lt, eq-eqb, ne_eqb}
 use Rattle.std.proofs.lemmas.Bool.Decides.{nat_tests}
 use Rattle.std.proofs.lemmas.Cmp.{nat_list_cmp_total, nat_eq_equiv, tied_itself, eq_by_cmp_equiv}
-use Rattle.simm_kinds.specs.Order.{name_cmp, same_name}
-use Rattle.simm_rules.specs.Risks.{Amount}
+use Rattle.simm_params.specs.SimmKinds.Order.{name_cmp, same_name}
+use Rattle.simm_params.specs.SimmRules.Risks.{Amount}
 use Rattle.weighted_bucket.specs.declared.group.Grouped.{Grouped}
 use Rattle.weighted_bucket.specs.Group.{at}
 use Rattle.name_delta.specs.Points.{net_at, changes, issuer_rho}

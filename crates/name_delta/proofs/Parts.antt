@@ -13,24 +13,24 @@ use Rattle.std.proofs.lemmas.Int.{ints, fits_signed_from_abs}
 use Rattle.std.proofs.lemmas.List.{take_more, get_or-map, length-map, map-append}
 use Rattle.std.proofs.lemmas.List.Elements.{filter-append}
 use Rattle.std.proofs.lemmas.List.Sums.{sum_by-cons, sum_by-take-le}
-use Rattle.simm_kinds.specs.declared.kinds.BucketId.{BucketId}
-use Rattle.simm_kinds.specs.declared.kinds.BucketId.TheVariants as id
-use Rattle.simm_kinds.specs.declared.bucket.Bucket.{Bucket}
-use Rattle.simm_kinds.specs.declared.bucket.Bucket.TheVariants as bucket
-use Rattle.simm_kinds.specs.Order.{name_cmp, bucket_numbers, bucket_id_numbers, bucket_id_cmp, same_bucket}
-use Rattle.mh_units.proofs.Integers.{product_size, unsigned_abs-add}
-use Rattle.simm_rules.specs.declared.values.BucketMargin.{BucketMargin}
-use Rattle.simm_rules.specs.Lookups.{at_row, six}
-use Rattle.simm_rules.specs.Sums.{total_by, total_by_pairs}
-use Rattle.simm_rules.specs.Concentration.{one}
-use Rattle.simm_rules.specs.Bucket.{root_of}
-use Rattle.simm_rules.specs.Across.{Part, outer, is_residual, numbered, residual, place_among, gamma_among}
+use Rattle.simm_params.specs.SimmKinds.declared.kinds.BucketId.{BucketId}
+use Rattle.simm_params.specs.SimmKinds.declared.kinds.BucketId.TheVariants as id
+use Rattle.simm_params.specs.SimmKinds.declared.bucket.Bucket.{Bucket}
+use Rattle.simm_params.specs.SimmKinds.declared.bucket.Bucket.TheVariants as bucket
+use Rattle.simm_params.specs.SimmKinds.Order.{name_cmp, bucket_numbers, bucket_id_numbers, bucket_id_cmp, same_bucket}
+use Rattle.simm_params.proofs.MhUnits.Integers.{product_size, unsigned_abs-add}
+use Rattle.simm_params.specs.SimmRules.declared.values.BucketMargin.{BucketMargin}
+use Rattle.simm_params.specs.SimmRules.Lookups.{at_row, six}
+use Rattle.simm_params.specs.SimmRules.Sums.{total_by, total_by_pairs}
+use Rattle.simm_params.specs.SimmRules.Concentration.{one}
+use Rattle.simm_params.specs.SimmRules.Bucket.{root_of}
+use Rattle.simm_params.specs.SimmRules.Across.{Part, outer, is_residual, numbered, residual, place_among, gamma_among}
 use Rattle.simm_params.specs.Weighed.{AreCorrelations}
-use Rattle.pair_sum.specs.PairTotal.{outer_total}
-use Rattle.pair_sum.specs.WithItself.{with_itself}
-use Rattle.pair_sum.proofs.Itself.{with_itself-symmetric, with_itself-at_most_one}
-use Rattle.pair_sum.proofs.OverLists.{outer_total-buckets}
-use Rattle.pair_sum.proofs.Sums.{total_by-ext}
+use Rattle.weighted_bucket.specs.PairSums.PairTotal.{outer_total}
+use Rattle.weighted_bucket.specs.PairSums.WithItself.{with_itself}
+use Rattle.weighted_bucket.proofs.PairSums.Itself.{with_itself-symmetric, with_itself-at_most_one}
+use Rattle.weighted_bucket.proofs.PairSums.OverLists.{outer_total-buckets}
+use Rattle.weighted_bucket.proofs.PairSums.Sums.{total_by-ext}
 use Rattle.name_delta.specs.Combine.{part_in, parts_in, margins_of, places_of, number_place, residual_k, gamma_at}
 use Rattle.name_delta.proofs.Lists.{same_place}
 

@@ -6,12 +6,12 @@ use Rattle.std.specs.List.{filter, AllByRecursion}
 use Rattle.std.specs.List.Sorted.{IsStrictlySortedBy}
 use Rattle.std.proofs.lemmas.List.Kept.{IsStrictlySortedBy-filter}
 use Rattle.std.proofs.lemmas.Simd.{map-map}
-use Rattle.simm_kinds.specs.declared.kinds.ProductClass.{ProductClass}
-use Rattle.simm_kinds.specs.declared.key.FactorKey.{FactorKey}
-use Rattle.simm_kinds.specs.Order.{same_product, key_cmp}
-use Rattle.simm_kinds.proofs.Orders.{key_total}
-use Rattle.simm_rules.specs.Net.{Sensitivity, sensitivities, keys_of}
-use Rattle.simm_rules.specs.Risks.{Risk, risk, Amount, select}
+use Rattle.simm_params.specs.SimmKinds.declared.kinds.ProductClass.{ProductClass}
+use Rattle.simm_params.specs.SimmKinds.declared.key.FactorKey.{FactorKey}
+use Rattle.simm_params.specs.SimmKinds.Order.{same_product, key_cmp}
+use Rattle.simm_params.proofs.SimmKinds.Orders.{key_total}
+use Rattle.simm_params.specs.SimmRules.Net.{Sensitivity, sensitivities, keys_of}
+use Rattle.simm_params.specs.SimmRules.Risks.{Risk, risk, Amount, select}
 use Rattle.factor_book.specs.declared.place.Place.{Place}
 use Rattle.factor_book.specs.declared.holding.Holding.{Holding}
 use Rattle.factor_book.specs.Factors.{factor_of, factors_in, net_of, IsBook}

@@ -3,15 +3,15 @@ use Rattle.std.proofs.Common.{◌≡◌, ℕ, ◌+◌, ◌*◌, ◌≤◌, List,
 use Rattle.std.specs.List.{filter, AllByRecursion}
 use Rattle.std.proofs.Math.IntN.{+ℤ_idl, *ℤ_comm, zero-*ℤ}
 use Rattle.std.proofs.lemmas.Int.{ints}
-use Rattle.mh_units.proofs.Integers.{unsigned_abs-add}
-use Rattle.simm_kinds.specs.declared.kinds.ProductClass.{ProductClass}
-use Rattle.simm_kinds.specs.declared.key.FactorKey.{FactorKey}
-use Rattle.simm_kinds.specs.declared.row.CrifRow.{CrifRow}
-use Rattle.simm_kinds.specs.Order.{same_product, same_key}
-use Rattle.simm_rules.specs.Sums.{total_by}
-use Rattle.simm_rules.specs.Net.{Sensitivity, sensitivities, in_product, net, keys_of}
-use Rattle.simm_rules.specs.Risks.{Risk, risk, Amount, select}
-use Rattle.simm_rules.specs.Gross.{size_by}
+use Rattle.simm_params.proofs.MhUnits.Integers.{unsigned_abs-add}
+use Rattle.simm_params.specs.SimmKinds.declared.kinds.ProductClass.{ProductClass}
+use Rattle.simm_params.specs.SimmKinds.declared.key.FactorKey.{FactorKey}
+use Rattle.simm_params.specs.SimmKinds.declared.row.CrifRow.{CrifRow}
+use Rattle.simm_params.specs.SimmKinds.Order.{same_product, same_key}
+use Rattle.simm_params.specs.SimmRules.Sums.{total_by}
+use Rattle.simm_params.specs.SimmRules.Net.{Sensitivity, sensitivities, in_product, net, keys_of}
+use Rattle.simm_params.specs.SimmRules.Risks.{Risk, risk, Amount, select}
+use Rattle.simm_params.specs.SimmRules.Gross.{size_by}
 use Rattle.factor_book.specs.declared.holding.Holding.{Holding}
 use Rattle.factor_book.specs.Factors.{size_of, factor_of, factors_in, factors_of, net_of}
 use Rattle.factor_book.proofs.Sums.{total_by-map, total_by-agree}

@@ -5,13 +5,13 @@ use Rattle.std.specs.List.{filter, AllByRecursion}
 use Rattle.std.proofs.lemmas.Int.{ints}
 use Rattle.std.proofs.lemmas.Nat.{div-add-mod'}
 use Rattle.std.proofs.lemmas.List.Sums.{sum_by-cons}
-use Rattle.mh_units.specs.Rounding.{away}
-use Rattle.mh_units.proofs.Integers.{unsigned_abs-add, unsigned_abs-neg}
-use Rattle.simm_rules.specs.declared.values.BucketMargin.{BucketMargin}
-use Rattle.simm_rules.specs.Sums.{total_by}
-use Rattle.simm_rules.specs.Risks.{Amount}
-use Rattle.simm_rules.specs.Concentration.{one}
-use Rattle.simm_rules.specs.Gross.{size_by}
+use Rattle.simm_params.specs.MhUnits.Rounding.{away}
+use Rattle.simm_params.proofs.MhUnits.Integers.{unsigned_abs-add, unsigned_abs-neg}
+use Rattle.simm_params.specs.SimmRules.declared.values.BucketMargin.{BucketMargin}
+use Rattle.simm_params.specs.SimmRules.Sums.{total_by}
+use Rattle.simm_params.specs.SimmRules.Risks.{Amount}
+use Rattle.simm_params.specs.SimmRules.Concentration.{one}
+use Rattle.simm_params.specs.SimmRules.Gross.{size_by}
 use Rattle.weighted_bucket.specs.declared.weighed.Weighed.{Weighed}
 use Rattle.name_delta.specs.Values.{IsInRange, IsSmall, AreSmall, IsSized}
 use Rattle.name_delta.proofs.Lists.{each_always, each_weaker, each_map}

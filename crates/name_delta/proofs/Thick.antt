@@ -4,10 +4,10 @@ use Rattle.std.specs.List.{AllByRecursion}
 use Rattle.std.proofs.Math.Nat.{le_of_mul-le-mul_right}
 use Rattle.std.proofs.lemmas.Int.{ints, clamps, unsigned_abs-mul}
 use Rattle.std.proofs.lemmas.List.Elements.{All-from_recursion}
-use Rattle.mh_units.specs.Rounding.{up}
-use Rattle.concentration.proofs.Factors.{square_bound, root_bound}
-use Rattle.simm_rules.specs.Concentration.{one, cr}
-use Rattle.simm_rules.specs.Bucket.{weighted_value}
+use Rattle.simm_params.specs.MhUnits.Rounding.{up}
+use Rattle.weighted_bucket.proofs.Concentration.Factors.{square_bound, root_bound}
+use Rattle.simm_params.specs.SimmRules.Concentration.{one, cr}
+use Rattle.simm_params.specs.SimmRules.Bucket.{weighted_value}
 use Rattle.simm_params.specs.Facts.{IsWeighed}
 use Rattle.weighted_bucket.specs.declared.weighed.Weighed.{Weighed}
 use Rattle.name_delta.specs.Alone.{AreTerms}

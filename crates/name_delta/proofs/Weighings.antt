@@ -1,9 +1,9 @@
 -- Factors that have been weighed so far.
 use Rattle.std.proofs.Common.{◌≡◌, List, [], ◌∷◌, ◌++◌, map, Option, Some, None, sym, ap, ◌∙◌, subst, ℤ, append_assoc}
 use Rattle.std.specs.List.{AllByRecursion}
-use Rattle.mh_units.specs.declared.quantities.Corr6.{Corr6}
-use Rattle.simm_kinds.specs.declared.key.FactorKey.{FactorKey}
-use Rattle.simm_rules.specs.Risks.{Risk, risk, Amount, select}
+use Rattle.simm_params.specs.MhUnits.declared.quantities.Corr6.{Corr6}
+use Rattle.simm_params.specs.SimmKinds.declared.key.FactorKey.{FactorKey}
+use Rattle.simm_params.specs.SimmRules.Risks.{Risk, risk, Amount, select}
 use Rattle.factor_book.specs.declared.holding.Holding.{Holding}
 use Rattle.factor_book.specs.Factors.{net_of}
 use Rattle.weighted_bucket.specs.declared.weighed.Weighed.{Weighed}

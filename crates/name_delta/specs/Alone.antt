@@ -1,8 +1,8 @@
 -- Names that are concentration groups by themselves: a net's weighted value and its concentration factor.
 -- (ISDA SIMM methodology: weighted sensitivities and concentration.)
 use Rattle.std.specs.Prelude.{ℤ, pos, ◌≤ℤ◌}
-use Rattle.simm_rules.specs.Concentration.{cr}
-use Rattle.simm_rules.specs.Bucket.{weighted_value}
+use Rattle.simm_params.specs.SimmRules.Concentration.{cr}
+use Rattle.simm_params.specs.SimmRules.Bucket.{weighted_value}
 use Rattle.simm_params.specs.Facts.{IsWeighed}
 use Rattle.weighted_bucket.specs.declared.weighed.Weighed.{Weighed}
 

@@ -1,15 +1,15 @@
 -- The index families of a product class among the factors of a book.
 -- (ISDA SIMM methodology, base correlation margin.)
 use Rattle.std.specs.Prelude.{ℕ, ◌^◌, List, ℤ, pos, ◌*ℤ◌}
-use Rattle.mh_units.specs.Rounding.{away}
-use Rattle.simm_kinds.specs.declared.kinds.ProductClass.{ProductClass}
-use Rattle.simm_kinds.specs.declared.kinds.RiskClass.TheVariants as class
-use Rattle.simm_kinds.specs.declared.kinds.BucketId.TheVariants as bucket
-use Rattle.simm_kinds.specs.declared.key.FactorKey.{FactorKey}
-use Rattle.simm_rules.specs.Params.{Params}
-use Rattle.simm_rules.specs.Risks.{Amount, select}
-use Rattle.simm_rules.specs.Concentration.{one}
-use Rattle.simm_rules.specs.BaseCorrelation.{as_index}
+use Rattle.simm_params.specs.MhUnits.Rounding.{away}
+use Rattle.simm_params.specs.SimmKinds.declared.kinds.ProductClass.{ProductClass}
+use Rattle.simm_params.specs.SimmKinds.declared.kinds.RiskClass.TheVariants as class
+use Rattle.simm_params.specs.SimmKinds.declared.kinds.BucketId.TheVariants as bucket
+use Rattle.simm_params.specs.SimmKinds.declared.key.FactorKey.{FactorKey}
+use Rattle.simm_params.specs.SimmRules.Params.{Params}
+use Rattle.simm_params.specs.SimmRules.Risks.{Amount, select}
+use Rattle.simm_params.specs.SimmRules.Concentration.{one}
+use Rattle.simm_params.specs.SimmRules.BaseCorrelation.{as_index}
 use Rattle.factor_book.specs.declared.place.Place.{Place}
 use Rattle.factor_book.specs.declared.place.BookSide.TheVariants as side
 use Rattle.factor_book.specs.declared.holding.Holding.{Holding}

@@ -1,14 +1,14 @@
 -- The currencies of a product class among the factors of a book, and the correlations of two of them by their places.
 -- (ISDA SIMM methodology, foreign exchange risk.)
 use Rattle.std.specs.Prelude.{ℕ, List, slice_index_or, Option, Some, None, if◌then◌else◌, ℤ}
-use Rattle.simm_kinds.specs.declared.kinds.ProductClass.{ProductClass}
-use Rattle.simm_kinds.specs.declared.kinds.RiskClass.TheVariants as class
-use Rattle.simm_kinds.specs.declared.kinds.BucketId.TheVariants as bucket
-use Rattle.simm_kinds.specs.declared.key.FactorKey.{FactorKey}
-use Rattle.simm_rules.specs.Params.{Params}
-use Rattle.simm_rules.specs.Lookups.{six}
-use Rattle.simm_rules.specs.Risks.{Risk, Amount}
-use Rattle.simm_rules.specs.ForeignExchange.{as_currency, is_own_currency, currencies_of, weighted_currency}
+use Rattle.simm_params.specs.SimmKinds.declared.kinds.ProductClass.{ProductClass}
+use Rattle.simm_params.specs.SimmKinds.declared.kinds.RiskClass.TheVariants as class
+use Rattle.simm_params.specs.SimmKinds.declared.kinds.BucketId.TheVariants as bucket
+use Rattle.simm_params.specs.SimmKinds.declared.key.FactorKey.{FactorKey}
+use Rattle.simm_params.specs.SimmRules.Params.{Params}
+use Rattle.simm_params.specs.SimmRules.Lookups.{six}
+use Rattle.simm_params.specs.SimmRules.Risks.{Risk, Amount}
+use Rattle.simm_params.specs.SimmRules.ForeignExchange.{as_currency, is_own_currency, currencies_of, weighted_currency}
 use Rattle.factor_book.specs.declared.place.Place.{Place}
 use Rattle.factor_book.specs.declared.place.BookSide.TheVariants as side
 use Rattle.factor_book.specs.declared.holding.Holding.{Holding}

@@ -1,19 +1,19 @@
 -- The delta value of a bucket, by its class.
 -- (ISDA SIMM methodology, delta margin: aggregation within a bucket.)
 use Rattle.std.specs.Prelude.{ℕ, List, length, Option, Some, None, option_map, IsSomeAnd}
-use Rattle.simm_kinds.specs.declared.kinds.ProductClass.{ProductClass}
-use Rattle.simm_kinds.specs.declared.kinds.RiskClass.{RiskClass}
-use Rattle.simm_kinds.specs.declared.kinds.RiskClass.TheVariants as class
-use Rattle.simm_kinds.specs.declared.kinds.BucketId.{BucketId}
-use Rattle.simm_kinds.specs.declared.kinds.BucketId.TheVariants as id
-use Rattle.simm_kinds.specs.declared.bucket.Bucket.{Bucket}
-use Rattle.simm_kinds.specs.declared.key.FactorKey.{FactorKey}
-use Rattle.simm_rules.specs.declared.values.BucketMargin.{BucketMargin}
-use Rattle.simm_rules.specs.Params.{Params}
-use Rattle.simm_rules.specs.Risks.{CreditClass, Qualifying, Non_qualifying, PricedClass, Equities, Commodities}
-use Rattle.simm_rules.specs.Credit.{credit_params, credit_value}
-use Rattle.simm_rules.specs.Priced.{priced_params, price_value}
-use Rattle.simm_rules.specs.ForeignExchange.{fx_weight, fx_value}
+use Rattle.simm_params.specs.SimmKinds.declared.kinds.ProductClass.{ProductClass}
+use Rattle.simm_params.specs.SimmKinds.declared.kinds.RiskClass.{RiskClass}
+use Rattle.simm_params.specs.SimmKinds.declared.kinds.RiskClass.TheVariants as class
+use Rattle.simm_params.specs.SimmKinds.declared.kinds.BucketId.{BucketId}
+use Rattle.simm_params.specs.SimmKinds.declared.kinds.BucketId.TheVariants as id
+use Rattle.simm_params.specs.SimmKinds.declared.bucket.Bucket.{Bucket}
+use Rattle.simm_params.specs.SimmKinds.declared.key.FactorKey.{FactorKey}
+use Rattle.simm_params.specs.SimmRules.declared.values.BucketMargin.{BucketMargin}
+use Rattle.simm_params.specs.SimmRules.Params.{Params}
+use Rattle.simm_params.specs.SimmRules.Risks.{CreditClass, Qualifying, Non_qualifying, PricedClass, Equities, Commodities}
+use Rattle.simm_params.specs.SimmRules.Credit.{credit_params, credit_value}
+use Rattle.simm_params.specs.SimmRules.Priced.{priced_params, price_value}
+use Rattle.simm_params.specs.SimmRules.ForeignExchange.{fx_weight, fx_value}
 use Rattle.factor_book.specs.declared.at.BucketAt.{BucketAt}
 use Rattle.factor_book.specs.declared.holding.Holding.{Holding}
 use Rattle.simm_params.specs.ListedBuckets.{credit_bucket_of, priced_bucket_of}

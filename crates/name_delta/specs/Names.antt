@@ -1,14 +1,14 @@
 -- The names of a bucket of equity or of commodities among the factors of a book.
 -- (ISDA SIMM methodology, equity and commodity risk.)
 use Rattle.std.specs.Prelude.{ℕ, List}
-use Rattle.simm_kinds.specs.declared.kinds.ProductClass.{ProductClass}
-use Rattle.simm_kinds.specs.declared.kinds.RiskClass.{RiskClass}
-use Rattle.simm_kinds.specs.declared.kinds.RiskClass.TheVariants as class
-use Rattle.simm_kinds.specs.declared.bucket.Bucket.{Bucket}
-use Rattle.simm_kinds.specs.declared.key.FactorKey.{FactorKey}
-use Rattle.simm_kinds.specs.Factors.{bucket_id_of}
-use Rattle.simm_rules.specs.Risks.{PricedClass, Equities, Commodities, Amount, select}
-use Rattle.simm_rules.specs.Priced.{as_price}
+use Rattle.simm_params.specs.SimmKinds.declared.kinds.ProductClass.{ProductClass}
+use Rattle.simm_params.specs.SimmKinds.declared.kinds.RiskClass.{RiskClass}
+use Rattle.simm_params.specs.SimmKinds.declared.kinds.RiskClass.TheVariants as class
+use Rattle.simm_params.specs.SimmKinds.declared.bucket.Bucket.{Bucket}
+use Rattle.simm_params.specs.SimmKinds.declared.key.FactorKey.{FactorKey}
+use Rattle.simm_params.specs.SimmKinds.Factors.{bucket_id_of}
+use Rattle.simm_params.specs.SimmRules.Risks.{PricedClass, Equities, Commodities, Amount, select}
+use Rattle.simm_params.specs.SimmRules.Priced.{as_price}
 use Rattle.factor_book.specs.declared.place.Place.{Place}
 use Rattle.factor_book.specs.declared.place.BookSide.TheVariants as side
 use Rattle.factor_book.specs.declared.holding.Holding.{Holding}

@@ -1,22 +1,22 @@
 ghost use Rattle.std.specs.Prelude.{◌≡◌, ◌<◌, ◌≤◌, ◌*◌, ◌^◌, Some, IfOk, map, sum_by, pos, ◌≤ℤ◌, unsigned_abs};
 ghost use Rattle.std.specs.List.{AllByRecursion};
 ghost use Rattle.std.specs.List.Sorted.{IsStrictlySortedBy};
-ghost use Rattle.simm_kinds.specs.declared.kinds.BucketId.TheVariants.{Single};
-ghost use Rattle.simm_kinds.specs.Order.{bucket_id_cmp};
-ghost use Rattle.simm_rules.specs.Across.{numbered};
-ghost use Rattle.simm_rules.specs.Sums.{total_by};
+ghost use Rattle.simm_params.specs.SimmKinds.declared.kinds.BucketId.TheVariants.{Single};
+ghost use Rattle.simm_params.specs.SimmKinds.Order.{bucket_id_cmp};
+ghost use Rattle.simm_params.specs.SimmRules.Across.{numbered};
+ghost use Rattle.simm_params.specs.SimmRules.Sums.{total_by};
 ghost use Rattle.name_delta.specs.Ids.{listed_id};
 ghost use Rattle.name_delta.specs.Combine.{listed_in, parts_in, margins_of, places_of, part_in, number_place, residual_k, named_margin, combined_by_class, IsListed, AreSized, AreParts};
 
 use crate::gamma::GammaTable;
 use crate::named::NamedClass;
 use factor_book::ClassAt;
-use mh_units::Cents;
-use pair_sum::outer_root;
-use simm_kinds::{Bucket, BucketId, RiskClass};
+use simm_params::mh_units::Cents;
+use simm_params::simm_kinds::{Bucket, BucketId, RiskClass};
+use simm_params::simm_rules::BucketMargin;
 use simm_params::{CreditKind, Params, PricedKind};
-use simm_rules::BucketMargin;
 use std::alloc::{AllocError, Global};
+use weighted_bucket::pair_sum::outer_root;
 
 /// The delta margin of a class of credit, equity, commodities or foreign exchange in a product class, over the values of its
 /// buckets, in cents: the numbered buckets' under one root, and the residual one's beside it; in foreign exchange that of

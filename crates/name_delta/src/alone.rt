@@ -4,10 +4,10 @@ ghost use Rattle.std.specs.List.{AllByRecursion};
 ghost use Rattle.name_delta.specs.Alone.{AreTerms, weighed_alone};
 ghost use Rattle.name_delta.specs.Values.{nets, IsSmall};
 
-use concentration::cr;
 use factor_book::PlaceFactors;
-use mh_units::Rate4;
+use simm_params::mh_units::Rate4;
 use std::alloc::{AllocError, Global};
+use weighted_bucket::concentration::cr;
 use weighted_bucket::{Weighed, weigh};
 
 /// A net sensitivity in cents, weighed by its own concentration over the threshold, in cents.

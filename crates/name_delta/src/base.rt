@@ -1,20 +1,20 @@
 //! Base correlation: the index families of credit that qualifies, in one bucket, without concentration.
 ghost use Rattle.std.specs.Prelude.{◌≡◌, ◌+◌, ◌*◌, ◌≤◌, IfOk, length, map};
 ghost use Rattle.std.specs.List.{AllByRecursion};
-ghost use Rattle.simm_rules.specs.BaseCorrelation.{base_value};
+ghost use Rattle.simm_params.specs.SimmRules.BaseCorrelation.{base_value};
 ghost use Rattle.name_delta.specs.Base.{base_place, indices_of, index_weight, weighed_net};
 ghost use Rattle.name_delta.specs.Values.{nets, nets_at, IsInRange, IsSized, IsSmall};
 
 use crate::even::EvenRho;
 use crate::six::in_millionths;
 use factor_book::{BookSide, Factors, Place, PlaceFactors};
-use mh_units::{Corr6, Rate4, div_away};
-use pair_sum::Steps;
-use simm_kinds::{BucketId, ProductClass, RiskClass};
 use simm_params::Params;
-use simm_rules::BucketMargin;
+use simm_params::mh_units::{Corr6, Rate4, div_away};
+use simm_params::simm_kinds::{BucketId, ProductClass, RiskClass};
+use simm_params::simm_rules::BucketMargin;
 use std::alloc::{AllocError, Global};
 use std::sync::ledger::Ledger;
+use weighted_bucket::pair_sum::Steps;
 use weighted_bucket::{Scaling, Weighed, bucket_margin};
 
 /// The value of the one bucket of a product class's base correlations, whose `k` is the base correlation margin. The factors

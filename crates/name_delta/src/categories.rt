@@ -3,7 +3,7 @@ ghost use Rattle.simm_params.specs.declared.category.VolatilityCategory.{Volatil
 ghost use Rattle.name_delta.specs.Currencies.{rho_at, rho_of};
 
 use crate::six::in_millionths;
-use mh_units::Corr6;
+use simm_params::mh_units::Corr6;
 use simm_params::{Params, VolatilityCategory};
 use weighted_bucket::Rho;
 

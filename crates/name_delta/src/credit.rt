@@ -1,6 +1,6 @@
 //! Credit that qualifies and that does not: the points of a bucket, of which an issuer's are one concentration group.
 ghost use Rattle.std.specs.Prelude.{◌≡◌, ◌+◌, ◌*◌, ◌^◌, ◌<◌, ◌≤◌, All, Some, IfOk, IsSomeAnd, length, map, option_map, sum_by, unsigned_abs};
-ghost use Rattle.simm_rules.specs.Credit.{credit_params, credit_value};
+ghost use Rattle.simm_params.specs.SimmRules.Credit.{credit_params, credit_value};
 ghost use Rattle.simm_params.specs.ClassKinds.{credit_class};
 ghost use Rattle.simm_params.specs.ListedBuckets.{credit_bucket_of, credit_bucket_view};
 ghost use Rattle.simm_params.specs.Weighed.{IsWeighedCredit};
@@ -15,13 +15,13 @@ use crate::issuers::IssuerRho;
 use crate::points::group_points;
 use crate::six::in_millionths;
 use factor_book::{BookSide, Factors, Place};
-use mh_units::{Corr6, Rate4};
-use pair_sum::Steps;
-use simm_kinds::{Bucket, ProductClass, RiskClass};
+use simm_params::mh_units::{Corr6, Rate4};
+use simm_params::simm_kinds::{Bucket, ProductClass, RiskClass};
+use simm_params::simm_rules::BucketMargin;
 use simm_params::{CreditBucket, CreditKind, Params};
-use simm_rules::BucketMargin;
 use std::alloc::{AllocError, Global};
 use std::sync::ledger::Ledger;
+use weighted_bucket::pair_sum::Steps;
 use weighted_bucket::{Grouped, Scaling, Weighed, bucket_margin, group_cr, weigh};
 
 /// A bucket of a class of credit in a product class.

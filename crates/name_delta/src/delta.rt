@@ -8,12 +8,12 @@ use crate::fx::fx_bucket;
 use crate::ids::listed_bucket;
 use crate::priced::{PricedAt, priced_bucket};
 use factor_book::{BucketAt, Factors};
-use pair_sum::Steps;
-use simm_kinds::RiskClass;
+use simm_params::simm_kinds::RiskClass;
+use simm_params::simm_rules::BucketMargin;
 use simm_params::{CreditKind, Params, PricedKind};
-use simm_rules::BucketMargin;
 use std::alloc::{AllocError, Global};
 use std::sync::ledger::Ledger;
+use weighted_bucket::pair_sum::Steps;
 
 /// The delta value of a bucket of credit, equity, commodities or foreign exchange: one that the file lists for the class, and
 /// `Single` in foreign exchange. Its factors are those of a book in range. `n` factors take at most `n * n` steps. Want of

@@ -1,6 +1,6 @@
 ghost use Rattle.std.specs.Prelude.{◌≤◌, unsigned_abs, refl};
 
-use mh_units::Corr6;
+use simm_params::mh_units::Corr6;
 use weighted_bucket::Rho;
 
 /// One correlation of any two different factors of a bucket.

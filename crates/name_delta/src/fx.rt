@@ -1,7 +1,7 @@
 //! Foreign exchange: the currencies of a product class, in one bucket. A currency is a concentration group by itself.
 ghost use Rattle.std.specs.Prelude.{◌≡◌, ◌+◌, ◌*◌, ◌≤◌, IfOk, false, length, map};
-ghost use Rattle.simm_rules.specs.Risks.{risk, select};
-ghost use Rattle.simm_rules.specs.ForeignExchange.{is_own_currency, fx_weight, fx_value};
+ghost use Rattle.simm_params.specs.SimmRules.Risks.{risk, select};
+ghost use Rattle.simm_params.specs.SimmRules.ForeignExchange.{is_own_currency, fx_weight, fx_value};
 ghost use Rattle.factor_book.specs.Factors.{net_of};
 ghost use Rattle.factor_book.specs.Places.{factors_at};
 ghost use Rattle.simm_params.specs.Categories.{volatility};
@@ -11,13 +11,13 @@ ghost use Rattle.name_delta.specs.Values.{IsInRange, IsSized, IsSmall, AreSmall}
 use crate::alone::weigh_alone;
 use crate::categories::CategoryRho;
 use factor_book::{BookSide, Factors, Place, PlaceFactors};
-use mh_units::Corr6;
-use pair_sum::Steps;
-use simm_kinds::{BucketId, Currency, Factor, FactorKey, ProductClass, RiskClass};
+use simm_params::mh_units::Corr6;
+use simm_params::simm_kinds::{BucketId, Currency, Factor, FactorKey, ProductClass, RiskClass};
+use simm_params::simm_rules::BucketMargin;
 use simm_params::{Params, VolatilityCategory};
-use simm_rules::BucketMargin;
 use std::alloc::{AllocError, Global};
 use std::sync::ledger::Ledger;
+use weighted_bucket::pair_sum::Steps;
 use weighted_bucket::{Scaling, Weighed, bucket_margin};
 
 /// The value of the one bucket of a product class's currencies, whose `k` is the delta margin of foreign exchange. The factors

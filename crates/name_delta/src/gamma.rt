@@ -1,12 +1,12 @@
 ghost use Rattle.std.specs.Prelude.{◌≡◌, ℕ, ◌<◌, ◌≤◌, length, unsigned_abs};
-ghost use Rattle.pair_sum.specs.WithItself.{with_itself, with_itself-one};
+ghost use Rattle.weighted_bucket.specs.PairSums.WithItself.{with_itself, with_itself-one};
 ghost use Rattle.name_delta.specs.Combine.{gamma_in, gamma_at};
 
 use crate::named::NamedClass;
 use crate::six::in_millionths;
-use mh_units::Corr6;
-use pair_sum::Correlation;
 use simm_params::Params;
+use simm_params::mh_units::Corr6;
+use weighted_bucket::pair_sum::Correlation;
 
 /// The correlations of numbered buckets, by their places among those that the file lists.
 #[derive(Drop)]

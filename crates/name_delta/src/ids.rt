@@ -1,9 +1,9 @@
 //! Buckets that files list, among the buckets of all classes.
 ghost use Rattle.std.specs.Prelude.{◌≡◌};
-ghost use Rattle.simm_kinds.specs.Factors.{bucket_id_of};
+ghost use Rattle.simm_params.specs.SimmKinds.Factors.{bucket_id_of};
 ghost use Rattle.name_delta.specs.Ids.{listed_id};
 
-use simm_kinds::{Bucket, BucketId};
+use simm_params::simm_kinds::{Bucket, BucketId};
 
 /// The id of a bucket.
 pub fn bucket_id(bucket: &Bucket) -> BucketId

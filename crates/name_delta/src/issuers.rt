@@ -1,7 +1,7 @@
 ghost use Rattle.std.specs.Prelude.{◌≡◌, ℕ, ◌≤◌, length, unsigned_abs};
 ghost use Rattle.name_delta.specs.Points.{issuer_rho};
 
-use mh_units::Corr6;
+use simm_params::mh_units::Corr6;
 use weighted_bucket::{Grouped, Rho};
 
 /// The correlations of the points of a bucket of credit, by the numbers of their issuers.

@@ -1,12 +1,12 @@
 ghost use Rattle.std.specs.Prelude.{◌≡◌, ◌≤◌, true, unsigned_abs, ℕ};
-ghost use Rattle.simm_rules.specs.Across.{place_among};
-ghost use Rattle.simm_rules.specs.Admits.{lists};
-ghost use Rattle.simm_rules.specs.Lookups.{at_row};
+ghost use Rattle.simm_params.specs.SimmRules.Across.{place_among};
+ghost use Rattle.simm_params.specs.SimmRules.Admits.{lists};
+ghost use Rattle.simm_params.specs.SimmRules.Lookups.{at_row};
 ghost use Rattle.simm_params.specs.Weighed.{AreCorrelations};
 ghost use Rattle.name_delta.specs.Combine.{listed_in, gamma_in};
 
-use mh_units::Rate4;
-use simm_kinds::Bucket;
+use simm_params::mh_units::Rate4;
+use simm_params::simm_kinds::Bucket;
 use simm_params::{CreditKind, Params, PricedKind};
 
 /// A class of which the file lists buckets.

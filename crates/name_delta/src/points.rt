@@ -1,10 +1,10 @@
 //! The points of a bucket of credit, in concentration groups: an issuer's points in a bucket are one group.
 ghost use Rattle.std.specs.Prelude.{◌≡◌, ◌-◌, ◌<◌, ◌≤◌, IfOk, map, length, option_map};
-ghost use Rattle.simm_rules.specs.Risks.{risk};
+ghost use Rattle.simm_params.specs.SimmRules.Risks.{risk};
 ghost use Rattle.name_delta.specs.Points.{as_issuer, issuer_nets, issuer_nets_at, points_view, changes, AreGrouped};
 
 use factor_book::{Factors, Place, PlaceFactors};
-use simm_kinds::{Factor, FactorKey, FullName};
+use simm_params::simm_kinds::{Factor, FactorKey, FullName};
 use std::alloc::{AllocError, Global};
 use weighted_bucket::Grouped;
 

@@ -1,7 +1,7 @@
 //! Equity and commodities: the names of a bucket, each a concentration group by itself.
 ghost use Rattle.std.specs.Prelude.{◌≡◌, ◌+◌, ◌*◌, ◌≤◌, Some, IfOk, IsSomeAnd, length, map, option_map};
 ghost use Rattle.std.specs.List.{AllByRecursion};
-ghost use Rattle.simm_rules.specs.Priced.{priced_params, price_value};
+ghost use Rattle.simm_params.specs.SimmRules.Priced.{priced_params, price_value};
 ghost use Rattle.simm_params.specs.ClassKinds.{priced_class};
 ghost use Rattle.simm_params.specs.ListedBuckets.{priced_bucket_of, priced_bucket_view};
 ghost use Rattle.simm_params.specs.Weighed.{IsWeighedPriced};
@@ -15,13 +15,13 @@ use crate::even::EvenRho;
 use crate::ids::bucket_id;
 use crate::six::in_millionths;
 use factor_book::{BookSide, Factors, Place};
-use mh_units::{Corr6, Rate4};
-use pair_sum::Steps;
-use simm_kinds::{Bucket, ProductClass, RiskClass};
+use simm_params::mh_units::{Corr6, Rate4};
+use simm_params::simm_kinds::{Bucket, ProductClass, RiskClass};
+use simm_params::simm_rules::BucketMargin;
 use simm_params::{Params, PricedBucket, PricedKind};
-use simm_rules::BucketMargin;
 use std::alloc::{AllocError, Global};
 use std::sync::ledger::Ledger;
+use weighted_bucket::pair_sum::Steps;
 use weighted_bucket::{Scaling, Weighed, bucket_margin};
 
 /// A bucket of equity or of commodities in a product class.

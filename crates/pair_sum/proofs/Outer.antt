@@ -4,7 +4,7 @@ use Rattle.std.proofs.lemmas.Int.{ints, unsigned_abs-mul}
 use Rattle.std.proofs.lemmas.List.{get_or-map}
 use Rattle.std.proofs.lemmas.Nat.{mul-le}
 use Rattle.std.proofs.lemmas.Bool.Decides.{nat_tests}
-use Rattle.mh_units.proofs.Integers.{mul-add_ℤ, unsigned_abs-add}
+use Rattle.simm_rules.proofs.MhUnits.Integers.{mul-add_ℤ, unsigned_abs-add}
 use Rattle.simm_rules.specs.declared.values.BucketMargin.{BucketMargin}
 use Rattle.simm_rules.specs.Concentration.{one}
 use Rattle.pair_sum.specs.PairTotal.{sum_below, at_place, term, term_apart, margins, held_sums, outer_total}

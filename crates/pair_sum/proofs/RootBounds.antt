@@ -2,8 +2,8 @@
 use Rattle.std.proofs.Common.{◌≡◌, ℕ, ◌*◌, ◌≤◌, ℤ, pos, ◌≤ℤ◌, unsigned_abs, sym, subst, arith, FitsSigned}
 use Rattle.std.proofs.lemmas.Int.{ints}
 use Rattle.std.specs.Int.{w128}
-use Rattle.mh_units.specs.Rounding.{up, root}
-use Rattle.mh_units.proofs.Roundings.{up_is, root_is, IsRoot_unique}
+use Rattle.simm_rules.specs.MhUnits.Rounding.{up, root}
+use Rattle.simm_rules.proofs.MhUnits.Roundings.{up_is, root_is, IsRoot_unique}
 use Rattle.simm_rules.specs.Concentration.{one}
 use Rattle.simm_rules.specs.Bucket.{root_of}
 

@@ -2,7 +2,7 @@
 use Rattle.std.proofs.Common.{◌≡◌, ℕ, zero, suc, ◌+◌, ◌*◌, ◌^◌, ◌<◌, ◌≤◌, List, ℤ, ◌+ℤ◌, ◌*ℤ◌, unsigned_abs, sym, ap, ◌∙◌, subst, arith, add-one}
 use Rattle.std.proofs.Math.IntN.{zero-*ℤ}
 use Rattle.std.proofs.lemmas.Nat.{mul-le}
-use Rattle.mh_units.proofs.Integers.{add-mul_ℤ, unsigned_abs-add, product_size}
+use Rattle.simm_rules.proofs.MhUnits.Integers.{add-mul_ℤ, unsigned_abs-add, product_size}
 use Rattle.pair_sum.specs.PairTotal.{sum_below, at_place, term}
 use Rattle.pair_sum.proofs.Sums.{sizes_below, sizes_below-mono, amount_le}
 use Rattle.pair_sum.proofs.Squares.{swap_last, row_size, square_in_range, Correlates}

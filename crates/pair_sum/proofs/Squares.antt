@@ -4,7 +4,7 @@ use Rattle.std.proofs.Math.IntN.{*ℤ_comm}
 use Rattle.std.proofs.lemmas.Int.{ints, unsigned_abs-mul, fits_signed_from_abs}
 use Rattle.std.specs.Int.{w128}
 use Rattle.std.proofs.lemmas.Nat.{mul-le}
-use Rattle.mh_units.proofs.Integers.{mul_assoc_ℤ, unsigned_abs-add, product_size}
+use Rattle.simm_rules.proofs.MhUnits.Integers.{mul_assoc_ℤ, unsigned_abs-add, product_size}
 use Rattle.pair_sum.specs.PairTotal.{sum_below, at_place, term, pair_total}
 use Rattle.pair_sum.proofs.Sums.{sum_below-ext, sum_below-add, sizes_below, sizes_below-mono}
 

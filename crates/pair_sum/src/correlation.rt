@@ -1,7 +1,7 @@
 ghost use Rattle.std.specs.Prelude.{◌≡◌, ℕ, ◌<◌, ◌≤◌, ℤ, unsigned_abs};
 ghost use Rattle.simm_rules.specs.Concentration.{one};
 
-use mh_units::Corr6;
+use simm_rules::mh_units::Corr6;
 
 /// The correlations of a list of factors or of buckets, by their places: 1 of each with itself, the same both ways round, and
 /// between -1 and 1.

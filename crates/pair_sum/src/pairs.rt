@@ -5,7 +5,7 @@ use crate::correlation::Correlation;
 use crate::item::Weighted;
 use crate::row::row_below;
 use crate::steps::Steps;
-use mh_units::Corr6;
+use simm_rules::mh_units::Corr6;
 use std::sync::ledger::Ledger;
 
 /// The product of a correlation and the two amounts, in cents squared times 10^6: one step.

@@ -6,8 +6,8 @@ ghost use Rattle.pair_sum.specs.PairTotal.{at_place, margins, outer_total};
 use crate::correlation::Correlation;
 use crate::row::row_below;
 use crate::steps::Steps;
-use mh_units::{div_up, least_root};
 use simm_rules::BucketMargin;
+use simm_rules::mh_units::{div_up, least_root};
 use std::marker::Brand;
 use std::sync::ledger::{Blank, Ledger};
 

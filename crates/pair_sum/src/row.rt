@@ -4,7 +4,7 @@ ghost use Rattle.pair_sum.specs.PairTotal.{at_place, sum_below, term};
 use crate::correlation::Correlation;
 use crate::item::Weighted;
 use crate::steps::Steps;
-use mh_units::Corr6;
+use simm_rules::mh_units::Corr6;
 use std::sync::ledger::Ledger;
 
 // The terms of one row with the places before it, which are as many steps. The row's own amount is a factor of each, so it

@@ -5,13 +5,13 @@ use Rattle.std.proofs.lemmas.Bool.{eqb-true, and_parts}
 use Rattle.std.specs.List.{All}
 use Rattle.std.proofs.lemmas.List.Elements.{All-nil, All-cons}
 use Rattle.toml.specs.Data.{Data, Items, no_items, item}
-use Rattle.mh_units.specs.Numeral.{fixed_of}
-use Rattle.toml_values.specs.declared.range.Range.{Range}
-use Rattle.toml_values.specs.declared.fault.ValueFault.TheVariants.{Missing, BadNumber, OutOfRange}
-use Rattle.toml_values.specs.Answers.{◌>>=◌, Answers}
-use Rattle.toml_values.specs.Ranges.{is_within, IsWithin}
-use Rattle.toml_values.specs.Values.{items_count, text_of, array_of, array_of_length, in_range, fixed_at, rate_of}
-use Rattle.toml_values.specs.Places.{each_of}
+use Rattle.simm_params.specs.MhUnits.Numeral.{fixed_of}
+use Rattle.simm_params.specs.TomlValues.declared.range.Range.{Range}
+use Rattle.simm_params.specs.TomlValues.declared.fault.ValueFault.TheVariants.{Missing, BadNumber, OutOfRange}
+use Rattle.simm_params.specs.TomlValues.Answers.{◌>>=◌, Answers}
+use Rattle.simm_params.specs.TomlValues.Ranges.{is_within, IsWithin}
+use Rattle.simm_params.specs.TomlValues.Values.{items_count, text_of, array_of, array_of_length, in_range, fixed_at, rate_of}
+use Rattle.simm_params.specs.TomlValues.Places.{each_of}
 use Rattle.simm_params.proofs.Compared.{le_from}
 
 -- a chain that is taken took its first part

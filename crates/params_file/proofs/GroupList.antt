@@ -2,7 +2,7 @@
 use Rattle.std.proofs.Common.{◌≡◌, ℕ, ◌+◌, ◌<◌, List, [], ◌∷◌, ◌++◌, map, length, get_or, take, sym, ap, ◌∙◌}
 use Rattle.std.proofs.lemmas.Grind.{flat_map-append}
 use Rattle.std.proofs.lemmas.List.{map-append, append-nil, take_more}
-use Rattle.simm_rules.specs.Params.{CurrencyGroup}
+use Rattle.simm_params.specs.SimmRules.Params.{CurrencyGroup}
 use Rattle.params_file.specs.Groups.{currencies_in}
 
 -- one more that is seen alike

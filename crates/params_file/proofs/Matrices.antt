@@ -1,10 +1,10 @@
 -- Lists and matrices of rates that are taken have so many places, each in the range.
 use Rattle.std.proofs.Common.{◌≡◌, ℕ, List, [], ◌∷◌, ◌++◌, Ok, Option, Some, ℤ, decimal, sym, ◌∙◌}
 use Rattle.toml.specs.Data.{Data, Items}
-use Rattle.toml_values.specs.declared.range.Range.{Range}
-use Rattle.toml_values.specs.Paths.{joined}
-use Rattle.toml_values.specs.Values.{items_count, array_of_length}
-use Rattle.toml_values.specs.Places.{each_of}
+use Rattle.simm_params.specs.TomlValues.declared.range.Range.{Range}
+use Rattle.simm_params.specs.TomlValues.Paths.{joined}
+use Rattle.simm_params.specs.TomlValues.Values.{items_count, array_of_length}
+use Rattle.simm_params.specs.TomlValues.Places.{each_of}
 use Rattle.simm_params.specs.Square.{IsSquare}
 use Rattle.simm_params.specs.Matrix.{AreRates, IsMatrix}
 use Rattle.params_file.specs.Matrix.{rate_at, rates_of, row_at}

@@ -4,8 +4,8 @@ use Rattle.std.specs.List.{All}
 use Rattle.std.proofs.Math.Seq.{drop-cons}
 use Rattle.std.proofs.lemmas.List.{drop_all, get_or-map, length-map}
 use Rattle.std.proofs.lemmas.List.Elements.{All-nil, All-cons}
-use Rattle.toml_values.specs.Answers.{◌>>=◌, Unless}
-use Rattle.toml_values.proofs.Places.{Unless-from}
+use Rattle.simm_params.specs.TomlValues.Answers.{◌>>=◌, Unless}
+use Rattle.simm_params.proofs.TomlValues.Places.{Unless-from}
 use Rattle.params_file.specs.declared.fault.ParamFault.{ParamFault}
 use Rattle.params_file.specs.declared.fault.ParamFault.TheVariants.{ThinThreshold}
 use Rattle.simm_params.specs.Ranges.{is_thick, IsThick}

@@ -3,8 +3,8 @@ use Rattle.std.proofs.Common.{List, ℤ, pos, negsuc, ◌≤ℤ◌, get_or, refl
 use Rattle.std.specs.Int.{int_min}
 use Rattle.std.specs.List.{All, fold}
 use Rattle.std.proofs.lemmas.Int.{ints, clamps, fold-int_min_bounds}
-use Rattle.mh_units.proofs.Integers.{mul-le_ℤ}
-use Rattle.simm_rules.specs.Params.{Thresholds, IrParams, FxParams, Params}
+use Rattle.simm_params.proofs.MhUnits.Integers.{mul-le_ℤ}
+use Rattle.simm_params.specs.SimmRules.Params.{Thresholds, IrParams, FxParams, Params}
 use Rattle.simm_params.specs.declared.thresholds.ThresholdKind.TheVariants.{Delta, Vega}
 use Rattle.simm_params.specs.Ranges.{thresholds, IsWithin, IsThick}
 use Rattle.simm_params.specs.Thresholds.{AreThresholds}

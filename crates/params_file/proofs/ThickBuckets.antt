@@ -1,7 +1,7 @@
 -- Buckets whose thresholds pass are thick.
 use Rattle.std.proofs.Common.{◌≡◌, ℕ, List, [], ◌∷◌, map, Ok, codes, decimal, ap, refl}
-use Rattle.simm_rules.specs.Params.{BucketTerms, CreditBucket, PricedBucket}
-use Rattle.toml_values.specs.Paths.{joined}
+use Rattle.simm_params.specs.SimmRules.Params.{BucketTerms, CreditBucket, PricedBucket}
+use Rattle.simm_params.specs.TomlValues.Paths.{joined}
 use Rattle.simm_params.specs.declared.thresholds.ThresholdKind.{ThresholdKind}
 use Rattle.simm_params.specs.declared.bucket.ClassBucket.{ClassBucket as Held}
 use Rattle.simm_params.specs.Buckets.{ClassBucket}

@@ -1,8 +1,8 @@
 -- Interest rates whose thresholds pass are thick.
 use Rattle.std.proofs.Common.{◌≡◌, ℕ, List, Ok, ℤ, codes, decimal, [], ◌∷◌, subst}
 use Rattle.std.specs.List.{All}
-use Rattle.simm_rules.specs.Params.{CurrencyGroup, IrParams}
-use Rattle.toml_values.specs.Paths.{joined}
+use Rattle.simm_params.specs.SimmRules.Params.{CurrencyGroup, IrParams}
+use Rattle.simm_params.specs.TomlValues.Paths.{joined}
 use Rattle.simm_params.specs.declared.thresholds.ThresholdKind.{ThresholdKind}
 use Rattle.simm_params.specs.Ranges.{IsThick}
 use Rattle.simm_params.specs.ThresholdKinds.{threshold_key, threshold_in, weight_beside}

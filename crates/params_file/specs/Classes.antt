@@ -3,17 +3,17 @@
 use Rattle.std.specs.Prelude.{ℕ, ◌==◌, Bool, true, ◌&&◌, nat_le, if◌then◌else◌, List, [], ◌∷◌, ◌++◌, map, Option, Some, None, option_map, option_and_then, ok_or, Result, Ok, Err, ℤ, codes, decimal}
 use Rattle.std.specs.Str.{bytes_eq}
 use Rattle.toml.specs.Data.{Data, Items, Members, get_member}
-use Rattle.simm_kinds.specs.declared.bucket.Bucket.{Bucket}
-use Rattle.simm_kinds.specs.declared.bucket.Bucket.TheVariants.{Number, Residual}
-use Rattle.simm_kinds.specs.BucketNumber.{bucket_number_named}
-use Rattle.simm_rules.specs.Params.{CreditParams, PricedParams}
-use Rattle.toml_values.specs.declared.range.Range.{Range}
-use Rattle.toml_values.specs.declared.fault.ValueFault.{ValueFault}
-use Rattle.toml_values.specs.declared.fault.ValueFault.TheVariants.{Missing, BadNumber}
-use Rattle.toml_values.specs.Paths.{joined}
-use Rattle.toml_values.specs.Answers.{◌>>=◌}
-use Rattle.toml_values.specs.Values.{items_count, text_of, flag_of, table_of, array_of}
-use Rattle.toml_values.specs.Places.{each_of}
+use Rattle.simm_params.specs.SimmKinds.declared.bucket.Bucket.{Bucket}
+use Rattle.simm_params.specs.SimmKinds.declared.bucket.Bucket.TheVariants.{Number, Residual}
+use Rattle.simm_params.specs.SimmKinds.BucketNumber.{bucket_number_named}
+use Rattle.simm_params.specs.SimmRules.Params.{CreditParams, PricedParams}
+use Rattle.simm_params.specs.TomlValues.declared.range.Range.{Range}
+use Rattle.simm_params.specs.TomlValues.declared.fault.ValueFault.{ValueFault}
+use Rattle.simm_params.specs.TomlValues.declared.fault.ValueFault.TheVariants.{Missing, BadNumber}
+use Rattle.simm_params.specs.TomlValues.Paths.{joined}
+use Rattle.simm_params.specs.TomlValues.Answers.{◌>>=◌}
+use Rattle.simm_params.specs.TomlValues.Values.{items_count, text_of, flag_of, table_of, array_of}
+use Rattle.simm_params.specs.TomlValues.Places.{each_of}
 use Rattle.params_file.specs.declared.bucket_form.OwnRate.{OwnRate}
 use Rattle.params_file.specs.declared.bucket_form.OwnRate.TheVariants.{Same, Sigma}
 use Rattle.simm_params.specs.Ranges.{weights, correlations, sigmas, vega_weights, hvrs}

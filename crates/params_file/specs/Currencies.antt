@@ -1,13 +1,13 @@
 -- Lists of currencies in the file, tested place by place. A path is given by its words; places count from 1.
 use Rattle.std.specs.Prelude.{ℕ, List, [], ◌∷◌, ◌++◌, if◌then◌else◌, Option, Some, Result, Ok, Err, decimal}
 use Rattle.toml.specs.Data.{Data}
-use Rattle.simm_rules.specs.Lookups.{is_listed}
-use Rattle.toml_values.specs.Paths.{joined}
-use Rattle.toml_values.specs.Answers.{◌>>=◌}
-use Rattle.toml_values.specs.Values.{array_of, currency_of}
-use Rattle.toml_values.specs.Places.{each_of}
-use Rattle.toml_values.specs.declared.fault.ValueFault.{ValueFault}
-use Rattle.toml_values.specs.declared.fault.ValueFault.TheVariants.{BadNumber}
+use Rattle.simm_params.specs.SimmRules.Lookups.{is_listed}
+use Rattle.simm_params.specs.TomlValues.Paths.{joined}
+use Rattle.simm_params.specs.TomlValues.Answers.{◌>>=◌}
+use Rattle.simm_params.specs.TomlValues.Values.{array_of, currency_of}
+use Rattle.simm_params.specs.TomlValues.Places.{each_of}
+use Rattle.simm_params.specs.TomlValues.declared.fault.ValueFault.{ValueFault}
+use Rattle.simm_params.specs.TomlValues.declared.fault.ValueFault.TheVariants.{BadNumber}
 
 -- a currency, at a place of the array at a path
 abbrev pub currency_at : List (List ℕ) → ℕ → List (List ℕ) → Data → Result (List ℕ) ValueFault

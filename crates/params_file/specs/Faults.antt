@@ -1,9 +1,9 @@
 -- The faults of a parameter file: their numbers, and what a reader answers beside what the grammar gives.
 use Rattle.std.specs.Prelude.{◌≡◌, ℕ, Bool, true, false, Option, Some, None, Result, Ok, Err}
 use Rattle.std.specs.Result.{result_map_both}
-use Rattle.toml_values.specs.declared.fault.ValueFault.{ValueFault}
-use Rattle.toml_values.specs.declared.fault.ValueFault.TheVariants as value
-use Rattle.toml_values.specs.Answers.{Unless, Answers}
+use Rattle.simm_params.specs.TomlValues.declared.fault.ValueFault.{ValueFault}
+use Rattle.simm_params.specs.TomlValues.declared.fault.ValueFault.TheVariants as value
+use Rattle.simm_params.specs.TomlValues.Answers.{Unless, Answers}
 use Rattle.params_file.specs.declared.fault.ParamFault.{ParamFault}
 use Rattle.params_file.specs.declared.fault.ParamFault.TheVariants as fault
 

@@ -1,12 +1,12 @@
 -- The table of foreign exchange: its tests in order.
 use Rattle.std.specs.Prelude.{ℕ, List, [], ◌∷◌, ◌++◌, Option, Result, Ok, ℤ, codes, decimal}
 use Rattle.toml.specs.Data.{Data, Members, get_member, get_item}
-use Rattle.simm_rules.specs.Params.{FxParams}
-use Rattle.toml_values.specs.declared.range.Range.{Range}
-use Rattle.toml_values.specs.declared.fault.ValueFault.{ValueFault}
-use Rattle.toml_values.specs.Paths.{joined}
-use Rattle.toml_values.specs.Answers.{◌>>=◌}
-use Rattle.toml_values.specs.Values.{array_of_length, rate_of, usd_of}
+use Rattle.simm_params.specs.SimmRules.Params.{FxParams}
+use Rattle.simm_params.specs.TomlValues.declared.range.Range.{Range}
+use Rattle.simm_params.specs.TomlValues.declared.fault.ValueFault.{ValueFault}
+use Rattle.simm_params.specs.TomlValues.Paths.{joined}
+use Rattle.simm_params.specs.TomlValues.Answers.{◌>>=◌}
+use Rattle.simm_params.specs.TomlValues.Values.{array_of_length, rate_of, usd_of}
 use Rattle.simm_params.specs.Ranges.{weights, correlations, sigmas, vega_weights, hvrs}
 use Rattle.params_file.specs.KeyRate.{key_rate}
 use Rattle.params_file.specs.Currencies.{currencies_of, new_currencies_of}

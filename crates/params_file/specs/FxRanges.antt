@@ -1,7 +1,7 @@
 -- The ranges of the parameters of foreign exchange.
 use Rattle.std.specs.Prelude.{ℤ}
-use Rattle.simm_rules.specs.Params.{FxParams}
-use Rattle.toml_values.specs.declared.range.Range.{Range}
+use Rattle.simm_params.specs.SimmRules.Params.{FxParams}
+use Rattle.simm_params.specs.TomlValues.declared.range.Range.{Range}
 use Rattle.simm_params.specs.Fx.{Volatilities}
 use Rattle.simm_params.specs.Ranges.{weights, correlations, thresholds, sigmas, vega_weights, hvrs, IsWithin}
 use Rattle.simm_params.specs.FxRanges.{ArePairThresholds}

@@ -4,12 +4,12 @@
 use Rattle.std.specs.Prelude.{ℕ, List, [], ◌∷◌, Option, ok_or, Result, Ok, ℤ, codes}
 use Rattle.std.specs.Result.{result_ok}
 use Rattle.toml.specs.Data.{Members, get_member}
-use Rattle.simm_rules.specs.Params.{IrParams, FxParams, CreditParams, PricedParams, Params}
-use Rattle.toml_values.specs.declared.fault.ValueFault.{ValueFault}
-use Rattle.toml_values.specs.Paths.{joined}
-use Rattle.toml_values.specs.Answers.{◌>>=◌}
-use Rattle.toml_values.specs.Values.{table_of, currency_of, six_of}
-use Rattle.toml_values.specs.Document.{document_of}
+use Rattle.simm_params.specs.SimmRules.Params.{IrParams, FxParams, CreditParams, PricedParams, Params}
+use Rattle.simm_params.specs.TomlValues.declared.fault.ValueFault.{ValueFault}
+use Rattle.simm_params.specs.TomlValues.Paths.{joined}
+use Rattle.simm_params.specs.TomlValues.Answers.{◌>>=◌}
+use Rattle.simm_params.specs.TomlValues.Values.{table_of, currency_of, six_of}
+use Rattle.simm_params.specs.TomlValues.Document.{document_of}
 use Rattle.params_file.specs.declared.bucket_class.BucketClass.{BucketClass}
 use Rattle.params_file.specs.declared.bucket_class.BucketClass.TheVariants as class
 use Rattle.params_file.specs.declared.fault.ParamFault.{ParamFault}

@@ -3,12 +3,12 @@
 use Rattle.std.specs.Prelude.{ℕ, List, [], ◌∷◌, Option, Some, None, Result, Ok, codes, decimal}
 use Rattle.std.specs.List.{All, flat_map}
 use Rattle.toml.specs.Data.{Data, Members, get_member}
-use Rattle.simm_rules.specs.Params.{Thresholds, CurrencyGroup}
-use Rattle.toml_values.specs.declared.fault.ValueFault.{ValueFault}
-use Rattle.toml_values.specs.Paths.{joined}
-use Rattle.toml_values.specs.Answers.{◌>>=◌}
-use Rattle.toml_values.specs.Values.{array_of, table_of}
-use Rattle.toml_values.specs.Places.{each_of}
+use Rattle.simm_params.specs.SimmRules.Params.{Thresholds, CurrencyGroup}
+use Rattle.simm_params.specs.TomlValues.declared.fault.ValueFault.{ValueFault}
+use Rattle.simm_params.specs.TomlValues.Paths.{joined}
+use Rattle.simm_params.specs.TomlValues.Answers.{◌>>=◌}
+use Rattle.simm_params.specs.TomlValues.Values.{array_of, table_of}
+use Rattle.simm_params.specs.TomlValues.Places.{each_of}
 use Rattle.params_file.specs.Currencies.{new_currencies_of}
 use Rattle.simm_params.specs.Thresholds.{AreThresholds}
 use Rattle.params_file.specs.Thresholds.{thresholds_of}

@@ -1,11 +1,11 @@
 -- The table of interest rates: its tests in order.
 use Rattle.std.specs.Prelude.{ℕ, List, [], ◌∷◌, Result, Ok, ℤ, codes}
 use Rattle.toml.specs.Data.{Members, get_member}
-use Rattle.simm_rules.specs.Params.{Thresholds, CurveWeights, IrParams}
-use Rattle.toml_values.specs.declared.fault.ValueFault.{ValueFault}
-use Rattle.toml_values.specs.Paths.{joined}
-use Rattle.toml_values.specs.Answers.{◌>>=◌}
-use Rattle.toml_values.specs.Values.{table_of, rate_of}
+use Rattle.simm_params.specs.SimmRules.Params.{Thresholds, CurveWeights, IrParams}
+use Rattle.simm_params.specs.TomlValues.declared.fault.ValueFault.{ValueFault}
+use Rattle.simm_params.specs.TomlValues.Paths.{joined}
+use Rattle.simm_params.specs.TomlValues.Answers.{◌>>=◌}
+use Rattle.simm_params.specs.TomlValues.Values.{table_of, rate_of}
 use Rattle.params_file.specs.declared.ir_rate.IrRate.{IrRate}
 use Rattle.params_file.specs.declared.ir_rate.IrRate.TheVariants as rate
 use Rattle.simm_params.specs.Ranges.{weights, correlations}

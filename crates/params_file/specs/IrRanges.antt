@@ -1,5 +1,5 @@
 -- The ranges of the parameters of interest rates.
-use Rattle.simm_rules.specs.Params.{IrParams}
+use Rattle.simm_params.specs.SimmRules.Params.{IrParams}
 use Rattle.simm_params.specs.Ranges.{weights, correlations, vega_weights, ir_hvrs, IsWithin}
 use Rattle.simm_params.specs.Matrix.{IsMatrix}
 use Rattle.simm_params.specs.Thresholds.{AreThresholds}

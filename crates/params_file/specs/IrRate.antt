@@ -1,6 +1,6 @@
 -- The single rates of the table of interest rates: the key and the range of each.
 use Rattle.std.specs.Prelude.{ℕ, List, codes}
-use Rattle.toml_values.specs.declared.range.Range.{Range}
+use Rattle.simm_params.specs.TomlValues.declared.range.Range.{Range}
 use Rattle.simm_params.specs.Ranges.{weights, correlations, vega_weights, ir_hvrs}
 use Rattle.params_file.specs.declared.ir_rate.IrRate.{IrRate}
 use Rattle.params_file.specs.declared.ir_rate.IrRate.TheVariants as ir

@@ -16,3 +16,4 @@ pub mod TablesRanges
 pub mod Grammar
 pub mod Classes
 pub mod ClassRanges
+pub use Rattle.simm_params.specs.SimmRules as SimmRules

@@ -2,12 +2,12 @@
 -- count from 1.
 use Rattle.std.specs.Prelude.{ℕ, List, [], ◌∷◌, ◌++◌, Option, Some, Result, ℤ, decimal}
 use Rattle.toml.specs.Data.{Data}
-use Rattle.toml_values.specs.declared.range.Range.{Range}
-use Rattle.toml_values.specs.declared.fault.ValueFault.{ValueFault}
-use Rattle.toml_values.specs.Paths.{joined}
-use Rattle.toml_values.specs.Answers.{◌>>=◌}
-use Rattle.toml_values.specs.Values.{array_of_length, rate_of}
-use Rattle.toml_values.specs.Places.{each_of}
+use Rattle.simm_params.specs.TomlValues.declared.range.Range.{Range}
+use Rattle.simm_params.specs.TomlValues.declared.fault.ValueFault.{ValueFault}
+use Rattle.simm_params.specs.TomlValues.Paths.{joined}
+use Rattle.simm_params.specs.TomlValues.Answers.{◌>>=◌}
+use Rattle.simm_params.specs.TomlValues.Values.{array_of_length, rate_of}
+use Rattle.simm_params.specs.TomlValues.Places.{each_of}
 
 -- a rate in the range, at a place of the array at a path
 abbrev pub rate_at : List (List ℕ) → Range → ℕ → List ℤ → Data → Result ℤ ValueFault

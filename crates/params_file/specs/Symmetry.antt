@@ -1,9 +1,9 @@
 -- The tests of matrices of correlations: each is symmetric, and its diagonal is 1.
 use Rattle.std.specs.Prelude.{ℕ, zero, suc, Bool, true, ◌&&◌, List, [], ◌∷◌, length, Result, Ok, Err, ℤ, pos, codes, if◌then◌else◌}
 use Rattle.std.specs.Ordering.{int_eq}
-use Rattle.simm_rules.specs.Params.{Params}
-use Rattle.toml_values.specs.Paths.{joined}
-use Rattle.toml_values.specs.Answers.{◌>>=◌}
+use Rattle.simm_params.specs.SimmRules.Params.{Params}
+use Rattle.simm_params.specs.TomlValues.Paths.{joined}
+use Rattle.simm_params.specs.TomlValues.Answers.{◌>>=◌}
 use Rattle.params_file.specs.declared.bucket_class.BucketClass.{BucketClass}
 use Rattle.params_file.specs.declared.bucket_class.BucketClass.TheVariants as class
 use Rattle.params_file.specs.declared.fault.ParamFault.{ParamFault}

@@ -1,5 +1,5 @@
 -- The ranges of all that a file says.
-use Rattle.simm_rules.specs.Params.{Params}
+use Rattle.simm_params.specs.SimmRules.Params.{Params}
 use Rattle.simm_params.specs.Ranges.{weights, correlations, lambda_bases, IsWithin}
 use Rattle.simm_params.specs.Matrix.{IsMatrix}
 use Rattle.params_file.specs.IrRanges.{IsRangedIr}

@@ -3,9 +3,9 @@
 use Rattle.std.specs.Prelude.{ℕ, ◌+◌, List, [], ◌∷◌, ◌++◌, Result, Ok, Err, ℤ, pos, codes, decimal, if◌then◌else◌}
 use Rattle.std.specs.Int.{int_min}
 use Rattle.std.specs.List.{All, fold}
-use Rattle.simm_rules.specs.Params.{Thresholds, CurrencyGroup, IrParams, FxParams, BucketTerms, Params}
-use Rattle.toml_values.specs.Paths.{joined}
-use Rattle.toml_values.specs.Answers.{◌>>=◌}
+use Rattle.simm_params.specs.SimmRules.Params.{Thresholds, CurrencyGroup, IrParams, FxParams, BucketTerms, Params}
+use Rattle.simm_params.specs.TomlValues.Paths.{joined}
+use Rattle.simm_params.specs.TomlValues.Answers.{◌>>=◌}
 use Rattle.simm_params.specs.declared.thresholds.ThresholdKind.{ThresholdKind}
 use Rattle.simm_params.specs.declared.thresholds.ThresholdKind.TheVariants.{Delta, Vega}
 use Rattle.params_file.specs.declared.bucket_class.BucketClass.{BucketClass}

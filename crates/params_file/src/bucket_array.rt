@@ -1,10 +1,10 @@
 ghost use Rattle.std.specs.Prelude.{◌≡◌, true, ◌<◌, ◌≤◌, [], length, IfOk, map};
 ghost use Rattle.std.specs.List.{All};
 ghost use Rattle.toml.specs.View.{view, items_view};
-ghost use Rattle.toml_values.specs.Answers.{Gives};
-ghost use Rattle.toml_values.specs.Paths.{word_of};
-ghost use Rattle.toml_values.specs.Places.{each_of};
-ghost use Rattle.toml_values.specs.Values.{found, items_count};
+ghost use Rattle.simm_params.specs.TomlValues.Answers.{Gives};
+ghost use Rattle.simm_params.specs.TomlValues.Paths.{word_of};
+ghost use Rattle.simm_params.specs.TomlValues.Places.{each_of};
+ghost use Rattle.simm_params.specs.TomlValues.Values.{found, items_count};
 ghost use Rattle.simm_params.specs.BucketView.{bucket_view};
 ghost use Rattle.simm_params.specs.Buckets.{is_behind, ids_of};
 ghost use Rattle.params_file.specs.ClassRanges.{IsClassBucket, AreClassBuckets};
@@ -13,10 +13,10 @@ ghost use Rattle.params_file.specs.Classes.{bucket_at, is_bucket_count, bucket_p
 use crate::bucket_form::BucketForm;
 use crate::bucket_table::read_bucket;
 use crate::place::place_path;
+use simm_params::toml_values::{Part, ValueFault, array, path_text, place_count, table};
 use simm_params::{Buckets, ClassBucket, MOST_BUCKETS};
 use std::alloc::Global;
 use toml::Value;
-use toml_values::{Part, ValueFault, array, path_text, place_count, table};
 
 /// The bucket at a place, counted from 1, of the array of `count` at a path.
 #[tactic(auto, unfolding(crate::specs::Classes::bucket_at))]

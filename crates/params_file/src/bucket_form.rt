@@ -2,7 +2,7 @@ ghost use Rattle.std.specs.Prelude.{◌≡◌};
 ghost use Rattle.params_file.specs.Classes.{own_key, own_range};
 
 use crate::range::{CORRELATION, SIGMA};
-use toml_values::Range;
+use simm_params::toml_values::Range;
 
 /// The rate that only classes of one kind have for a bucket.
 #[derive(Clone, Copy)]

@@ -1,7 +1,7 @@
 ghost use Rattle.std.specs.Prelude.{◌≡◌, true, IfOk, IfSome, map};
 ghost use Rattle.toml.specs.View.{table_view};
-ghost use Rattle.toml_values.specs.Answers.{Gives};
-ghost use Rattle.toml_values.specs.Paths.{word_of};
+ghost use Rattle.simm_params.specs.TomlValues.Answers.{Gives};
+ghost use Rattle.simm_params.specs.TomlValues.Paths.{word_of};
 ghost use Rattle.simm_params.specs.BucketView.{bucket_view};
 ghost use Rattle.simm_params.specs.Buckets.{is_behind, ids_of};
 ghost use Rattle.params_file.specs.ClassRanges.{IsClassBucket};
@@ -12,11 +12,11 @@ use crate::key_rate::key_rate;
 use crate::place::key_path;
 use crate::range::{CORRELATION, VEGA_WEIGHT, WEIGHT};
 use crate::threshold_table::read_thresholds;
-use simm_kinds::{Bucket, BucketNumber};
+use simm_params::simm_kinds::{Bucket, BucketNumber};
+use simm_params::toml_values::{Part, ValueFault, flag, member, path_text, text};
 use simm_params::{BucketTerms, Buckets, ClassBucket};
 use std::alloc::Global;
 use toml::Table;
-use toml_values::{Part, ValueFault, flag, member, path_text, text};
 
 /// The bucket of an id: `Residual`, spelled so, or a number.
 fn id_named(text: &str) -> Option<Bucket>

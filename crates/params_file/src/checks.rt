@@ -12,9 +12,9 @@ use crate::fault::ParamFault;
 use crate::fx_thickness::{check_fx, check_pairs};
 use crate::ir_thickness::check_ir;
 use crate::symmetry::{check_correlations, check_pair_thresholds};
+use simm_params::toml_values::Part;
 use simm_params::{Matrix, PairThresholds, Tables, ThresholdKind};
 use std::alloc::Global;
-use toml_values::Part;
 
 #[tactic(auto, unfolding(crate::specs::Symmetry::symmetric_psi))]
 fn check_psi(alloc: Global, psi: &Matrix) -> Result<(), ParamFault>

@@ -1,7 +1,7 @@
 ghost use Rattle.std.specs.Prelude.{◌≡◌, IfOk};
 ghost use Rattle.toml.specs.View.{table_view};
-ghost use Rattle.toml_values.specs.Answers.{Gives};
-ghost use Rattle.toml_values.specs.Ranges.{IsWithin};
+ghost use Rattle.simm_params.specs.TomlValues.Answers.{Gives};
+ghost use Rattle.simm_params.specs.TomlValues.Ranges.{IsWithin};
 ghost use Rattle.simm_params.specs.Ranges.{weights, correlations};
 ghost use Rattle.simm_params.specs.Matrix.{IsMatrix};
 ghost use Rattle.simm_params.specs.Buckets.{AreInOrder, ids_of, numbered_count};
@@ -15,10 +15,10 @@ use crate::bucket_form::{BucketForm, OwnRate};
 use crate::key_rate::key_rate;
 use crate::matrix_array::read_matrix;
 use crate::range::{CORRELATION, HVR, WEIGHT};
+use simm_params::toml_values::{Part, ValueFault, member};
 use simm_params::{BaseParams, Buckets, CreditParams, Matrix, PricedParams};
 use std::alloc::Global;
 use toml::Table;
-use toml_values::{Part, ValueFault, member};
 
 #[tactic(auto, unfolding(crate::specs::Classes::class_buckets))]
 fn class_buckets(

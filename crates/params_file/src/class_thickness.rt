@@ -9,9 +9,9 @@ ghost use Rattle.params_file.specs.Thickness.{each_passes, thick_bucket, thick_b
 use crate::bucket_class::BucketClass;
 use crate::fault::ParamFault;
 use crate::thickness::check_kind;
+use simm_params::toml_values::Part;
 use simm_params::{Buckets, ClassBucket, ClassTables, CreditParams, PricedParams, ThresholdKind};
 use std::alloc::Global;
-use toml_values::Part;
 
 /// Refuses a threshold of the bucket at a place, counted from 1, of a class.
 #[tactic(auto, unfolding(crate::specs::Thickness::thick_bucket))]

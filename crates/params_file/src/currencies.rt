@@ -1,17 +1,17 @@
 ghost use Rattle.std.specs.Prelude.{◌≡◌, ◌++◌, [], map};
 ghost use Rattle.toml.specs.View.{view, items_view};
-ghost use Rattle.toml_values.specs.Answers.{Gives};
-ghost use Rattle.toml_values.specs.Paths.{word_of};
-ghost use Rattle.toml_values.specs.Values.{found};
-ghost use Rattle.toml_values.specs.Places.{each_of};
+ghost use Rattle.simm_params.specs.TomlValues.Answers.{Gives};
+ghost use Rattle.simm_params.specs.TomlValues.Paths.{word_of};
+ghost use Rattle.simm_params.specs.TomlValues.Values.{found};
+ghost use Rattle.simm_params.specs.TomlValues.Places.{each_of};
 ghost use Rattle.params_file.specs.Currencies.{currency_at, currencies_of, new_currency_at, new_currencies_of};
 
 use crate::place::place_path;
-use simm_kinds::Currency;
 use simm_params::CurrencyList;
+use simm_params::simm_kinds::Currency;
+use simm_params::toml_values::{Part, ValueFault, array, currency, path_text};
 use std::alloc::Global;
 use toml::Value;
-use toml_values::{Part, ValueFault, array, currency, path_text};
 
 /// The currency at a place, counted from 1, of the array at a path.
 fn currency_at(

@@ -1,9 +1,9 @@
 ghost use Rattle.std.specs.Prelude.{◌≡◌};
 ghost use Rattle.params_file.specs.Faults.{param_fault_number};
 
-use mh_units::Text;
+use simm_params::mh_units::Text;
+use simm_params::toml_values::ValueFault;
 use std::alloc::{AllocError, AllocFailed};
-use toml_values::ValueFault;
 
 /// Why a parameter file was not taken: the first test that fails. A path is the keys joined by points, places counted
 /// from 1, as `fx.weight.2`.

@@ -1,10 +1,10 @@
 ghost use Rattle.std.specs.Prelude.{◌≡◌, IfOk, map};
 ghost use Rattle.toml.specs.Data.{get_member};
 ghost use Rattle.toml.specs.View.{table_view};
-ghost use Rattle.toml_values.specs.Answers.{Gives};
-ghost use Rattle.toml_values.specs.Paths.{joined, word_of};
-ghost use Rattle.toml_values.specs.Ranges.{IsWithin};
-ghost use Rattle.toml_values.specs.Values.{found, rate_of, usd_of};
+ghost use Rattle.simm_params.specs.TomlValues.Answers.{Gives};
+ghost use Rattle.simm_params.specs.TomlValues.Paths.{joined, word_of};
+ghost use Rattle.simm_params.specs.TomlValues.Ranges.{IsWithin};
+ghost use Rattle.simm_params.specs.TomlValues.Values.{found, rate_of, usd_of};
 ghost use Rattle.simm_params.specs.Ranges.{weights, thresholds};
 ghost use Rattle.simm_params.specs.FxView.{rates_view, thresholds_view, rows_view, volatilities_view, fx_view};
 ghost use Rattle.simm_params.specs.FxRanges.{ArePairThresholds};
@@ -15,13 +15,15 @@ use crate::currencies::{currencies, new_currencies};
 use crate::key_rate::key_rate;
 use crate::place::place_path;
 use crate::range::{CORRELATION, HVR, SIGMA, VEGA_WEIGHT, WEIGHT};
-use mh_units::Rate4;
+use simm_params::mh_units::Rate4;
+use simm_params::toml_values::{
+    Part, Range, ValueFault, array_of_length, member, place, rate, usd,
+};
 use simm_params::{
     CurrencyList, FxParams, FxThresholds, FxVolatilities, FxWeights, PairRates, PairThresholds,
 };
 use std::alloc::Global;
 use toml::{Table, Value};
-use toml_values::{Part, Range, ValueFault, array_of_length, member, place, rate, usd};
 
 /// A rate at a place, counted from 1, of the array at a path.
 fn rate_at(

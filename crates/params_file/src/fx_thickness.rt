@@ -8,9 +8,9 @@ ghost use Rattle.params_file.specs.Thickness.{thick_category, thick_fx, IsThickF
 
 use crate::fault::ParamFault;
 use crate::thickness::check_threshold;
+use simm_params::toml_values::Part;
 use simm_params::{FxParams, FxThresholds, PairThresholds};
 use std::alloc::Global;
-use toml_values::Part;
 
 /// The weight of sensitivities that are weighted already: 1, in ten-thousandths.
 const UNIT: i64 = 10_000;

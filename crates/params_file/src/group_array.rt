@@ -1,8 +1,8 @@
 ghost use Rattle.std.specs.Prelude.{◌≡◌, [], Some, map, IfOk};
 ghost use Rattle.toml.specs.View.{view, items_view, table_view};
-ghost use Rattle.toml_values.specs.Answers.{Gives};
-ghost use Rattle.toml_values.specs.Places.{each_of};
-ghost use Rattle.toml_values.specs.Values.{found};
+ghost use Rattle.simm_params.specs.TomlValues.Answers.{Gives};
+ghost use Rattle.simm_params.specs.TomlValues.Places.{each_of};
+ghost use Rattle.simm_params.specs.TomlValues.Values.{found};
 ghost use Rattle.simm_params.specs.GroupView.{group_view};
 ghost use Rattle.simm_params.specs.Thresholds.{AreThresholds};
 ghost use Rattle.simm_params.specs.ThresholdView.{thresholds_view};
@@ -10,10 +10,10 @@ ghost use Rattle.params_file.specs.Groups.{AreGroups, group_table_of, group_curr
 
 use crate::currencies::new_currencies;
 use crate::threshold_table::read_thresholds;
+use simm_params::toml_values::{Part, ValueFault, array, member, table};
 use simm_params::{CurrencyGroup, CurrencyGroups, CurrencyList, Thresholds};
 use std::alloc::Global;
 use toml::{Table, Value};
-use toml_values::{Part, ValueFault, array, member, table};
 
 #[tactic(auto, unfolding(crate::specs::Groups::group_table_of))]
 fn group_table<'a>(alloc: Global, number: usize, value: &'a Value) -> Result<&'a Table, ValueFault>

@@ -2,7 +2,7 @@ ghost use Rattle.std.specs.Prelude.{◌≡◌};
 ghost use Rattle.params_file.specs.IrRate.{rate_key, rate_range};
 
 use crate::range::{CORRELATION, IR_HVR, VEGA_WEIGHT, WEIGHT};
-use toml_values::Range;
+use simm_params::toml_values::Range;
 
 /// What the table of interest rates has as a single rate, in the order of the file.
 #[derive(Clone, Copy)]

@@ -1,7 +1,7 @@
 ghost use Rattle.std.specs.Prelude.{◌≡◌, IfOk};
 ghost use Rattle.toml.specs.View.{table_view};
-ghost use Rattle.toml_values.specs.Answers.{Gives};
-ghost use Rattle.toml_values.specs.Ranges.{IsWithin};
+ghost use Rattle.simm_params.specs.TomlValues.Answers.{Gives};
+ghost use Rattle.simm_params.specs.TomlValues.Ranges.{IsWithin};
 ghost use Rattle.simm_params.specs.Ranges.{weights, correlations, vega_weights, ir_hvrs};
 ghost use Rattle.simm_params.specs.Matrix.{AreRates, IsMatrix};
 ghost use Rattle.simm_params.specs.ThresholdView.{thresholds_view};
@@ -19,14 +19,14 @@ use crate::matrix_array::read_matrix;
 use crate::range::{CORRELATION, WEIGHT};
 use crate::rate_array::read_rates;
 use crate::threshold_table::read_thresholds;
-use mh_units::Rate4;
+use simm_params::mh_units::Rate4;
+use simm_params::toml_values::{Part, ValueFault, member, rate, table};
 use simm_params::{
     CurrencyList, CurveWeights, FactorRhos, FactorWeights, IrParams, Matrix, Rates, Thresholds,
     VolatilityRates,
 };
 use std::alloc::Global;
 use toml::Table;
-use toml_values::{Part, ValueFault, member, rate, table};
 
 /// How many tenors a curve has.
 const TENORS: usize = 12;

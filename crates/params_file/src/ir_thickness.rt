@@ -11,10 +11,10 @@ ghost use Rattle.params_file.specs.Thickness.{each_passes, least_weight, thick_o
 
 use crate::fault::ParamFault;
 use crate::thickness::check_kind;
-use mh_units::Rate4;
+use simm_params::mh_units::Rate4;
+use simm_params::toml_values::Part;
 use simm_params::{CurrencyGroup, IrParams, ThresholdKind, Thresholds};
 use std::alloc::Global;
-use toml_values::Part;
 
 /// The least of the curve weights and the inflation weight, in ten-thousandths.
 fn least_weight(ir: &IrParams) -> Rate4

@@ -1,15 +1,15 @@
 ghost use Rattle.std.specs.Prelude.{◌≡◌, IfOk, map};
 ghost use Rattle.toml.specs.View.{table_view};
-ghost use Rattle.toml_values.specs.Answers.{Gives};
-ghost use Rattle.toml_values.specs.Paths.{word_of};
-ghost use Rattle.toml_values.specs.Ranges.{IsWithin};
+ghost use Rattle.simm_params.specs.TomlValues.Answers.{Gives};
+ghost use Rattle.simm_params.specs.TomlValues.Paths.{word_of};
+ghost use Rattle.simm_params.specs.TomlValues.Ranges.{IsWithin};
 ghost use Rattle.params_file.specs.KeyRate.{key_rate};
 
 use crate::place::key_path;
-use mh_units::Rate4;
+use simm_params::mh_units::Rate4;
+use simm_params::toml_values::{Part, Range, ValueFault, member, rate};
 use std::alloc::Global;
 use toml::Table;
-use toml_values::{Part, Range, ValueFault, member, rate};
 
 /// A rate in the range at a key of the table at a path.
 #[tactic(auto, unfolding(crate::specs::KeyRate::key_rate))]

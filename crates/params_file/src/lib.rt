@@ -29,3 +29,7 @@ mod threshold_table;
 
 pub use fault::ParamFault;
 pub use reading::read_params;
+
+// what the crates above reach through this one
+pub use simm_params;
+pub use simm_params::simm_rules;

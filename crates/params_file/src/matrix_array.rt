@@ -1,18 +1,18 @@
 ghost use Rattle.std.specs.Prelude.{◌≡◌, [], map, IfOk};
 ghost use Rattle.toml.specs.View.{view, items_view};
-ghost use Rattle.toml_values.specs.Answers.{Gives};
-ghost use Rattle.toml_values.specs.Paths.{word_of};
-ghost use Rattle.toml_values.specs.Places.{each_of};
-ghost use Rattle.toml_values.specs.Values.{found};
+ghost use Rattle.simm_params.specs.TomlValues.Answers.{Gives};
+ghost use Rattle.simm_params.specs.TomlValues.Paths.{word_of};
+ghost use Rattle.simm_params.specs.TomlValues.Places.{each_of};
+ghost use Rattle.simm_params.specs.TomlValues.Values.{found};
 ghost use Rattle.simm_params.specs.Matrix.{IsMatrix};
 ghost use Rattle.params_file.specs.Matrix.{row_at, matrix_of};
 
 use crate::place::place_path;
 use crate::rate_array::read_rates;
+use simm_params::toml_values::{Part, Range, ValueFault, array_of_length};
 use simm_params::{Matrix, Rates};
 use std::alloc::Global;
 use toml::Value;
-use toml_values::{Part, Range, ValueFault, array_of_length};
 
 /// The row at a place, counted from 1, of the array at a path.
 fn row_at(

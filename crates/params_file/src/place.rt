@@ -1,8 +1,8 @@
 ghost use Rattle.std.specs.Prelude.{◌≡◌, [], ◌∷◌, ◌++◌, map, decimal, IfOk};
-ghost use Rattle.toml_values.specs.Paths.{word_of};
+ghost use Rattle.simm_params.specs.TomlValues.Paths.{word_of};
 
+use simm_params::toml_values::Part;
 use std::alloc::{AllocError, Global};
-use toml_values::Part;
 
 /// The path of a place, counted from 1, of the array at a path. The only error is want of memory.
 pub fn place_path<'a>(

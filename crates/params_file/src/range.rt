@@ -1,4 +1,4 @@
-use toml_values::Range;
+use simm_params::toml_values::Range;
 
 /// A risk weight, in ten-thousandths: 0.0001 to 10,000.
 pub const WEIGHT: Range = Range {

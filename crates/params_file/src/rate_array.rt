@@ -1,18 +1,18 @@
 ghost use Rattle.std.specs.Prelude.{◌≡◌, [], map, IfOk};
 ghost use Rattle.toml.specs.View.{view, items_view};
-ghost use Rattle.toml_values.specs.Answers.{Gives};
-ghost use Rattle.toml_values.specs.Paths.{word_of};
-ghost use Rattle.toml_values.specs.Places.{each_of};
-ghost use Rattle.toml_values.specs.Values.{found};
+ghost use Rattle.simm_params.specs.TomlValues.Answers.{Gives};
+ghost use Rattle.simm_params.specs.TomlValues.Paths.{word_of};
+ghost use Rattle.simm_params.specs.TomlValues.Places.{each_of};
+ghost use Rattle.simm_params.specs.TomlValues.Values.{found};
 ghost use Rattle.simm_params.specs.Matrix.{AreRates};
 ghost use Rattle.params_file.specs.Matrix.{rate_at, rates_of};
 
 use crate::place::place_path;
-use mh_units::Rate4;
 use simm_params::Rates;
+use simm_params::mh_units::Rate4;
+use simm_params::toml_values::{Part, Range, ValueFault, array_of_length, rate};
 use std::alloc::Global;
 use toml::Value;
-use toml_values::{Part, Range, ValueFault, array_of_length, rate};
 
 /// The rate at a place, counted from 1, of the array at a path.
 fn rate_at(

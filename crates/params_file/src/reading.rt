@@ -7,9 +7,9 @@ use crate::checks::{check_symmetry, check_thickness};
 use crate::fault::ParamFault;
 use crate::root_table::read_tables;
 use simm_params::Params;
+use simm_params::toml_values::read_document;
 use std::alloc::Global;
 use toml::Table;
-use toml_values::read_document;
 
 #[tactic(auto, unfolding(crate::specs::Grammar::params_of_table))]
 fn read_table(alloc: Global, root: &Table) -> Result<Params, ParamFault>

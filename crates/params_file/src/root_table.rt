@@ -1,7 +1,7 @@
 ghost use Rattle.std.specs.Prelude.{◌≡◌, IfOk};
 ghost use Rattle.toml.specs.View.{table_view};
-ghost use Rattle.toml_values.specs.Answers.{Gives};
-ghost use Rattle.toml_values.specs.Ranges.{IsWithin};
+ghost use Rattle.simm_params.specs.TomlValues.Answers.{Gives};
+ghost use Rattle.simm_params.specs.TomlValues.Ranges.{IsWithin};
 ghost use Rattle.simm_params.specs.Ranges.{weights, correlations, lambda_bases};
 ghost use Rattle.simm_params.specs.Matrix.{IsMatrix};
 ghost use Rattle.simm_params.specs.IrView.{ir_view};
@@ -20,14 +20,14 @@ use crate::fx_table::read_fx;
 use crate::ir_table::read_ir;
 use crate::matrix_array::read_matrix;
 use crate::range::{CORRELATION, LAMBDA_BASE};
-use mh_units::Corr6;
-use simm_kinds::{Currency, RiskClass};
+use simm_params::mh_units::Corr6;
+use simm_params::simm_kinds::{Currency, RiskClass};
+use simm_params::toml_values::{Part, ValueFault, currency, member, six, table};
 use simm_params::{
     BaseParams, ClassTables, CreditParams, FxParams, IrParams, Matrix, PricedParams, Tables,
 };
 use std::alloc::Global;
 use toml::Table;
-use toml_values::{Part, ValueFault, currency, member, six, table};
 
 #[tactic(auto, unfolding(crate::specs::Grammar::calculation_currency_of))]
 fn calculation_currency(alloc: Global, root: &Table) -> Result<Currency, ValueFault>

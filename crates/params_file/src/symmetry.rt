@@ -1,6 +1,6 @@
 ghost use Rattle.std.specs.Prelude.{◌≡◌, ◌<◌, length, pos, OnOk};
 ghost use Rattle.std.specs.Ordering.{int_eq};
-ghost use Rattle.toml_values.specs.Paths.{path_of};
+ghost use Rattle.simm_params.specs.TomlValues.Paths.{path_of};
 ghost use Rattle.params_file.specs.Faults.{Gives};
 ghost use Rattle.simm_params.specs.FxView.{rows_view};
 ghost use Rattle.simm_params.specs.Matrix.{entry};
@@ -8,10 +8,10 @@ ghost use Rattle.simm_params.specs.Symmetry.{IsSymmetric, AreMirrored};
 ghost use Rattle.params_file.specs.Symmetry.{all_below, is_mirrored, is_symmetric, has_unit_diagonal, symmetric_at, correlations_at};
 
 use crate::fault::ParamFault;
-use mh_units::Rate4;
+use simm_params::mh_units::Rate4;
+use simm_params::toml_values::{Part, path_text};
 use simm_params::{Matrix, PairThresholds};
 use std::alloc::Global;
-use toml_values::{Part, path_text};
 
 /// The correlation of a factor with itself.
 const UNIT: Rate4 = Rate4(10_000);

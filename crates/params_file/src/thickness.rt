@@ -1,5 +1,5 @@
 ghost use Rattle.std.specs.Prelude.{◌≡◌, map, OnOk};
-ghost use Rattle.toml_values.specs.Paths.{word_of, path_of};
+ghost use Rattle.simm_params.specs.TomlValues.Paths.{word_of, path_of};
 ghost use Rattle.params_file.specs.Faults.{Gives};
 ghost use Rattle.simm_params.specs.Ranges.{is_thick, IsThick};
 ghost use Rattle.simm_params.specs.ThresholdKinds.{threshold_in, weight_beside};
@@ -8,10 +8,10 @@ ghost use Rattle.params_file.specs.Thickness.{thick_at, thick_in};
 
 use crate::fault::ParamFault;
 use crate::place::key_path;
-use mh_units::Rate4;
+use simm_params::mh_units::Rate4;
+use simm_params::toml_values::{Part, path_text};
 use simm_params::{ThresholdKind, Thresholds};
 use std::alloc::Global;
-use toml_values::{Part, path_text};
 
 /// The least product of a weight and a threshold.
 const THICK: i128 = 1_000_000_000_000;

@@ -1,16 +1,16 @@
 ghost use Rattle.std.specs.Prelude.{◌≡◌, IfOk, map};
 ghost use Rattle.toml.specs.View.{table_view};
-ghost use Rattle.toml_values.specs.Answers.{Gives};
-ghost use Rattle.toml_values.specs.Paths.{word_of};
+ghost use Rattle.simm_params.specs.TomlValues.Answers.{Gives};
+ghost use Rattle.simm_params.specs.TomlValues.Paths.{word_of};
 ghost use Rattle.simm_params.specs.ThresholdView.{thresholds_view};
 ghost use Rattle.simm_params.specs.Thresholds.{AreThresholds};
 ghost use Rattle.params_file.specs.Thresholds.{thresholds_of};
 
 use crate::place::key_path;
 use simm_params::Thresholds;
+use simm_params::toml_values::{Part, ValueFault, member, usd};
 use std::alloc::Global;
 use toml::Table;
-use toml_values::{Part, ValueFault, member, usd};
 
 /// The thresholds of the table at a path: at `threshold`, and then at `vega_threshold`.
 #[tactic(auto, unfolding(crate::specs::Thresholds::thresholds_of))]

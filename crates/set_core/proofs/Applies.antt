@@ -4,16 +4,16 @@ use Rattle.std.proofs.Common.{◌≡◌, ℕ, ◌+◌, ◌≤◌, ◌<◌, arith
 use Rattle.std.proofs.lemmas.Bool.{true≢false, or_parts, leb-false, ltb-false}
 use Rattle.std.proofs.lemmas.List.{length-append, length-map}
 use Rattle.std.proofs.lemmas.List.Sums.{sum_by-append}
-use Rattle.simm_kinds.specs.declared.row.TradeRows.{TradeRows}
-use Rattle.simm_kinds.specs.Batch.{IsBatch, rows_of}
-use Rattle.simm_rules.specs.declared.values.RangeFault.{RangeFault}
-use Rattle.simm_rules.specs.Params.{Params}
-use Rattle.simm_rules.specs.Range.{range}
-use Rattle.simm_rules.specs.Simm.{simm}
+use Rattle.collateral_ledger.specs.SimmKinds.declared.row.TradeRows.{TradeRows}
+use Rattle.collateral_ledger.specs.SimmKinds.Batch.{IsBatch, rows_of}
+use Rattle.bucket_cache.specs.SimmRules.declared.values.RangeFault.{RangeFault}
+use Rattle.bucket_cache.specs.SimmRules.Params.{Params}
+use Rattle.bucket_cache.specs.SimmRules.Range.{range}
+use Rattle.bucket_cache.specs.SimmRules.Simm.{simm}
 use Rattle.held_cell.specs.Entries.{entry}
 use Rattle.bucket_cache.specs.declared.place.RowPlace.{RowPlace}
 use Rattle.bucket_cache.specs.Live.{first_unadmitted}
-use Rattle.csa_terms.specs.Terms.{Agreement, haircut_of}
+use Rattle.collateral_ledger.specs.CsaTerms.Terms.{Agreement, haircut_of}
 use Rattle.collateral_ledger.specs.declared.fault.LedgerFault.TheVariants as fault
 use Rattle.collateral_ledger.specs.Holdings.{Holdings}
 use Rattle.collateral_ledger.specs.Booked.{total, booked_of, settled, counted as counted_held}

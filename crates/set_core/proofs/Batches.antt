@@ -3,9 +3,9 @@ use Rattle.std.proofs.Common.{◌≡◌, ℕ, ◌≤◌, List, [], ◌∷◌, le
 use Rattle.std.specs.List.{list_any}
 use Rattle.std.proofs.lemmas.Bool.{or_parts}
 use Rattle.std.proofs.lemmas.List.Folds.{length-flat_map-take}
-use Rattle.simm_kinds.specs.declared.row.TradeRows.{TradeRows}
-use Rattle.simm_kinds.specs.Batch.{IsBatch, rows_of, repeats}
-use Rattle.simm_kinds.specs.Order.{same_name}
+use Rattle.collateral_ledger.specs.SimmKinds.declared.row.TradeRows.{TradeRows}
+use Rattle.collateral_ledger.specs.SimmKinds.Batch.{IsBatch, rows_of, repeats}
+use Rattle.collateral_ledger.specs.SimmKinds.Order.{same_name}
 use Rattle.bucket_cache.specs.Live.{is_current as has_trade}
 use Rattle.bucket_cache.proofs.Lives.{batch_facts}
 use Rattle.set_core.specs.Kept.{AreDifferent}

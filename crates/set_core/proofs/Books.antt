@@ -5,8 +5,8 @@ use Rattle.std.proofs.lemmas.Bool.{true≢false, false≢true, or_parts, or_from
 use Rattle.std.proofs.lemmas.List.{map-append}
 use Rattle.std.proofs.lemmas.List.Folds.{list_any-append}
 use Rattle.set_core.proofs.Filters.{filter_agrees, filter_every, each_always, each_weaker, each_kept}
-use Rattle.simm_kinds.specs.declared.row.TradeRows.{TradeRows}
-use Rattle.simm_kinds.specs.Order.{same_name}
+use Rattle.collateral_ledger.specs.SimmKinds.declared.row.TradeRows.{TradeRows}
+use Rattle.collateral_ledger.specs.SimmKinds.Order.{same_name}
 use Rattle.held_cell.specs.declared.entry.Entry.{Entry}
 use Rattle.held_cell.specs.Entries.{entry}
 use Rattle.bucket_cache.specs.Live.{put_trades, without, is_current as has_trade}

@@ -2,14 +2,14 @@
 use Rattle.std.proofs.Common.{◌≡◌, ℕ, List, [], ◌∷◌, ◌++◌, Bool, true, false, ◌&&◌, not, Option, Some, None, Result, Ok, Err, IfOk, OnOk, OnErr, refl, sym, ap, ◌∙◌, subst, append_assoc, append-nil}
 use Rattle.std.proofs.lemmas.Bool.{and_parts, false≢true, true≢false}
 use Rattle.std.specs.declared.alloc.AllocError.{AllocError}
-use Rattle.simm_kinds.specs.declared.row.TradeRows.{TradeRows}
-use Rattle.simm_kinds.specs.Batch.{rows_of}
-use Rattle.simm_rules.specs.declared.values.Breakdown.{Breakdown}
-use Rattle.csa_terms.specs.Terms.{Agreement}
-use Rattle.factor_book.specs.Factors.{factors_of}
-use Rattle.factor_book.specs.Places.{factors_at}
-use Rattle.kept_buckets.specs.Cached.{is_measured, place_in}
-use Rattle.kept_buckets.specs.Touched.{Forgets, SameElsewhere}
+use Rattle.collateral_ledger.specs.SimmKinds.declared.row.TradeRows.{TradeRows}
+use Rattle.collateral_ledger.specs.SimmKinds.Batch.{rows_of}
+use Rattle.bucket_cache.specs.SimmRules.declared.values.Breakdown.{Breakdown}
+use Rattle.collateral_ledger.specs.CsaTerms.Terms.{Agreement}
+use Rattle.bucket_cache.specs.FactorBook.Factors.{factors_of}
+use Rattle.bucket_cache.specs.FactorBook.Places.{factors_at}
+use Rattle.bucket_cache.specs.KeptBuckets.Cached.{is_measured, place_in}
+use Rattle.bucket_cache.specs.KeptBuckets.Touched.{Forgets, SameElsewhere}
 use Rattle.bucket_cache.specs.Cached.{touches, is_cached, IsCached}
 use Rattle.bucket_cache.specs.Live.{Live}
 use Rattle.bucket_cache.proofs.Standing.{elsewhere_cached, cached_untouched}

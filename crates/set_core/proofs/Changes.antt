@@ -7,7 +7,7 @@ use Rattle.collateral_ledger.specs.declared.fault.LedgerFault.{LedgerFault}
 use Rattle.collateral_ledger.specs.declared.fault.LedgerFault.TheVariants as fault
 use Rattle.collateral_ledger.specs.Holdings.{Holdings}
 use Rattle.collateral_ledger.specs.Refusals.{IsCause}
-use Rattle.simm_kinds.specs.declared.row.TradeRows.{TradeRows}
+use Rattle.collateral_ledger.specs.SimmKinds.declared.row.TradeRows.{TradeRows}
 use Rattle.set_core.specs.declared.event.Event.{Event}
 use Rattle.set_core.specs.declared.reply.Reply.{Reply}
 use Rattle.set_core.specs.declared.reply.Reply.TheVariants as reply

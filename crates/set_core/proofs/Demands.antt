@@ -3,9 +3,9 @@ use Rattle.std.proofs.Common.{◌≡◌, refl, Bool, true, false, cond, ℤ, Non
 use Rattle.std.proofs.lemmas.Bool.{true≢false}
 use Rattle.std.specs.declared.alloc.AllocError.{AllocError}
 use Rattle.std.specs.Prelude.{unwrap_or}
-use Rattle.simm_kinds.specs.Batch.{rows_of}
-use Rattle.simm_rules.specs.Simm.{simm}
-use Rattle.csa_terms.specs.Calendar.{Moment, due_day}
+use Rattle.collateral_ledger.specs.SimmKinds.Batch.{rows_of}
+use Rattle.bucket_cache.specs.SimmRules.Simm.{simm}
+use Rattle.collateral_ledger.specs.CsaTerms.Calendar.{Moment, due_day}
 use Rattle.collateral_ledger.specs.Holdings.{Holdings}
 use Rattle.collateral_ledger.specs.Booked.{booked_of}
 use Rattle.set_core.specs.declared.event.Event.TheVariants as event

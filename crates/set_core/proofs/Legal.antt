@@ -1,8 +1,8 @@
 -- A legal journal stays legal with the answer to one event more.
 use Rattle.std.proofs.Common.{◌≡◌, List, [], ◌∷◌, ◌++◌, Bool, true, false, refl, sym, ap, ◌∙◌, subst}
 use Rattle.std.proofs.lemmas.Bool.{true≢false}
-use Rattle.simm_rules.specs.Params.{Params}
-use Rattle.csa_terms.specs.Terms.{Agreement}
+use Rattle.bucket_cache.specs.SimmRules.Params.{Params}
+use Rattle.collateral_ledger.specs.CsaTerms.Terms.{Agreement}
 use Rattle.held_cell.specs.declared.entry.Entry.{Entry}
 use Rattle.set_core.specs.declared.event.Event.{Event}
 use Rattle.set_core.specs.declared.reply.Reply.{Reply}

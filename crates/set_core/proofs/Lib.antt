@@ -14,3 +14,4 @@ pub mod Demands
 pub mod Applies
 pub mod Caching
 pub mod Steps
+pub use Rattle.held_cell.proofs as HeldCell

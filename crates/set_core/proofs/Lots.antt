@@ -3,9 +3,9 @@ use Rattle.std.proofs.Common.{◌≡◌, ℕ, List, [], ◌∷◌, ◌++◌, Boo
 use Rattle.std.specs.List.{list_any}
 use Rattle.std.proofs.lemmas.Bool.{or_parts}
 use Rattle.std.proofs.lemmas.List.Folds.{list_any-append}
-use Rattle.simm_kinds.specs.Order.{same_name}
+use Rattle.collateral_ledger.specs.SimmKinds.Order.{same_name}
 use Rattle.held_cell.specs.declared.entry.Entry.{Entry}
-use Rattle.csa_terms.specs.declared.lot_currency.LotCurrency.{LotCurrency}
+use Rattle.collateral_ledger.specs.CsaTerms.declared.lot_currency.LotCurrency.{LotCurrency}
 use Rattle.set_core.specs.declared.event.Event.{Event}
 use Rattle.set_core.specs.declared.event.Event.TheVariants as event
 use Rattle.set_core.specs.declared.reply.Reply.{Reply}

@@ -6,7 +6,7 @@ use Rattle.std.specs.Ordering.{is_eq}
 use Rattle.std.proofs.lemmas.Bool.{false≢true}
 use Rattle.std.proofs.lemmas.Cmp.{nat_list_cmp_total, tied_itself}
 use Rattle.std.proofs.lemmas.Map.Lookups.{exact_bytes}
-use Rattle.simm_kinds.specs.Order.{name_cmp, same_name}
+use Rattle.collateral_ledger.specs.SimmKinds.Order.{name_cmp, same_name}
 
 equal_from_is_eq : (o : Ordering) → is_eq o ≡ true → o ≡ Equal
 equal_from_is_eq Equal h = refl

@@ -5,8 +5,8 @@ use Rattle.std.specs.List.{filter, AllByRecursion}
 use Rattle.std.proofs.lemmas.Bool.{false≢true, or_parts, or_from}
 use Rattle.std.proofs.lemmas.List.Folds.{list_any-append}
 use Rattle.set_core.proofs.Filters.{filter_agrees, each_always}
-use Rattle.simm_kinds.specs.declared.row.TradeRows.{TradeRows}
-use Rattle.simm_kinds.specs.Order.{same_name}
+use Rattle.collateral_ledger.specs.SimmKinds.declared.row.TradeRows.{TradeRows}
+use Rattle.collateral_ledger.specs.SimmKinds.Order.{same_name}
 use Rattle.bucket_cache.specs.Live.{put_trade, put_trades, is_current as has_trade}
 use Rattle.set_core.specs.Book.{Word, Given, Taken, Silent, word_of_batch}
 use Rattle.set_core.specs.Kept.{AreDifferent}

@@ -1,8 +1,8 @@
 -- An empty journal is legal, and within its limits.
 use Rattle.std.specs.Prelude.{[]}
 use Rattle.std.proofs.Common.{lit≤}
-use Rattle.simm_rules.specs.Params.{Params}
-use Rattle.csa_terms.specs.Terms.{Agreement}
+use Rattle.bucket_cache.specs.SimmRules.Params.{Params}
+use Rattle.collateral_ledger.specs.CsaTerms.Terms.{Agreement}
 use Rattle.held_cell.proofs.Empty.{no_entry}
 use Rattle.set_core.specs.Set.{IsSet}
 

@@ -4,7 +4,7 @@ use Rattle.std.specs.List.{filter}
 use Rattle.std.proofs.lemmas.List.Elements.{filter-append, filter_agree}
 use Rattle.std.proofs.lemmas.List.Folds.{list_any-append}
 use Rattle.set_core.proofs.Filters.{filter_both}
-use Rattle.simm_kinds.specs.declared.row.TradeRows.{TradeRows}
+use Rattle.collateral_ledger.specs.SimmKinds.declared.row.TradeRows.{TradeRows}
 use Rattle.held_cell.specs.declared.entry.Entry.{Entry}
 use Rattle.set_core.specs.declared.event.Event.{Event}
 use Rattle.set_core.specs.declared.reply.Reply.{Reply}

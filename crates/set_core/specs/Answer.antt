@@ -1,15 +1,15 @@
 -- The answer to an event after a journal, by the written rule, and the journals that hold nothing else.
 use Rattle.std.specs.Prelude.{ℕ, ◌+◌, ◌*◌, ◌^◌, ◌≡◌, List, [], ◌∷◌, ◌++◌, length, Bool, true, false, ◌&&◌, not, if◌then◌else◌, nat_le, Option, Some, None, is_some, option_map, position, ℤ, pos, int_le, unsigned_abs}
 use Rattle.jiff_core.specs.Calendar.{days_from_civil}
-use Rattle.simm_kinds.specs.declared.row.TradeRows.{TradeRows}
-use Rattle.simm_kinds.specs.Batch.{rows_of}
-use Rattle.simm_rules.specs.declared.values.RangeFault.{RangeFault}
-use Rattle.simm_rules.specs.Params.{Params}
-use Rattle.simm_rules.specs.Simm.{simm}
-use Rattle.simm_rules.specs.Range.{range}
-use Rattle.csa_terms.specs.declared.flow.Flow.TheVariants as flow
-use Rattle.csa_terms.specs.Terms.{Agreement, haircut_of}
-use Rattle.csa_terms.specs.Calendar.{Moment, due_day}
+use Rattle.collateral_ledger.specs.SimmKinds.declared.row.TradeRows.{TradeRows}
+use Rattle.collateral_ledger.specs.SimmKinds.Batch.{rows_of}
+use Rattle.bucket_cache.specs.SimmRules.declared.values.RangeFault.{RangeFault}
+use Rattle.bucket_cache.specs.SimmRules.Params.{Params}
+use Rattle.bucket_cache.specs.SimmRules.Simm.{simm}
+use Rattle.bucket_cache.specs.SimmRules.Range.{range}
+use Rattle.collateral_ledger.specs.CsaTerms.declared.flow.Flow.TheVariants as flow
+use Rattle.collateral_ledger.specs.CsaTerms.Terms.{Agreement, haircut_of}
+use Rattle.collateral_ledger.specs.CsaTerms.Calendar.{Moment, due_day}
 use Rattle.csa_calls.specs.declared.CallAmount.{CallAmount}
 use Rattle.csa_calls.specs.declared.CallAmount.TheVariants as amount
 use Rattle.csa_calls.specs.CallRule.{call_of, excess}

@@ -1,11 +1,11 @@
 -- What a live margin has kept after a journal: all that was worked out at the last question that was answered, but where rows
 -- moved since.
 use Rattle.std.specs.Prelude.{◌≡◌, List, [], ◌∷◌, ◌++◌, Bool, true, false, ◌&&◌, not}
-use Rattle.simm_kinds.specs.declared.kinds.Measure.{Measure}
-use Rattle.simm_kinds.specs.declared.row.CrifRow.{CrifRow}
-use Rattle.simm_kinds.specs.declared.row.TradeRows.{TradeRows}
-use Rattle.simm_kinds.specs.Batch.{rows_of}
-use Rattle.factor_book.specs.declared.at.BucketAt.{BucketAt}
+use Rattle.collateral_ledger.specs.SimmKinds.declared.kinds.Measure.{Measure}
+use Rattle.collateral_ledger.specs.SimmKinds.declared.row.CrifRow.{CrifRow}
+use Rattle.collateral_ledger.specs.SimmKinds.declared.row.TradeRows.{TradeRows}
+use Rattle.collateral_ledger.specs.SimmKinds.Batch.{rows_of}
+use Rattle.bucket_cache.specs.FactorBook.declared.at.BucketAt.{BucketAt}
 use Rattle.bucket_cache.specs.Live.{Live, named, rows_moved}
 use Rattle.bucket_cache.specs.Cached.{touches, IsCached}
 use Rattle.held_cell.specs.declared.entry.Entry.{Entry}

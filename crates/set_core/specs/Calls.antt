@@ -3,7 +3,7 @@
 -- completed count as made.)
 use Rattle.std.specs.Prelude.{ℕ, ◌+◌, ◌==◌, List, [], ◌∷◌, ◌++◌, map, Bool, false, ◌&&◌, if◌then◌else◌, ℤ, ◌+ℤ◌}
 use Rattle.std.specs.List.{list_any}
-use Rattle.csa_terms.specs.Terms.{Agreement}
+use Rattle.collateral_ledger.specs.CsaTerms.Terms.{Agreement}
 use Rattle.collateral_ledger.specs.Holdings.{Call}
 use Rattle.collateral_ledger.specs.Booked.{total, settled}
 use Rattle.collateral_ledger.specs.Changes.{has_call}

@@ -1,5 +1,5 @@
 -- What each event keeps.
-use Rattle.simm_kinds.specs.Batch.{IsBatch}
+use Rattle.collateral_ledger.specs.SimmKinds.Batch.{IsBatch}
 use Rattle.set_core.specs.declared.event.Event.{Event}
 use Rattle.set_core.specs.declared.event.Event.TheVariants as event
 

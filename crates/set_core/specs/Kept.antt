@@ -1,7 +1,7 @@
 -- What a set keeps beside its journal: the live margin has the journal's book, the ledger its lots and calls, and the rows are
 -- counted.
 use Rattle.std.specs.Prelude.{◌≡◌, ℕ, List, [], ◌∷◌, false}
-use Rattle.simm_kinds.specs.declared.row.TradeRows.{TradeRows}
+use Rattle.collateral_ledger.specs.SimmKinds.declared.row.TradeRows.{TradeRows}
 use Rattle.held_cell.specs.declared.entry.Entry.{Entry}
 use Rattle.bucket_cache.specs.Live.{is_current}
 use Rattle.set_core.specs.declared.event.Event.{Event}

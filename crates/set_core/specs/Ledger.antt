@@ -1,6 +1,6 @@
 -- The ledger of a netting set: what it holds after a journal, and what it makes of an event.
 use Rattle.std.specs.Prelude.{◌≡◌, ℕ, ◌+◌, List, [], ◌∷◌, ◌++◌, map, if◌then◌else◌, Option, None, Some, Result, Ok, Err}
-use Rattle.csa_terms.specs.Terms.{Agreement}
+use Rattle.collateral_ledger.specs.CsaTerms.Terms.{Agreement}
 use Rattle.collateral_ledger.specs.declared.fault.LedgerFault.{LedgerFault}
 use Rattle.collateral_ledger.specs.declared.fault.LedgerFault.TheVariants as fault
 use Rattle.collateral_ledger.specs.Holdings.{Lot as Held, Call, Holdings}

@@ -10,3 +10,6 @@ pub mod Live
 pub mod Kept
 pub mod Cached
 pub mod Text
+pub use Rattle.bucket_cache.specs.SimmRules as SimmRules
+pub use Rattle.held_cell.specs as HeldCell
+pub use Rattle.bucket_cache.specs as BucketCache

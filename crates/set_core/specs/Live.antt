@@ -1,12 +1,12 @@
 -- What a live margin and a ledger make of an event.
 use Rattle.std.specs.Prelude.{◌≡◌, List, Bool, true}
-use Rattle.simm_kinds.specs.declared.row.TradeRows.{TradeRows}
-use Rattle.simm_kinds.specs.Batch.{rows_of}
-use Rattle.simm_rules.specs.Params.{Params}
-use Rattle.simm_rules.specs.Range.{range}
-use Rattle.simm_rules.specs.Simm.{simm}
-use Rattle.simm_kinds.specs.declared.kinds.Measure.{Measure}
-use Rattle.factor_book.specs.declared.at.BucketAt.{BucketAt}
+use Rattle.collateral_ledger.specs.SimmKinds.declared.row.TradeRows.{TradeRows}
+use Rattle.collateral_ledger.specs.SimmKinds.Batch.{rows_of}
+use Rattle.bucket_cache.specs.SimmRules.Params.{Params}
+use Rattle.bucket_cache.specs.SimmRules.Range.{range}
+use Rattle.bucket_cache.specs.SimmRules.Simm.{simm}
+use Rattle.collateral_ledger.specs.SimmKinds.declared.kinds.Measure.{Measure}
+use Rattle.bucket_cache.specs.FactorBook.declared.at.BucketAt.{BucketAt}
 use Rattle.bucket_cache.specs.Cached.{touches, is_cached, IsCached}
 use Rattle.bucket_cache.specs.Live.{Live, put_trades, without, first_unadmitted, first_unknown}
 use Rattle.collateral_ledger.specs.Holdings.{Holdings}

@@ -2,9 +2,9 @@
 -- (ISDA 2016 Credit Support Annex for Initial Margin: Posted Credit Support, Valuation Percentage, FX Haircut Percentage.)
 use Rattle.std.specs.Prelude.{ℕ, List, [], ◌∷◌, ◌++◌, map, Bool, false, ◌&&◌, if◌then◌else◌, ℤ}
 use Rattle.std.specs.List.{list_any}
-use Rattle.simm_kinds.specs.Order.{same_name}
-use Rattle.csa_terms.specs.declared.lot_currency.LotCurrency.{LotCurrency}
-use Rattle.csa_terms.specs.Terms.{Agreement}
+use Rattle.collateral_ledger.specs.SimmKinds.Order.{same_name}
+use Rattle.collateral_ledger.specs.CsaTerms.declared.lot_currency.LotCurrency.{LotCurrency}
+use Rattle.collateral_ledger.specs.CsaTerms.Terms.{Agreement}
 use Rattle.collateral_ledger.specs.Booked.{total, rate_of, counted_at}
 use Rattle.held_cell.specs.declared.entry.Entry.{Entry}
 use Rattle.set_core.specs.declared.event.Event.{Event}

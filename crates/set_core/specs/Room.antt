@@ -1,6 +1,6 @@
 -- When a journal is full: 65,535 entries, or 500,000 rows of all submits, refused ones too.
 use Rattle.std.specs.Prelude.{◌≡◌, ℕ, ◌+◌, List, length, Bool, true, ◌||◌, nat_le, nat_lt, sum_by}
-use Rattle.simm_kinds.specs.Batch.{rows_of}
+use Rattle.collateral_ledger.specs.SimmKinds.Batch.{rows_of}
 use Rattle.held_cell.specs.declared.entry.Entry.{Entry}
 use Rattle.set_core.specs.declared.event.Event.{Event}
 use Rattle.set_core.specs.declared.event.Event.TheVariants as event

@@ -1,13 +1,13 @@
 -- A netting set as it is seen: what it works on, its journal, and what is kept of its margin.
 use Rattle.std.specs.Prelude.{◌≡◌, ℕ, ◌≤◌, List, [], ◌∷◌, ◌++◌, length, Bool, true, false, Option, None, zero, suc, slice_get}
-use Rattle.simm_kinds.specs.declared.kinds.Measure.{Measure}
-use Rattle.simm_kinds.specs.Batch.{rows_of}
-use Rattle.simm_rules.specs.Params.{Params}
-use Rattle.factor_book.specs.declared.at.BucketAt.{BucketAt}
-use Rattle.factor_book.specs.declared.place.Place.{Place}
-use Rattle.kept_buckets.specs.declared.value.KeptValue.{KeptValue}
+use Rattle.collateral_ledger.specs.SimmKinds.declared.kinds.Measure.{Measure}
+use Rattle.collateral_ledger.specs.SimmKinds.Batch.{rows_of}
+use Rattle.bucket_cache.specs.SimmRules.Params.{Params}
+use Rattle.bucket_cache.specs.FactorBook.declared.at.BucketAt.{BucketAt}
+use Rattle.bucket_cache.specs.FactorBook.declared.place.Place.{Place}
+use Rattle.bucket_cache.specs.KeptBuckets.declared.value.KeptValue.{KeptValue}
 use Rattle.bucket_cache.specs.Cached.{touches, is_cached}
-use Rattle.csa_terms.specs.Terms.{Agreement}
+use Rattle.collateral_ledger.specs.CsaTerms.Terms.{Agreement}
 use Rattle.held_cell.specs.declared.entry.Entry.{Entry}
 use Rattle.held_cell.specs.declared.machine.Halt.{Halt}
 use Rattle.held_cell.specs.declared.machine.Halt.TheVariants as halt

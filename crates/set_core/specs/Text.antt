@@ -1,11 +1,11 @@
 -- The printed text of a reply: fields parted by one tab, without the end of the line.
 use Rattle.std.specs.Prelude.{ℕ, List, [], ◌++◌, codes, decimal, ℤ}
 use Rattle.std.specs.Fmt.{signed_decimal}
-use Rattle.mh_units.specs.Money.{money_text}
-use Rattle.simm_rules.specs.RangeNumber.{range_number}
-use Rattle.csa_terms.specs.Moments.{day_text}
-use Rattle.csa_terms.specs.declared.flow.Flow.{Flow}
-use Rattle.csa_terms.specs.declared.flow.Flow.TheVariants as flow
+use Rattle.collateral_ledger.specs.MhUnits.Money.{money_text}
+use Rattle.bucket_cache.specs.SimmRules.RangeNumber.{range_number}
+use Rattle.collateral_ledger.specs.CsaTerms.Moments.{day_text}
+use Rattle.collateral_ledger.specs.CsaTerms.declared.flow.Flow.{Flow}
+use Rattle.collateral_ledger.specs.CsaTerms.declared.flow.Flow.TheVariants as flow
 use Rattle.set_core.specs.declared.call_note.CallNote.{CallNote}
 use Rattle.set_core.specs.declared.reply.Reply.{Reply}
 use Rattle.set_core.specs.declared.reply.Reply.TheVariants as reply

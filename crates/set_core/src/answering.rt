@@ -1,6 +1,6 @@
 //! What a live margin and a ledger make of an event, each kind by a function of its own.
 ghost use Rattle.std.specs.Prelude.{◌≡◌, ◌≤◌, IfOk, OnErr};
-ghost use Rattle.simm_kinds.specs.Batch.{rows_of};
+ghost use Rattle.collateral_ledger.specs.SimmKinds.Batch.{rows_of};
 ghost use Rattle.set_core.specs.Live.{Caches, Does, StaysKept, traded};
 ghost use Rattle.collateral_ledger.specs.Holdings.{Holdings};
 ghost use Rattle.set_core.specs.declared.event.Event.TheVariants as events;
@@ -11,7 +11,7 @@ use crate::collateral::{close, mark, put, take};
 use crate::{Event, Refusal, Reply, SharedMargin};
 use bucket_cache::{LiveMargin, SubmitFault, WithdrawFault};
 use collateral_ledger::Ledger;
-use simm_kinds::{Batch, Name};
+use collateral_ledger::simm_kinds::{Batch, Name};
 use std::alloc::{AllocError, Global};
 
 /// Answers an event as `answer` does, and gives its reply twice: to the caller, and to the journal.

@@ -1,12 +1,12 @@
 //! The margin of a set's trades.
 ghost use Rattle.std.specs.Prelude.{◌≡◌, ◌^◌, ◌<◌, IfOk, OnOk, pos, ◌≤ℤ◌, ◌<ℤ◌};
-ghost use Rattle.simm_kinds.specs.Batch.{rows_of};
-ghost use Rattle.simm_rules.specs.Simm.{simm};
+ghost use Rattle.collateral_ledger.specs.SimmKinds.Batch.{rows_of};
+ghost use Rattle.bucket_cache.specs.SimmRules.Simm.{simm};
 ghost use Rattle.set_core.specs.Live.{IsWorkedOut, StaysKept, traded};
 
 use bucket_cache::LiveMargin;
-use pair_sum::Steps;
-use simm_rules::Breakdown;
+use bucket_cache::pair_sum::Steps;
+use bucket_cache::simm_rules::Breakdown;
 use std::alloc::{AllocError, Global};
 use std::marker::Brand;
 use std::sync::ledger::{Blank, Ledger};

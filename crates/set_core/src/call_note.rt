@@ -1,4 +1,4 @@
-use csa_terms::Flow;
+use collateral_ledger::csa_terms::Flow;
 
 /// A call for collateral. Amounts are in cents.
 #[derive(Clone, Copy)]

@@ -1,6 +1,6 @@
 //! A demand for collateral: the call that is made of it.
 ghost use Rattle.std.specs.Prelude.{◌≡◌, ◌+◌, ◌≤◌, ◌^◌, None, Some, if◌then◌else◌, IfOk, OnErr, pos, ◌≤ℤ◌, unsigned_abs};
-ghost use Rattle.csa_terms.specs.Calendar.{due_day};
+ghost use Rattle.collateral_ledger.specs.CsaTerms.Calendar.{due_day};
 ghost use Rattle.csa_calls.specs.CallRule.{AmountUpTo};
 ghost use Rattle.set_core.specs.Answer.{is_calling_day, is_calling_range, called_for, noted};
 ghost use Rattle.collateral_ledger.specs.Holdings.{IsCallAmount};
@@ -13,8 +13,8 @@ use crate::asking::ask_margin;
 use crate::{CallNote, Refusal, Reply};
 use bucket_cache::LiveMargin;
 use collateral_ledger::Ledger;
+use collateral_ledger::csa_terms::{Flow, Moment, SetTerms, due_day};
 use csa_calls::{CallAmount, call_amount, excess};
-use csa_terms::{Flow, Moment, SetTerms, due_day};
 use std::alloc::{AllocError, Global};
 
 /// What a demand finds: the day on which a call of it is due, the margin, and what is booked, in cents.

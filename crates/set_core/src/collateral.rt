@@ -5,9 +5,9 @@ ghost use Rattle.set_core.specs.Live.{Traded, Does};
 ghost use Rattle.set_core.specs.declared.event.Event.TheVariants as events;
 
 use crate::{Refusal, Reply};
+use collateral_ledger::csa_terms::LotCurrency;
+use collateral_ledger::simm_kinds::Name;
 use collateral_ledger::{Ledger, LedgerFault};
-use csa_terms::LotCurrency;
-use simm_kinds::Name;
 use std::alloc::{AllocError, Global};
 
 pub(crate) fn put(

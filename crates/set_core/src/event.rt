@@ -1,10 +1,10 @@
 ghost use Rattle.std.specs.Prelude.{◌≡◌, length};
-ghost use Rattle.simm_kinds.specs.Batch.{IsBatch, rows_of};
+ghost use Rattle.collateral_ledger.specs.SimmKinds.Batch.{IsBatch, rows_of};
 ghost use Rattle.set_core.specs.Room.{event_rows};
 ghost use Rattle.set_core.specs.Events.{IsEvent};
 
-use csa_terms::{LotCurrency, Moment};
-use simm_kinds::{Batch, Listed, Name, TradeRows};
+use collateral_ledger::csa_terms::{LotCurrency, Moment};
+use collateral_ledger::simm_kinds::{Batch, Listed, Name, TradeRows};
 
 /// What a caller asks of a netting set.
 #[derive(Drop)]

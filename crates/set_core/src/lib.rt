@@ -24,3 +24,9 @@ pub use reply::{Entry, Reply};
 pub use reply_words::{push_reply, reply_text};
 pub use set_state::SetState;
 pub use shared_margin::SharedMargin;
+
+// what the crates above reach through this one
+pub use bucket_cache;
+pub use bucket_cache::pair_sum;
+pub use collateral_ledger::csa_terms;
+pub use held_cell;

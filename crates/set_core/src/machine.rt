@@ -5,9 +5,9 @@ ghost use Rattle.set_core.specs.Room.{journal_rows, IsFull};
 ghost use Rattle.set_core.specs.Set.{IsSet, base_of};
 
 use crate::{Event, Reply, SetState};
-use csa_terms::SetTerms;
+use bucket_cache::simm_params::Params;
+use collateral_ledger::csa_terms::SetTerms;
 use held_cell::{Halt, Machine};
-use simm_params::Params;
 
 impl Machine for SetState {
     type Event = Event;

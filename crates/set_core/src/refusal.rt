@@ -1,7 +1,7 @@
 ghost use Rattle.std.specs.Prelude.{◌≡◌};
 ghost use Rattle.set_core.specs.Text.{refusal_number};
 
-use simm_rules::RangeFault;
+use bucket_cache::simm_rules::RangeFault;
 
 /// Why an event was refused. It stands in the journal with the event, and nothing else changed.
 #[derive(Clone, Copy)]

@@ -1,5 +1,5 @@
 ghost use Rattle.std.specs.Prelude.{◌≡◌, IfOk, OnErr};
-ghost use Rattle.simm_rules.specs.declared.values.Breakdown.{Breakdown};
+ghost use Rattle.bucket_cache.specs.SimmRules.declared.values.Breakdown.{Breakdown};
 ghost use Rattle.set_core.specs.declared.reply.Reply.TheVariants as replies;
 
 use crate::{CallNote, Event, Refusal, SharedMargin};

@@ -1,12 +1,12 @@
 ghost use Rattle.std.specs.Prelude.{◌≡◌, ◌++◌, codes, IfOk, OnOk};
-ghost use Rattle.csa_terms.specs.Moments.{day_text};
-ghost use Rattle.mh_units.specs.Money.{money_text};
+ghost use Rattle.collateral_ledger.specs.CsaTerms.Moments.{day_text};
+ghost use Rattle.collateral_ledger.specs.MhUnits.Money.{money_text};
 ghost use Rattle.set_core.specs.Text.{refusal_text, flow_text, basis_text, call_text, note_text, reply_text};
 
 use crate::{CallNote, Refusal, Reply};
-use csa_terms::{Flow, push_day};
+use collateral_ledger::csa_terms::{Flow, push_day};
+use collateral_ledger::mh_units::{Cents, Text, push_cents};
 use itoa::{Buffer, Integer};
-use mh_units::{Cents, Text, push_cents};
 use std::alloc::{AllocError, Global};
 
 /// The printed text of a reply, its fields parted by tabs, without the end of the line. Of a margin it is the total.

@@ -1,7 +1,7 @@
 ghost use Rattle.std.specs.Prelude.{◌≡◌, true, length, map, None, Some, IfOk, IfErr};
 ghost use Rattle.std.specs.Option.{option_copied};
-ghost use Rattle.simm_kinds.specs.declared.kinds.Measure.{Measure};
-ghost use Rattle.factor_book.specs.declared.at.BucketAt.{BucketAt};
+ghost use Rattle.collateral_ledger.specs.SimmKinds.declared.kinds.Measure.{Measure};
+ghost use Rattle.bucket_cache.specs.FactorBook.declared.at.BucketAt.{BucketAt};
 ghost use Rattle.bucket_cache.specs.Cached.{IsCached};
 ghost use Rattle.set_core.specs.Book.{book};
 ghost use Rattle.set_core.specs.Cached.{is_margin_known, is_value_known};
@@ -12,9 +12,9 @@ ghost use Rattle.set_core.specs.Set.{IsSet, IsAnswered, Leaves, start, entry_at}
 use crate::answering::answer_twice;
 use crate::{Entry, Event, Halt, Reply};
 use bucket_cache::LiveMargin;
+use bucket_cache::simm_params::Params;
 use collateral_ledger::Ledger;
-use csa_terms::SetTerms;
-use simm_params::Params;
+use collateral_ledger::csa_terms::SetTerms;
 use std::alloc::{AllocError, Global};
 use std::marker::Model;
 

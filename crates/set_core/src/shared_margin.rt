@@ -1,6 +1,6 @@
 ghost use Rattle.std.specs.Prelude.{◌≡◌, IfOk};
 
-use simm_rules::Breakdown;
+use bucket_cache::simm_rules::Breakdown;
 use std::alloc::{AllocError, Global};
 use std::marker::Model;
 use std::sync::Arc;
@@ -13,7 +13,7 @@ pub struct SharedMargin {
 
 impl Model for SharedMargin {
     ghost use Rattle.std.specs.Arc.{arc_value};
-    ghost use Rattle.simm_rules.specs.declared.values.Breakdown.{Breakdown};
+    ghost use Rattle.bucket_cache.specs.SimmRules.declared.values.Breakdown.{Breakdown};
 
     ghost Value = { Breakdown };
 

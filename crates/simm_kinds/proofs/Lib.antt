@@ -5,3 +5,4 @@ pub mod Orders
 pub mod Letters
 pub mod PlainText
 pub mod Rows
+pub use Rattle.mh_units.proofs as MhUnits

@@ -12,3 +12,4 @@ pub mod Factors
 pub mod Order
 pub mod Repeats
 pub mod Batch
+pub use Rattle.mh_units.specs as MhUnits

@@ -35,3 +35,6 @@ pub use listed::Listed;
 pub use name::Name;
 pub use order_laws::orders_are_defined;
 pub use row::{CrifRow, TradeRows};
+
+// what the crates above reach through this one
+pub use mh_units;

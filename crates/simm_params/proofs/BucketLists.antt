@@ -10,9 +10,9 @@ use Rattle.std.proofs.lemmas.List.{length-map, map-append, get_or-replicate, get
 use Rattle.std.proofs.lemmas.List.Folds.{list_any-append}
 use Rattle.std.proofs.lemmas.List.Sums.{sum_by-cons, sum_by_push, count_by-le-length}
 use Rattle.std.proofs.lemmas.Option.{none-some, slice_get-get_or, slice_get-map, slice_get_read}
-use Rattle.simm_kinds.specs.declared.bucket.Bucket.{Bucket}
-use Rattle.simm_kinds.specs.declared.bucket.Bucket.TheVariants.{Number, Residual}
-use Rattle.simm_kinds.specs.BucketNumber.{is_bucket_number}
+use Rattle.simm_rules.specs.SimmKinds.declared.bucket.Bucket.{Bucket}
+use Rattle.simm_rules.specs.SimmKinds.declared.bucket.Bucket.TheVariants.{Number, Residual}
+use Rattle.simm_rules.specs.SimmKinds.BucketNumber.{is_bucket_number}
 use Rattle.simm_params.specs.Buckets.{ClassBucket, IsBucket, bucket_slot, precedes, AreInOrder, is_behind, same_id, lists, place_among, place_of, ids_of, bucket_of}
 use Rattle.simm_params.specs.BucketIndex.{AreIndexed}
 

@@ -2,8 +2,8 @@
 use Rattle.std.proofs.Common.{◌≡◌, Bool, true, false, cond, Option, Some, List, [], ◌∷◌, map, refl, sym, ap, ◌∙◌}
 use Rattle.std.specs.Option.{option_map}
 use Rattle.std.specs.List.{find}
-use Rattle.simm_kinds.specs.declared.bucket.Bucket.{Bucket}
-use Rattle.simm_kinds.specs.Order.{same_bucket}
+use Rattle.simm_rules.specs.SimmKinds.declared.bucket.Bucket.{Bucket}
+use Rattle.simm_rules.specs.SimmKinds.Order.{same_bucket}
 use Rattle.simm_params.proofs.RuleLists.{first-is}
 use Rattle.simm_params.specs.Buckets.{ClassBucket, same_id}
 

@@ -5,7 +5,7 @@ use Rattle.std.specs.List.{find}
 use Rattle.std.specs.Map.{lookup}
 use Rattle.std.proofs.lemmas.List.Folds.{list_any-append}
 use Rattle.std.proofs.lemmas.List.{take_more, append-nil, append_assoc}
-use Rattle.simm_kinds.specs.Order.{same_name}
+use Rattle.simm_rules.specs.SimmKinds.Order.{same_name}
 use Rattle.simm_rules.specs.Params.{Thresholds, CurrencyGroup, Params}
 use Rattle.simm_rules.specs.Lookups.{is_listed}
 use Rattle.simm_rules.specs.Rates.{rate_thresholds}

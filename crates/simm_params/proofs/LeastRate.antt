@@ -4,7 +4,7 @@ use Rattle.std.specs.Int.{int_min}
 use Rattle.std.specs.List.{fold}
 use Rattle.std.proofs.lemmas.List.Sums.{fold_more}
 use Rattle.std.proofs.lemmas.List.{get_or-map, length-map}
-use Rattle.mh_units.specs.declared.quantities.Rate4.{Rate4}
+use Rattle.simm_rules.specs.MhUnits.declared.quantities.Rate4.{Rate4}
 use Rattle.simm_params.specs.RateUnits.{ten_thousandths}
 
 pub least_more : (first least next : ℤ) (rates : List Rate4) (i : ℕ) → i < length rates → least ≡ fold int_min first (take i (ten_thousandths rates))

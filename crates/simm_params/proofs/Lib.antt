@@ -11,3 +11,6 @@ mod WeighedRates
 mod WeighedPairs
 mod WeighedBuckets
 pub mod ClassLists
+pub use Rattle.simm_rules.proofs.MhUnits as MhUnits
+pub use Rattle.simm_rules.proofs.SimmKinds as SimmKinds
+pub use Rattle.toml_values.proofs as TomlValues

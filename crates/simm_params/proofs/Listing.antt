@@ -5,8 +5,8 @@ use Rattle.std.proofs.lemmas.Bool.{false_from_ne_true, false≢true}
 use Rattle.std.proofs.lemmas.Cmp.{nat_list_cmp_total, eq_by_cmp_equiv}
 use Rattle.std.proofs.lemmas.List.Folds.{list_any-append}
 use Rattle.std.proofs.lemmas.Map.Lookups.{exact_bytes}
-use Rattle.simm_kinds.specs.NameText.{is_currency}
-use Rattle.simm_kinds.specs.Order.{same_name}
+use Rattle.simm_rules.specs.SimmKinds.NameText.{is_currency}
+use Rattle.simm_rules.specs.SimmKinds.Order.{same_name}
 use Rattle.simm_rules.specs.Lookups.{is_listed}
 use Rattle.simm_params.specs.Listed.{AreListed}
 

@@ -5,10 +5,10 @@ use Rattle.std.specs.List.{AllByRecursion, find}
 use Rattle.std.proofs.lemmas.Bool.{and_parts, leb-true}
 use Rattle.std.proofs.lemmas.Bool.Decides.{nat_tests}
 use Rattle.std.proofs.lemmas.List.Sums.{sum_by-cons}
-use Rattle.simm_kinds.specs.declared.bucket.Bucket.{Bucket}
-use Rattle.simm_kinds.specs.declared.bucket.Bucket.TheVariants.{Number, Residual}
-use Rattle.simm_kinds.specs.BucketNumber.{is_bucket_number}
-use Rattle.simm_kinds.specs.Order.{bucket_cmp, same_bucket}
+use Rattle.simm_rules.specs.SimmKinds.declared.bucket.Bucket.{Bucket}
+use Rattle.simm_rules.specs.SimmKinds.declared.bucket.Bucket.TheVariants.{Number, Residual}
+use Rattle.simm_rules.specs.SimmKinds.BucketNumber.{is_bucket_number}
+use Rattle.simm_rules.specs.SimmKinds.Order.{bucket_cmp, same_bucket}
 use Rattle.simm_rules.specs.Across.{place_among as rule_place}
 use Rattle.simm_rules.specs.Admits.{lists as rule_lists}
 use Rattle.simm_params.specs.Buckets.{IsBucket, precedes, same_id, lists, place_among, place_of}

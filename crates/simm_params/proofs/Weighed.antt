@@ -1,7 +1,7 @@
 -- Weights and thresholds at a currency are those of the parameters, so they are bounded.
 use Rattle.std.proofs.Common.{ℕ, ◌^◌, Bool, true, false, cond, List, ℤ, pos, ◌≤ℤ◌, arith}
 use Rattle.std.proofs.lemmas.Int.{ints}
-use Rattle.simm_kinds.specs.Order.{same_name}
+use Rattle.simm_rules.specs.SimmKinds.Order.{same_name}
 use Rattle.simm_rules.specs.Params.{Params}
 use Rattle.simm_rules.specs.Lookups.{is_listed}
 use Rattle.simm_rules.specs.ForeignExchange.{is_high, fx_weight, fx_threshold}

@@ -3,7 +3,7 @@ use Rattle.std.proofs.Common.{◌≡◌, ◌<◌, ℕ, Bool, true, false, cond, 
 use Rattle.std.specs.List.{AllByRecursion}
 use Rattle.std.proofs.lemmas.Int.{ints}
 use Rattle.std.proofs.lemmas.List.Elements.{All-from_recursion}
-use Rattle.simm_kinds.specs.Pair.{Pair}
+use Rattle.simm_rules.specs.SimmKinds.Pair.{Pair}
 use Rattle.simm_rules.specs.Params.{Params}
 use Rattle.simm_rules.specs.Lookups.{is_listed, at_row}
 use Rattle.simm_rules.specs.ForeignExchange.{fx_vega_threshold}

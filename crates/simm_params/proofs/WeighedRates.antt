@@ -3,9 +3,9 @@ use Rattle.std.proofs.Common.{◌≡◌, ◌<◌, ℕ, Bool, true, false, cond, 
 use Rattle.std.specs.Prelude.{IfSome}
 use Rattle.std.specs.List.{All, find}
 use Rattle.std.proofs.lemmas.Int.{ints}
-use Rattle.simm_kinds.specs.declared.kinds.Tenor.{Tenor}
-use Rattle.simm_kinds.specs.declared.kinds.Tenor.TheVariants as tenor
-use Rattle.simm_kinds.specs.Order.{tenor_place}
+use Rattle.simm_rules.specs.SimmKinds.declared.kinds.Tenor.{Tenor}
+use Rattle.simm_rules.specs.SimmKinds.declared.kinds.Tenor.TheVariants as tenor
+use Rattle.simm_rules.specs.SimmKinds.Order.{tenor_place}
 use Rattle.simm_rules.specs.Params.{CurrencyGroup, Params}
 use Rattle.simm_rules.specs.Lookups.{is_listed, at_place}
 use Rattle.simm_rules.specs.Risks.{Rate, Curve, Inflation, Basis}

@@ -1,7 +1,7 @@
 -- What a list of buckets keeps beside it.
 use Rattle.std.specs.Prelude.{◌≡◌, ℕ, List, slice_index_or, Option, None}
 use Rattle.std.specs.List.{AllByRecursion}
-use Rattle.simm_kinds.specs.declared.bucket.Bucket.{Bucket}
+use Rattle.simm_rules.specs.SimmKinds.declared.bucket.Bucket.{Bucket}
 use Rattle.simm_params.specs.Buckets.{ClassBucket, IsBucket, AreInOrder, bucket_slot, place_of, ids_of}
 
 -- each id is that of a bucket, the buckets stand in their order, and the index has in each bucket's slot its place in the list

@@ -1,9 +1,9 @@
 -- The buckets that a class has.
 use Rattle.std.specs.Prelude.{◌≡◌, ℕ, ◌-◌, ◌<◌, ◌==◌, Bool, true, false, nat_lt, if◌then◌else◌, List, [], ◌∷◌, map, Option, Some, None, ℤ}
 use Rattle.std.specs.List.{list_all, list_any, find, count_by}
-use Rattle.simm_kinds.specs.declared.bucket.Bucket.{Bucket}
-use Rattle.simm_kinds.specs.declared.bucket.Bucket.TheVariants.{Number, Residual}
-use Rattle.simm_kinds.specs.BucketNumber.{is_bucket_number}
+use Rattle.simm_rules.specs.SimmKinds.declared.bucket.Bucket.{Bucket}
+use Rattle.simm_rules.specs.SimmKinds.declared.bucket.Bucket.TheVariants.{Number, Residual}
+use Rattle.simm_rules.specs.SimmKinds.BucketNumber.{is_bucket_number}
 use Rattle.simm_rules.specs.Params.{BucketTerms}
 
 -- a bucket of any class, with the rate that only classes of its kind have

@@ -2,7 +2,7 @@
 use Rattle.std.specs.Prelude.{◌≡◌, ℕ, List, Option, Some, option_map, if◌then◌else◌}
 use Rattle.std.specs.List.{find}
 use Rattle.std.specs.Map.{lookup}
-use Rattle.simm_kinds.specs.Order.{same_name}
+use Rattle.simm_rules.specs.SimmKinds.Order.{same_name}
 use Rattle.simm_rules.specs.Params.{Thresholds, CurrencyGroup}
 use Rattle.simm_rules.specs.Lookups.{is_listed}
 use Rattle.simm_params.specs.declared.thresholds.Thresholds.{Thresholds as Held}

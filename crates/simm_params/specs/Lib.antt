@@ -30,3 +30,7 @@ pub mod ListedBuckets
 pub mod RateLookups
 pub mod Grouped
 pub mod Weighed
+pub use Rattle.simm_rules.specs.MhUnits as MhUnits
+pub use Rattle.simm_rules.specs.SimmKinds as SimmKinds
+pub use Rattle.simm_rules.specs as SimmRules
+pub use Rattle.toml_values.specs as TomlValues

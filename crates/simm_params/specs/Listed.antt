@@ -1,7 +1,7 @@
 -- What a list of currencies keeps beside its different currencies.
 use Rattle.std.specs.Prelude.{◌≡◌, ℕ, List, true}
 use Rattle.std.specs.List.{AllByRecursion}
-use Rattle.simm_kinds.specs.NameText.{is_currency}
+use Rattle.simm_rules.specs.SimmKinds.NameText.{is_currency}
 use Rattle.simm_rules.specs.Lookups.{is_listed}
 
 -- each is a currency, and the different ones are those of the list

@@ -1,8 +1,8 @@
 -- The buckets that a class lists, by their ids and by their places.
 use Rattle.std.specs.Prelude.{ℕ, List, Option, Some, None, if◌then◌else◌}
 use Rattle.std.specs.List.{find}
-use Rattle.simm_kinds.specs.declared.bucket.Bucket.{Bucket}
-use Rattle.simm_kinds.specs.Order.{same_bucket}
+use Rattle.simm_rules.specs.SimmKinds.declared.bucket.Bucket.{Bucket}
+use Rattle.simm_rules.specs.SimmKinds.Order.{same_bucket}
 use Rattle.simm_rules.specs.Params.{CreditBucket, PricedBucket}
 use Rattle.simm_rules.specs.Across.{place_among}
 use Rattle.simm_rules.specs.Admits.{lists}

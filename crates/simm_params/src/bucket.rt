@@ -2,8 +2,8 @@ ghost use Rattle.std.specs.Prelude.{◌≡◌, ◌<◌};
 ghost use Rattle.simm_params.specs.Buckets.{IsBucket, bucket_slot, precedes};
 
 use crate::thresholds::Thresholds;
-use mh_units::Rate4;
-use simm_kinds::Bucket;
+use simm_rules::mh_units::Rate4;
+use simm_rules::simm_kinds::Bucket;
 
 /// How many buckets a class has at most: 64 numbered ones and the residual one.
 pub const MOST_BUCKETS: usize = 65;

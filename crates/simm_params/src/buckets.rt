@@ -5,7 +5,7 @@ ghost use Rattle.simm_rules.specs.Admits.{lists};
 ghost use Rattle.simm_params.specs.ListedBuckets.{listed_place};
 
 use crate::bucket::{ClassBucket, MOST_BUCKETS, bucket_slot, precedes};
-use simm_kinds::Bucket;
+use simm_rules::simm_kinds::Bucket;
 use std::alloc::{AllocError, Global};
 use std::marker::Model;
 

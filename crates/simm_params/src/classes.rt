@@ -6,8 +6,8 @@ ghost use Rattle.simm_params.specs.ListedBuckets.{credit_bucket_view, priced_buc
 use crate::bucket::{BucketTerms, ClassBucket};
 use crate::buckets::Buckets;
 use crate::matrix::Matrix;
-use mh_units::Rate4;
-use simm_kinds::Bucket;
+use simm_rules::mh_units::Rate4;
+use simm_rules::simm_kinds::Bucket;
 
 /// The parameters of a class of credit.
 #[derive(Drop)]

@@ -5,7 +5,7 @@ ghost use Rattle.simm_params.specs.ThresholdView.{thresholds_view};
 
 use crate::currency_list::CurrencyList;
 use crate::thresholds::Thresholds;
-use simm_kinds::Currency;
+use simm_rules::simm_kinds::Currency;
 use std::alloc::{AllocError, Global};
 use std::collections::BTreeMap;
 use std::marker::Model;

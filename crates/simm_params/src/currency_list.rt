@@ -1,7 +1,7 @@
 ghost use Rattle.std.specs.Prelude.{◌≡◌, [], ◌∷◌, ◌++◌, OnOk, OnErr, IfOk};
 ghost use Rattle.simm_rules.specs.Lookups.{is_listed};
 
-use simm_kinds::Currency;
+use simm_rules::simm_kinds::Currency;
 use std::alloc::{AllocError, Global};
 use std::collections::BTreeSet;
 use std::marker::Model;

@@ -3,7 +3,7 @@ ghost use Rattle.simm_params.specs.FxLookups.{pair_rate, category_place};
 
 use crate::category::{ConcentrationCategory, VolatilityCategory};
 use crate::currency_list::CurrencyList;
-use mh_units::Rate4;
+use simm_rules::mh_units::Rate4;
 
 /// Risk weights by the volatility of a currency.
 #[derive(Clone, Copy)]

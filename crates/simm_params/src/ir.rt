@@ -3,7 +3,7 @@ use crate::currency_list::CurrencyList;
 use crate::matrix::Matrix;
 use crate::rates::Rates;
 use crate::thresholds::Thresholds;
-use mh_units::Rate4;
+use simm_rules::mh_units::Rate4;
 
 /// Risk weights of a curve by tenor, by the volatility of its currency.
 #[derive(Drop)]

@@ -30,3 +30,8 @@ pub use params::Params;
 pub use rates::Rates;
 pub use tables::{ClassTables, Tables};
 pub use thresholds::{ThresholdKind, Thresholds};
+
+// what the crates above reach through this one
+pub use simm_rules;
+pub use simm_rules::{mh_units, simm_kinds};
+pub use toml_values;

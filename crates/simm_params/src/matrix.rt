@@ -4,7 +4,7 @@ ghost use Rattle.simm_params.specs.Matrix.{entry};
 ghost use Rattle.simm_params.specs.Square.{IsSquare};
 
 use crate::rates::Rates;
-use mh_units::Rate4;
+use simm_rules::mh_units::Rate4;
 use std::marker::Model;
 
 /// A square matrix of rates, which contracts see as the list of its rows of ten-thousandths.

@@ -15,8 +15,8 @@ ghost use Rattle.simm_params.specs.TablesView.{tables_view};
 
 use crate::category::{ConcentrationCategory, VolatilityCategory};
 use crate::tables::Tables;
-use mh_units::{Corr6, Rate4};
-use simm_kinds::{Currency, RiskClass};
+use simm_rules::mh_units::{Corr6, Rate4};
+use simm_rules::simm_kinds::{Currency, RiskClass};
 use std::alloc::{AllocError, Global};
 use std::marker::Model;
 use std::sync::Arc;

@@ -3,7 +3,7 @@ ghost use Rattle.std.specs.Int.{int_min};
 ghost use Rattle.std.specs.List.{fold};
 ghost use Rattle.simm_rules.specs.Lookups.{at_place};
 
-use mh_units::Rate4;
+use simm_rules::mh_units::Rate4;
 use std::alloc::{AllocError, Global};
 use std::marker::Model;
 

@@ -2,8 +2,8 @@ use crate::classes::{BaseParams, CreditParams, PricedParams};
 use crate::fx::FxParams;
 use crate::ir::IrParams;
 use crate::matrix::Matrix;
-use mh_units::Corr6;
-use simm_kinds::Currency;
+use simm_rules::mh_units::Corr6;
+use simm_rules::simm_kinds::Currency;
 
 /// The parameters of the risk classes that have buckets.
 #[derive(Drop)]

@@ -2,7 +2,7 @@
 -- (ISDA SIMM methodology, additional initial margin.)
 use Rattle.std.specs.Prelude.{ℕ, ◌^◌, List, [], ◌∷◌, Option, Some, None, ℤ, pos, ◌-ℤ◌, ◌*ℤ◌, unsigned_abs}
 use Rattle.std.specs.List.{filter, find, flat_map}
-use Rattle.mh_units.specs.Rounding.{up}
+use Rattle.simm_kinds.specs.MhUnits.Rounding.{up}
 use Rattle.simm_kinds.specs.declared.kinds.ProductClass.{ProductClass}
 use Rattle.simm_kinds.specs.declared.row.CrifRow.{CrifRow}
 use Rattle.simm_kinds.specs.declared.row.CrifRow.TheVariants as row

@@ -1,7 +1,7 @@
 -- Base correlation: the index families of qualifying credit, without concentration.
 -- (ISDA SIMM methodology, base correlation margin.)
 use Rattle.std.specs.Prelude.{ℕ, ◌^◌, List, map, Option, Some, None, ℤ, pos, ◌*ℤ◌}
-use Rattle.mh_units.specs.Rounding.{away}
+use Rattle.simm_kinds.specs.MhUnits.Rounding.{away}
 use Rattle.simm_kinds.specs.Order.{same_name}
 use Rattle.simm_rules.specs.declared.values.BucketMargin.{BucketMargin}
 use Rattle.simm_rules.specs.Params.{Params}

@@ -1,7 +1,7 @@
 -- Weighted values, and what the factors of a bucket come to together.
 -- (ISDA SIMM methodology, delta and vega margin: weighted sensitivities, and aggregation within a bucket.)
 use Rattle.std.specs.Prelude.{◌^◌, List, Bool, ℤ, pos, ◌*ℤ◌, unsigned_abs, if◌then◌else◌}
-use Rattle.mh_units.specs.Rounding.{up, away, trunc, root, clamp}
+use Rattle.simm_kinds.specs.MhUnits.Rounding.{up, away, trunc, root, clamp}
 use Rattle.simm_rules.specs.declared.values.BucketMargin.{BucketMargin}
 use Rattle.simm_rules.specs.Sums.{total_by, total_by_pairs}
 use Rattle.simm_rules.specs.Concentration.{one, ratio}

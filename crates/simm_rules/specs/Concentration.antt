@@ -2,7 +2,7 @@
 -- (ISDA SIMM methodology, concentration: the concentration risk factor of a group of sensitivities.)
 use Rattle.std.specs.Prelude.{◌^◌, ℤ, pos, ◌*ℤ◌, ◌≤ℤ◌, unsigned_abs}
 use Rattle.std.specs.Int.{int_min, int_max}
-use Rattle.mh_units.specs.Rounding.{up, down, root}
+use Rattle.simm_kinds.specs.MhUnits.Rounding.{up, down, root}
 
 -- 1, in millionths
 abbrev pub one : ℤ

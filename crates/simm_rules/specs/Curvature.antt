@@ -2,7 +2,7 @@
 -- (ISDA SIMM methodology, curvature margin: the scaling function, the curvature risk of a factor, theta and lambda.)
 use Rattle.std.specs.Prelude.{◌*◌, ◌^◌, List, ◌==◌, ℤ, pos, ◌+ℤ◌, ◌-ℤ◌, ◌*ℤ◌, unsigned_abs, if◌then◌else◌}
 use Rattle.std.specs.Int.{int_min, int_max}
-use Rattle.mh_units.specs.Rounding.{up, away}
+use Rattle.simm_kinds.specs.MhUnits.Rounding.{up, away}
 use Rattle.simm_kinds.specs.declared.kinds.Tenor.{Tenor}
 use Rattle.simm_kinds.specs.declared.kinds.Tenor.TheVariants as tenor
 use Rattle.simm_kinds.specs.declared.bucket.Bucket.{Bucket}

@@ -3,7 +3,7 @@
 -- vega with the historical volatility ratio; curvature.)
 use Rattle.std.specs.Prelude.{ℕ, ◌^◌, List, [], ◌∷◌, map, Option, Some, None, Bool, ◌&&◌, ◌||◌, not, ℤ, pos, ◌+ℤ◌, ◌*ℤ◌, if◌then◌else◌}
 use Rattle.std.specs.List.{filter}
-use Rattle.mh_units.specs.Rounding.{away}
+use Rattle.simm_kinds.specs.MhUnits.Rounding.{away}
 use Rattle.simm_kinds.specs.declared.kinds.Tenor.{Tenor}
 use Rattle.simm_kinds.specs.declared.kinds.BucketId.{BucketId}
 use Rattle.simm_kinds.specs.declared.kinds.BucketId.TheVariants as bucket_id

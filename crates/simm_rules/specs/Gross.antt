@@ -1,7 +1,7 @@
 -- The weighted size of the sensitivities of a risk class: that of delta, with base correlation, and that of volatility.
 -- Amounts do not net in it.
 use Rattle.std.specs.Prelude.{List, ℤ, pos, ◌+ℤ◌, ◌*ℤ◌, unsigned_abs}
-use Rattle.mh_units.specs.Rounding.{up}
+use Rattle.simm_kinds.specs.MhUnits.Rounding.{up}
 use Rattle.simm_kinds.specs.declared.kinds.RiskClass.{RiskClass}
 use Rattle.simm_kinds.specs.declared.kinds.RiskClass.TheVariants as class
 use Rattle.simm_rules.specs.Params.{Params}

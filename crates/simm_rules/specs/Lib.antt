@@ -19,3 +19,5 @@ pub mod Gross
 pub mod Range
 pub mod RangeNumber
 pub mod Admits
+pub use Rattle.simm_kinds.specs.MhUnits as MhUnits
+pub use Rattle.simm_kinds.specs as SimmKinds

@@ -1,7 +1,7 @@
 -- The parts of a margin by product class and risk class.
 -- (ISDA SIMM methodology, structure: product classes, and the risk classes in each.)
 use Rattle.std.specs.Prelude.{ℤ}
-use Rattle.mh_units.specs.declared.quantities.Cents.{Cents}
+use Rattle.simm_kinds.specs.MhUnits.declared.quantities.Cents.{Cents}
 use Rattle.simm_kinds.specs.declared.kinds.ProductClass.{ProductClass}
 use Rattle.simm_kinds.specs.declared.kinds.ProductClass.TheVariants as product
 use Rattle.simm_kinds.specs.declared.kinds.RiskClass.{RiskClass}

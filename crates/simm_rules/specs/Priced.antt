@@ -3,7 +3,7 @@
 -- volatility ratio; curvature.)
 use Rattle.std.specs.Prelude.{ℕ, ◌^◌, List, map, Option, Some, None, Bool, true, false, ◌&&◌, ℤ, pos, ◌+ℤ◌, ◌*ℤ◌, if◌then◌else◌}
 use Rattle.std.specs.List.{filter}
-use Rattle.mh_units.specs.Rounding.{away}
+use Rattle.simm_kinds.specs.MhUnits.Rounding.{away}
 use Rattle.simm_kinds.specs.declared.kinds.Tenor.{Tenor}
 use Rattle.simm_kinds.specs.declared.bucket.Bucket.{Bucket}
 use Rattle.simm_kinds.specs.Order.{name_cmp, same_name, same_bucket}

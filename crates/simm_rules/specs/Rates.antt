@@ -2,7 +2,7 @@
 -- (ISDA SIMM methodology, interest rate risk: weights, correlations and concentration of curves, inflation and basis; vega; curvature.)
 use Rattle.std.specs.Prelude.{ℕ, ◌^◌, List, map, Option, Some, None, Bool, true, false, ◌&&◌, not, ◌==◌, ℤ, pos, ◌+ℤ◌, ◌*ℤ◌, [], ◌∷◌, if◌then◌else◌}
 use Rattle.std.specs.List.{filter, find}
-use Rattle.mh_units.specs.Rounding.{up, trunc}
+use Rattle.simm_kinds.specs.MhUnits.Rounding.{up, trunc}
 use Rattle.simm_kinds.specs.declared.kinds.Tenor.{Tenor}
 use Rattle.simm_kinds.specs.declared.kinds.SubCurve.{SubCurve}
 use Rattle.simm_kinds.specs.Order.{name_cmp, same_name, tenor_place, sub_place}

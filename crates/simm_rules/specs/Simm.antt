@@ -1,7 +1,7 @@
 -- The margin of a book, with all of its parts.
 -- (ISDA SIMM methodology, structure: the margins of a product class by psi; additional margins.)
 use Rattle.std.specs.Prelude.{List, [], ◌∷◌, ℤ, pos, ◌+ℤ◌, ◌*ℤ◌, if◌then◌else◌}
-use Rattle.mh_units.specs.Rounding.{up, root}
+use Rattle.simm_kinds.specs.MhUnits.Rounding.{up, root}
 use Rattle.simm_kinds.specs.declared.kinds.ProductClass.{ProductClass}
 use Rattle.simm_kinds.specs.declared.kinds.ProductClass.TheVariants as product
 use Rattle.simm_kinds.specs.declared.kinds.RiskClass.{RiskClass}

@@ -6,3 +6,7 @@
 mod values;
 
 pub use values::{Breakdown, BucketMargin, ClassMargins, ProductMargin, RangeFault, RangeKind};
+
+// what the crates above reach through this one
+pub use simm_kinds;
+pub use simm_kinds::mh_units;

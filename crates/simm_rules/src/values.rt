@@ -2,7 +2,7 @@ ghost use Rattle.std.specs.Prelude.{◌≡◌};
 ghost use Rattle.simm_rules.specs.Parts.{product_part, class_part};
 ghost use Rattle.simm_rules.specs.RangeNumber.{range_number};
 
-use mh_units::{Cents, Corr6};
+use simm_kinds::mh_units::{Cents, Corr6};
 use simm_kinds::{ProductClass, RiskClass};
 
 /// What one bucket gives to the margin of its class. Amounts are in cents, `q` in cents squared times 10^6.

@@ -2,9 +2,9 @@
 ghost use Rattle.std.specs.Prelude.{◌≡◌, ◌<◌};
 
 use crate::makers::params;
-use bucket_cache::LiveMargin;
-use pair_sum::Steps;
-use simm_kinds::Batch;
+use crif_reader::simm_kinds::Batch;
+use set_core::bucket_cache::LiveMargin;
+use set_core::pair_sum::Steps;
 use std::alloc::Global;
 use std::marker::Brand;
 use std::process::Abort;

@@ -2,7 +2,7 @@
 ghost use Rattle.std.specs.Prelude.{◌<◌, IfSome, vec_len};
 
 use crate::random_places::PLACES;
-use simm_kinds::Measure;
+use crif_reader::simm_kinds::Measure;
 use std::process::Abort;
 
 /// A row of a factor at a place, and its amount in dollars.

@@ -6,9 +6,9 @@ use crate::asking::{live, submit, total};
 use crate::expected_book::{Book, Mark, Row, Trade};
 use crate::makers::{name, rows};
 use crate::random_places::{bucket, place_at};
-use bucket_cache::LiveMargin;
-use simm_kinds::{Batch, Name};
-use simm_rules::BucketMargin;
+use crif_reader::simm_kinds::{Batch, Name};
+use params_file::simm_rules::BucketMargin;
+use set_core::bucket_cache::LiveMargin;
 use std::process::Abort;
 
 /// Numbers that look random, the same in each run.

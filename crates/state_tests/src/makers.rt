@@ -1,9 +1,9 @@
 //! What the tests are made of: names, rows, batches, parameters, terms.
 use crif_reader::read_batch;
-use csa_terms::{SetTerms, read_terms};
+use crif_reader::simm_kinds::{Batch, Name};
 use params_file::read_params;
-use simm_kinds::{Batch, Name};
-use simm_params::Params;
+use params_file::simm_params::Params;
+use set_core::csa_terms::{SetTerms, read_terms};
 use std::process::Abort;
 
 /// The correlation of two regular currencies is 0.5, of a regular one and one of high volatility 0.25, of two of high

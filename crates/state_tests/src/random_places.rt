@@ -1,5 +1,5 @@
 //! The places at which random rows lie.
-use simm_kinds::{BucketId, BucketNumber, Currency, Measure, ProductClass, RiskClass};
+use crif_reader::simm_kinds::{BucketId, BucketNumber, Currency, Measure, ProductClass, RiskClass};
 use std::process::Abort;
 
 /// Factors whose rows lie in one bucket on one side, and the measures that such a row touches.

@@ -1,7 +1,7 @@
 use crate::makers::{batch, name, params, set_terms};
-use csa_terms::Moment;
+use crif_reader::simm_kinds::Listed;
+use set_core::csa_terms::Moment;
 use set_core::{Event, Reply, SetState, reply_text};
-use simm_kinds::Listed;
 use std::process::Abort;
 
 fn set(rt: &(impl Abort + AllocGlobal)) -> SetState {

@@ -6,7 +6,7 @@ use Rattle.std.specs.Result.{result_map_both}
 use Rattle.toml.specs.Data.{Data, Items, no_items, item, Members, no_members, member, as_str, as_integer, as_bool, as_array, as_table}
 use Rattle.toml.specs.View.{view}
 use Rattle.toml.specs.declared.value.Value.{Value}
-use Rattle.mh_units.specs.Numeral.{cents_of, fixed_of}
+use Rattle.simm_kinds.specs.MhUnits.Numeral.{cents_of, fixed_of}
 use Rattle.simm_kinds.specs.Currency.{currency_text}
 use Rattle.toml_values.specs.declared.range.Range.{Range}
 use Rattle.toml_values.specs.declared.fault.ValueFault.{ValueFault}

@@ -1,6 +1,6 @@
 ghost use Rattle.std.specs.Prelude.{◌≡◌};
 
-use mh_units::Text;
+use simm_kinds::mh_units::Text;
 use std::alloc::{AllocError, AllocFailed};
 
 /// Why a value of a file was not taken, with its path: the keys joined by points, places counted from 1.

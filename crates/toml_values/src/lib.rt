@@ -16,3 +16,7 @@ pub use number::{money, rate, six, usd};
 pub use path::{Part, path_text};
 pub use range::Range;
 pub use shape::{array, array_of_length, entry_count, member, place, place_count, table};
+
+// what the crates above reach through this one
+pub use simm_kinds;
+pub use simm_kinds::mh_units;

@@ -8,7 +8,7 @@ use crate::fault::ValueFault;
 use crate::kind::text;
 use crate::path::{Part, path_text};
 use crate::range::{DOLLARS, Range};
-use mh_units::{Cents, Corr6, Rate4, read_cents, read_fixed};
+use simm_kinds::mh_units::{Cents, Corr6, Rate4, read_cents, read_fixed};
 use std::alloc::Global;
 use toml::Value;
 

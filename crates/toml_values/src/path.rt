@@ -1,7 +1,7 @@
 ghost use Rattle.std.specs.Prelude.{◌≡◌, ◌++◌, map, IfOk, OnOk, string_bytes};
 ghost use Rattle.toml_values.specs.Paths.{behind_points, word_of, path_of};
 
-use mh_units::Text;
+use simm_kinds::mh_units::Text;
 use std::alloc::{AllocError, Global};
 
 /// A part of a path. A path is all parts from the root of the file to a value.

@@ -4,22 +4,22 @@ use Rattle.std.specs.Prelude.{sum_by}
 use Rattle.std.specs.List.{list_all}
 use Rattle.std.proofs.lemmas.Int.{ints}
 use Rattle.std.proofs.lemmas.List.Sums.{sum_by-cons, length-filter, count_by-le-length}
-use Rattle.simm_kinds.specs.declared.kinds.ProductClass.{ProductClass}
-use Rattle.simm_kinds.specs.declared.row.CrifRow.{CrifRow}
-use Rattle.simm_kinds.specs.Batch.{is_in_range}
-use Rattle.simm_kinds.specs.Order.{same_product}
-use Rattle.simm_rules.specs.Net.{Sensitivity, sensitivities, in_product}
-use Rattle.simm_rules.specs.Risks.{Risk, risk, Amount, select}
-use Rattle.simm_rules.specs.Gross.{size_by}
-use Rattle.factor_book.specs.Factors.{factors_of}
-use Rattle.factor_book.specs.Filing.{AreSmall}
-use Rattle.factor_book.specs.Holdings.{IsSmall}
-use Rattle.factor_book.proofs.Rows.{small_rows, length-sensitivities}
-use Rattle.name_delta.specs.Values.{nets_in}
-use Rattle.name_delta.proofs.Lists.{each_kept}
-use Rattle.name_delta.proofs.Selected.{select_none, select_some}
-use Rattle.name_delta.proofs.Shrinking.{SizesAreNetted, nets_shrink}
-use Rattle.name_delta.proofs.Sizes.{sum_by-scaled, size_is}
+use Rattle.vol_factors.specs.SimmKinds.declared.kinds.ProductClass.{ProductClass}
+use Rattle.vol_factors.specs.SimmKinds.declared.row.CrifRow.{CrifRow}
+use Rattle.vol_factors.specs.SimmKinds.Batch.{is_in_range}
+use Rattle.vol_factors.specs.SimmKinds.Order.{same_product}
+use Rattle.vol_factors.specs.SimmRules.Net.{Sensitivity, sensitivities, in_product}
+use Rattle.vol_factors.specs.SimmRules.Risks.{Risk, risk, Amount, select}
+use Rattle.vol_factors.specs.SimmRules.Gross.{size_by}
+use Rattle.vol_factors.specs.FactorBook.Factors.{factors_of}
+use Rattle.vol_factors.specs.FactorBook.Filing.{AreSmall}
+use Rattle.vol_factors.specs.FactorBook.Holdings.{IsSmall}
+use Rattle.vol_factors.proofs.FactorBook.Rows.{small_rows, length-sensitivities}
+use Rattle.vol_factors.specs.NameDelta.Values.{nets_in}
+use Rattle.vol_factors.proofs.NameDelta.Lists.{each_kept}
+use Rattle.vol_factors.proofs.NameDelta.Selected.{select_none, select_some}
+use Rattle.vol_factors.proofs.NameDelta.Shrinking.{SizesAreNetted, nets_shrink}
+use Rattle.vol_factors.proofs.NameDelta.Sizes.{sum_by-scaled, size_is}
 
 module _ {A : Type 0} (sort : Risk → Option A) where
   abbrev size : Amount A → ℕ

@@ -3,27 +3,27 @@ use Rattle.std.proofs.Common.{◌≡◌, ◌^◌, ℕ, ◌+◌, ◌*◌, ◌<◌
 use Rattle.std.specs.Prelude.{sum_by}
 use Rattle.std.specs.List.Sorted.{IsStrictlySortedBy}
 use Rattle.std.proofs.lemmas.Int.{ints}
-use Rattle.simm_rules.specs.declared.values.BucketMargin.{BucketMargin}
-use Rattle.simm_rules.specs.Params.{CreditBucket}
-use Rattle.simm_rules.specs.Lookups.{six}
-use Rattle.simm_rules.specs.Risks.{CreditPoint, Amount}
-use Rattle.simm_rules.specs.Concentration.{one}
-use Rattle.simm_rules.specs.Bucket.{weighted_value}
-use Rattle.simm_rules.specs.Credit.{issuer_cr, weighted_point, credit_vega_value}
-use Rattle.simm_params.specs.Weighed.{IsWeighedCredit}
-use Rattle.weighted_bucket.specs.declared.group.Grouped.{Grouped}
-use Rattle.weighted_bucket.specs.declared.scaling.Scaling.TheVariants as scaling
-use Rattle.weighted_bucket.specs.declared.weighed.Weighed.{Weighed}
-use Rattle.weighted_bucket.specs.Bucket.{bucket_value}
-use Rattle.weighted_bucket.specs.Group.{at, group_factor}
-use Rattle.name_delta.specs.Alone.{AreTerms}
-use Rattle.name_delta.specs.Points.{AreGrouped, weighed_in, issuer_rho}
-use Rattle.name_delta.specs.Values.{IsInRange, weighed_as}
-use Rattle.name_delta.proofs.Alike.{maps_alike}
-use Rattle.name_delta.proofs.CreditPoints.{point_cmp}
-use Rattle.name_delta.proofs.CreditValues as delta
-use Rattle.name_delta.proofs.Sizes.{sum_by-map, sum_by-scaled, size_all, size_is}
-use Rattle.name_delta.proofs.Weighings.{weighed_with}
+use Rattle.vol_factors.specs.SimmRules.declared.values.BucketMargin.{BucketMargin}
+use Rattle.vol_factors.specs.SimmRules.Params.{CreditBucket}
+use Rattle.vol_factors.specs.SimmRules.Lookups.{six}
+use Rattle.vol_factors.specs.SimmRules.Risks.{CreditPoint, Amount}
+use Rattle.vol_factors.specs.SimmRules.Concentration.{one}
+use Rattle.vol_factors.specs.SimmRules.Bucket.{weighted_value}
+use Rattle.vol_factors.specs.SimmRules.Credit.{issuer_cr, weighted_point, credit_vega_value}
+use Rattle.vol_factors.specs.SimmParams.Weighed.{IsWeighedCredit}
+use Rattle.vol_factors.specs.WeightedBucket.declared.group.Grouped.{Grouped}
+use Rattle.vol_factors.specs.WeightedBucket.declared.scaling.Scaling.TheVariants as scaling
+use Rattle.vol_factors.specs.WeightedBucket.declared.weighed.Weighed.{Weighed}
+use Rattle.vol_factors.specs.WeightedBucket.Bucket.{bucket_value}
+use Rattle.vol_factors.specs.WeightedBucket.Group.{at, group_factor}
+use Rattle.vol_factors.specs.NameDelta.Alone.{AreTerms}
+use Rattle.vol_factors.specs.NameDelta.Points.{AreGrouped, weighed_in, issuer_rho}
+use Rattle.vol_factors.specs.NameDelta.Values.{IsInRange, weighed_as}
+use Rattle.vol_factors.proofs.NameDelta.Alike.{maps_alike}
+use Rattle.vol_factors.proofs.NameDelta.CreditPoints.{point_cmp}
+use Rattle.vol_factors.proofs.NameDelta.CreditValues as delta
+use Rattle.vol_factors.proofs.NameDelta.Sizes.{sum_by-map, sum_by-scaled, size_all, size_is}
+use Rattle.vol_factors.proofs.NameDelta.Weighings.{weighed_with}
 use Rattle.vol_factors.specs.Credit.{issuer_net}
 use Rattle.vol_factors.specs.Ranges.{alone}
 use Rattle.vol_factors.proofs.InRange.{amounts_small}

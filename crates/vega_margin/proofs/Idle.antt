@@ -1,26 +1,26 @@
 -- What the parts of a class come to: those of currencies, and parts without sensitivities.
 use Rattle.std.proofs.Common.{◌≡◌, ℕ, List, [], ◌∷◌, map, Bool, false, refl, ap, ◌∙◌, ℤ, pos}
 use Rattle.std.specs.List.{filter}
-use Rattle.mh_units.specs.Rounding.{clamp}
-use Rattle.mh_units.proofs.Roundings.{root_square}
-use Rattle.simm_kinds.specs.declared.kinds.BucketId.{BucketId}
-use Rattle.simm_kinds.specs.declared.kinds.BucketId.TheVariants as id
-use Rattle.simm_kinds.specs.declared.bucket.Bucket.{Bucket}
-use Rattle.simm_kinds.specs.Order.{same_name, same_pair}
-use Rattle.simm_rules.specs.declared.values.BucketMargin.{BucketMargin}
-use Rattle.simm_rules.specs.Params.{Params, CreditBucket, PricedBucket, CreditParams, PricedParams}
-use Rattle.simm_rules.specs.Net.{Sensitivity}
-use Rattle.simm_rules.specs.Risks.{CreditClass, PricedClass, select}
-use Rattle.simm_rules.specs.Concentration.{one}
-use Rattle.simm_rules.specs.Bucket.{Weighted, concentrated, bucket_value}
-use Rattle.simm_rules.specs.Across.{Part, outer, margin_over}
-use Rattle.simm_rules.specs.Rates.{volatilities_in, volatility_currencies, currency_vega_value, across_currencies, rate_vega}
-use Rattle.simm_rules.specs.Credit.{as_credit_volatility, same_point, credit_rho, listed_credit, credit_vega_value, credit_vega_parts, credit_vega}
-use Rattle.simm_rules.specs.ForeignExchange.{as_pair_volatility, pair_rho, fx_vega_value, fx_vega}
-use Rattle.simm_rules.specs.Priced.{as_price_volatility, name_rho, listed_priced, price_vega_value, price_vega_parts, price_vega}
-use Rattle.ir_delta.specs.Parts.{parts_of, margin_over as over_currencies}
-use Rattle.name_delta.proofs.Lists.{each_always, each_map}
-use Rattle.name_delta.proofs.Empty.{no_value, kept_margin}
+use Rattle.vol_factors.specs.MhUnits.Rounding.{clamp}
+use Rattle.vol_factors.proofs.MhUnits.Roundings.{root_square}
+use Rattle.vol_factors.specs.SimmKinds.declared.kinds.BucketId.{BucketId}
+use Rattle.vol_factors.specs.SimmKinds.declared.kinds.BucketId.TheVariants as id
+use Rattle.vol_factors.specs.SimmKinds.declared.bucket.Bucket.{Bucket}
+use Rattle.vol_factors.specs.SimmKinds.Order.{same_name, same_pair}
+use Rattle.vol_factors.specs.SimmRules.declared.values.BucketMargin.{BucketMargin}
+use Rattle.vol_factors.specs.SimmRules.Params.{Params, CreditBucket, PricedBucket, CreditParams, PricedParams}
+use Rattle.vol_factors.specs.SimmRules.Net.{Sensitivity}
+use Rattle.vol_factors.specs.SimmRules.Risks.{CreditClass, PricedClass, select}
+use Rattle.vol_factors.specs.SimmRules.Concentration.{one}
+use Rattle.vol_factors.specs.SimmRules.Bucket.{Weighted, concentrated, bucket_value}
+use Rattle.vol_factors.specs.SimmRules.Across.{Part, outer, margin_over}
+use Rattle.vol_factors.specs.SimmRules.Rates.{volatilities_in, volatility_currencies, currency_vega_value, across_currencies, rate_vega}
+use Rattle.vol_factors.specs.SimmRules.Credit.{as_credit_volatility, same_point, credit_rho, listed_credit, credit_vega_value, credit_vega_parts, credit_vega}
+use Rattle.vol_factors.specs.SimmRules.ForeignExchange.{as_pair_volatility, pair_rho, fx_vega_value, fx_vega}
+use Rattle.vol_factors.specs.SimmRules.Priced.{as_price_volatility, name_rho, listed_priced, price_vega_value, price_vega_parts, price_vega}
+use Rattle.vol_factors.specs.IrDelta.Parts.{parts_of, margin_over as over_currencies}
+use Rattle.vol_factors.proofs.NameDelta.Lists.{each_always, each_map}
+use Rattle.vol_factors.proofs.NameDelta.Empty.{no_value, kept_margin}
 use Rattle.vega_margin.specs.Combine.{currency_buckets}
 
 -- ---- currencies

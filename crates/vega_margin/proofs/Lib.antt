@@ -11,3 +11,4 @@ pub mod RateClass
 pub mod RateBuckets
 pub mod Bounded
 pub mod Idle
+pub use Rattle.vol_factors.proofs as VolFactors

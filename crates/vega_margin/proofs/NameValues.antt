@@ -1,20 +1,20 @@
 -- The vega value of a bucket of names.
 use Rattle.std.proofs.Common.{◌≡◌, List, [], ℕ, map, length, ap, ◌∙◌, ℤ}
-use Rattle.simm_rules.specs.declared.values.BucketMargin.{BucketMargin}
-use Rattle.simm_rules.specs.Params.{PricedBucket}
-use Rattle.simm_rules.specs.Lookups.{six}
-use Rattle.simm_rules.specs.Risks.{Amount}
-use Rattle.simm_rules.specs.Concentration.{one}
-use Rattle.simm_rules.specs.Bucket.{concentrated}
-use Rattle.simm_rules.specs.Bucket.{bucket_value as value_of_factors}
-use Rattle.simm_rules.specs.Priced.{NameVolatility, names_of, price_vega_value}
-use Rattle.simm_kinds.specs.Order.{same_name}
-use Rattle.simm_params.specs.Ranges.{hvrs, IsWithin}
-use Rattle.simm_params.specs.Weighed.{IsWeighedPriced}
-use Rattle.weighted_bucket.specs.declared.group.Grouped.{Grouped}
-use Rattle.weighted_bucket.specs.declared.scaling.Scaling.TheVariants as scaling
-use Rattle.weighted_bucket.specs.Bucket.{bucket_value}
-use Rattle.name_delta.specs.Points.{weighed_in}
+use Rattle.vol_factors.specs.SimmRules.declared.values.BucketMargin.{BucketMargin}
+use Rattle.vol_factors.specs.SimmRules.Params.{PricedBucket}
+use Rattle.vol_factors.specs.SimmRules.Lookups.{six}
+use Rattle.vol_factors.specs.SimmRules.Risks.{Amount}
+use Rattle.vol_factors.specs.SimmRules.Concentration.{one}
+use Rattle.vol_factors.specs.SimmRules.Bucket.{concentrated}
+use Rattle.vol_factors.specs.SimmRules.Bucket.{bucket_value as value_of_factors}
+use Rattle.vol_factors.specs.SimmRules.Priced.{NameVolatility, names_of, price_vega_value}
+use Rattle.vol_factors.specs.SimmKinds.Order.{same_name}
+use Rattle.vol_factors.specs.SimmParams.Ranges.{hvrs, IsWithin}
+use Rattle.vol_factors.specs.SimmParams.Weighed.{IsWeighedPriced}
+use Rattle.vol_factors.specs.WeightedBucket.declared.group.Grouped.{Grouped}
+use Rattle.vol_factors.specs.WeightedBucket.declared.scaling.Scaling.TheVariants as scaling
+use Rattle.vol_factors.specs.WeightedBucket.Bucket.{bucket_value}
+use Rattle.vol_factors.specs.NameDelta.Points.{weighed_in}
 use Rattle.vol_factors.specs.Ranges.{IsPricedInRange}
 use Rattle.vol_factors.proofs.NamesTogether.{names}
 use Rattle.vega_margin.specs.Groups.{CanWeigh, IsValueOf}

@@ -7,13 +7,13 @@ use Rattle.std.proofs.lemmas.Bool.{cases_lt, eq-eqb, ne_eqb}
 use Rattle.std.proofs.lemmas.Int.{ints, unsigned_abs-mul, fits_signed_from_abs}
 use Rattle.std.proofs.lemmas.Nat.{div-add-mod'}
 use Rattle.std.proofs.lemmas.List.{get_or_append_left, get_or_default, length-append}
-use Rattle.mh_units.specs.Rounding.{away}
-use Rattle.mh_units.proofs.Integers.{unsigned_abs-neg, product_size}
-use Rattle.simm_rules.specs.Sums.{total_by}
-use Rattle.simm_params.specs.Ranges.{hvrs, sigmas, IsWithin}
-use Rattle.weighted_bucket.specs.declared.group.Grouped.{Grouped}
-use Rattle.weighted_bucket.specs.Group.{at}
-use Rattle.simm_rules.specs.Risks.{Amount}
+use Rattle.vol_factors.specs.MhUnits.Rounding.{away}
+use Rattle.vol_factors.proofs.MhUnits.Integers.{unsigned_abs-neg, product_size}
+use Rattle.vol_factors.specs.SimmRules.Sums.{total_by}
+use Rattle.vol_factors.specs.SimmParams.Ranges.{hvrs, sigmas, IsWithin}
+use Rattle.vol_factors.specs.WeightedBucket.declared.group.Grouped.{Grouped}
+use Rattle.vol_factors.specs.WeightedBucket.Group.{at}
+use Rattle.vol_factors.specs.SimmRules.Risks.{Amount}
 use Rattle.vega_margin.specs.Singles.{vega_risk, own_group, AreGrouped}
 
 -- ---- as they are made

@@ -5,28 +5,28 @@ use Rattle.std.proofs.lemmas.Int.{ints}
 use Rattle.std.proofs.lemmas.List.{get_or-map, length-map}
 use Rattle.std.proofs.lemmas.List.Sorted.{IsNonDecreasingBy-from_default}
 use Rattle.std.proofs.lemmas.Simd.{map-map}
-use Rattle.simm_rules.specs.Sums.{total_by}
-use Rattle.simm_rules.specs.Risks.{Amount}
-use Rattle.simm_rules.specs.Concentration.{one, cr}
-use Rattle.simm_rules.specs.Bucket.{Weighted, weighted_value, concentrated}
-use Rattle.simm_rules.specs.Bucket.{bucket_value as value_of_factors}
-use Rattle.simm_rules.specs.Gross.{size_by}
-use Rattle.simm_rules.specs.declared.values.BucketMargin.{BucketMargin}
-use Rattle.simm_params.specs.Facts.{IsWeighed}
-use Rattle.simm_params.specs.Ranges.{hvrs, IsWithin}
-use Rattle.ir_delta.proofs.Sums.{sum_by-shifted, sum_by-ones}
-use Rattle.weighted_bucket.specs.declared.group.Grouped.{Grouped}
-use Rattle.weighted_bucket.specs.declared.scaling.Scaling.TheVariants as scaling
-use Rattle.weighted_bucket.specs.declared.weighed.Weighed.{Weighed}
-use Rattle.weighted_bucket.specs.Bucket.{bucket_value}
-use Rattle.weighted_bucket.specs.Group.{at, group_net, group_factor, CanConcentrate}
-use Rattle.name_delta.specs.Points.{weighed_in}
-use Rattle.name_delta.specs.Values.{IsInRange, weighed_as}
-use Rattle.name_delta.proofs.Alike.{maps_alike, all_at}
-use Rattle.name_delta.proofs.Lists.{each_always}
-use Rattle.name_delta.proofs.Sizes.{sum_by-map, sum_by-below, sum_by-scaled, sum_by-filter, size_one, size_all, size_is, size_small}
-use Rattle.name_delta.proofs.Valued.{value_is}
-use Rattle.name_delta.proofs.Weighings.{weighed_with}
+use Rattle.vol_factors.specs.SimmRules.Sums.{total_by}
+use Rattle.vol_factors.specs.SimmRules.Risks.{Amount}
+use Rattle.vol_factors.specs.SimmRules.Concentration.{one, cr}
+use Rattle.vol_factors.specs.SimmRules.Bucket.{Weighted, weighted_value, concentrated}
+use Rattle.vol_factors.specs.SimmRules.Bucket.{bucket_value as value_of_factors}
+use Rattle.vol_factors.specs.SimmRules.Gross.{size_by}
+use Rattle.vol_factors.specs.SimmRules.declared.values.BucketMargin.{BucketMargin}
+use Rattle.vol_factors.specs.SimmParams.Facts.{IsWeighed}
+use Rattle.vol_factors.specs.SimmParams.Ranges.{hvrs, IsWithin}
+use Rattle.vol_factors.proofs.IrDelta.Sums.{sum_by-shifted, sum_by-ones}
+use Rattle.vol_factors.specs.WeightedBucket.declared.group.Grouped.{Grouped}
+use Rattle.vol_factors.specs.WeightedBucket.declared.scaling.Scaling.TheVariants as scaling
+use Rattle.vol_factors.specs.WeightedBucket.declared.weighed.Weighed.{Weighed}
+use Rattle.vol_factors.specs.WeightedBucket.Bucket.{bucket_value}
+use Rattle.vol_factors.specs.WeightedBucket.Group.{at, group_net, group_factor, CanConcentrate}
+use Rattle.vol_factors.specs.NameDelta.Points.{weighed_in}
+use Rattle.vol_factors.specs.NameDelta.Values.{IsInRange, weighed_as}
+use Rattle.vol_factors.proofs.NameDelta.Alike.{maps_alike, all_at}
+use Rattle.vol_factors.proofs.NameDelta.Lists.{each_always}
+use Rattle.vol_factors.proofs.NameDelta.Sizes.{sum_by-map, sum_by-below, sum_by-scaled, sum_by-filter, size_one, size_all, size_is, size_small}
+use Rattle.vol_factors.proofs.NameDelta.Valued.{value_is}
+use Rattle.vol_factors.proofs.NameDelta.Weighings.{weighed_with}
 use Rattle.vol_factors.specs.declared.tenor_scale.TenorScale.TheVariants as scale
 use Rattle.vol_factors.proofs.OverTenors.{Things, keys, keys_ascend, own, tenors, net-even}
 use Rattle.vol_factors.proofs.TotalSizes.{keys_fewer, over_things, own_weighed}

@@ -1,20 +1,20 @@
 -- The vega value of the pairs of a product class.
 use Rattle.std.proofs.Common.{◌≡◌, List, [], map, length, ap, ◌∙◌, ℤ, pos}
-use Rattle.simm_kinds.specs.Pair.{Pair}
-use Rattle.simm_kinds.specs.Order.{same_pair}
-use Rattle.simm_rules.specs.declared.values.BucketMargin.{BucketMargin}
-use Rattle.simm_rules.specs.Params.{Params}
-use Rattle.simm_rules.specs.Lookups.{six}
-use Rattle.simm_rules.specs.Risks.{Amount}
-use Rattle.simm_rules.specs.Concentration.{one}
-use Rattle.simm_rules.specs.Bucket.{concentrated}
-use Rattle.simm_rules.specs.Bucket.{bucket_value as value_of_factors}
-use Rattle.simm_rules.specs.ForeignExchange.{PairVolatility, fx_sigma, fx_vega_threshold, pairs_of, fx_vega_value}
-use Rattle.simm_params.specs.Facts.{IsParams, IsWeighed}
-use Rattle.weighted_bucket.specs.declared.group.Grouped.{Grouped}
-use Rattle.weighted_bucket.specs.declared.scaling.Scaling.TheVariants as scaling
-use Rattle.weighted_bucket.specs.Bucket.{bucket_value}
-use Rattle.name_delta.specs.Points.{weighed_in}
+use Rattle.vol_factors.specs.SimmKinds.Pair.{Pair}
+use Rattle.vol_factors.specs.SimmKinds.Order.{same_pair}
+use Rattle.vol_factors.specs.SimmRules.declared.values.BucketMargin.{BucketMargin}
+use Rattle.vol_factors.specs.SimmRules.Params.{Params}
+use Rattle.vol_factors.specs.SimmRules.Lookups.{six}
+use Rattle.vol_factors.specs.SimmRules.Risks.{Amount}
+use Rattle.vol_factors.specs.SimmRules.Concentration.{one}
+use Rattle.vol_factors.specs.SimmRules.Bucket.{concentrated}
+use Rattle.vol_factors.specs.SimmRules.Bucket.{bucket_value as value_of_factors}
+use Rattle.vol_factors.specs.SimmRules.ForeignExchange.{PairVolatility, fx_sigma, fx_vega_threshold, pairs_of, fx_vega_value}
+use Rattle.vol_factors.specs.SimmParams.Facts.{IsParams, IsWeighed}
+use Rattle.vol_factors.specs.WeightedBucket.declared.group.Grouped.{Grouped}
+use Rattle.vol_factors.specs.WeightedBucket.declared.scaling.Scaling.TheVariants as scaling
+use Rattle.vol_factors.specs.WeightedBucket.Bucket.{bucket_value}
+use Rattle.vol_factors.specs.NameDelta.Points.{weighed_in}
 use Rattle.vol_factors.specs.Ranges.{ArePairsInRange}
 use Rattle.vol_factors.proofs.PairsTogether.{pairs}
 use Rattle.vol_factors.proofs.Sigmas.{sigma_low}

@@ -4,26 +4,26 @@ use Rattle.std.specs.declared.cmp.Ordering.{Ordering}
 use Rattle.std.specs.declared.cmp.Ordering.TheVariants.{Less, Equal, Greater}
 use Rattle.std.specs.List.{filter}
 use Rattle.std.proofs.lemmas.Simd.{map-map}
-use Rattle.simm_kinds.specs.declared.kinds.ProductClass.{ProductClass}
-use Rattle.simm_kinds.specs.declared.kinds.RiskClass.TheVariants as class
-use Rattle.simm_kinds.specs.declared.kinds.BucketId.{BucketId}
-use Rattle.simm_kinds.specs.declared.kinds.BucketId.TheVariants as id
-use Rattle.simm_kinds.specs.declared.factor.Factor.{Factor}
-use Rattle.simm_kinds.specs.declared.factor.Factor.TheVariants as factor
-use Rattle.simm_kinds.specs.declared.key.FactorKey.{FactorKey}
-use Rattle.simm_kinds.specs.Factors.{class_of, side_of, bucket_of}
-use Rattle.simm_kinds.specs.Order.{same_product, same_class, name_cmp, bucket_id_cmp}
-use Rattle.simm_rules.specs.Sums.{put_in, placed, different}
-use Rattle.simm_rules.specs.Net.{Sensitivity}
-use Rattle.simm_rules.specs.Risks.{risk, Amount, select}
-use Rattle.simm_rules.specs.Rates.{VolatilityIn, as_rate_volatility, volatility_currencies}
-use Rattle.factor_book.specs.declared.place.BookSide.TheVariants as side
-use Rattle.factor_book.specs.declared.holding.Holding.{Holding}
-use Rattle.factor_book.specs.Factors.{net_of}
-use Rattle.factor_book.specs.Place.{book_side}
-use Rattle.factor_book.specs.Places.{same_side, is_on}
-use Rattle.name_delta.specs.Values.{nets_in}
-use Rattle.name_delta.proofs.Selected.{select_none, select_some}
+use Rattle.vol_factors.specs.SimmKinds.declared.kinds.ProductClass.{ProductClass}
+use Rattle.vol_factors.specs.SimmKinds.declared.kinds.RiskClass.TheVariants as class
+use Rattle.vol_factors.specs.SimmKinds.declared.kinds.BucketId.{BucketId}
+use Rattle.vol_factors.specs.SimmKinds.declared.kinds.BucketId.TheVariants as id
+use Rattle.vol_factors.specs.SimmKinds.declared.factor.Factor.{Factor}
+use Rattle.vol_factors.specs.SimmKinds.declared.factor.Factor.TheVariants as factor
+use Rattle.vol_factors.specs.SimmKinds.declared.key.FactorKey.{FactorKey}
+use Rattle.vol_factors.specs.SimmKinds.Factors.{class_of, side_of, bucket_of}
+use Rattle.vol_factors.specs.SimmKinds.Order.{same_product, same_class, name_cmp, bucket_id_cmp}
+use Rattle.vol_factors.specs.SimmRules.Sums.{put_in, placed, different}
+use Rattle.vol_factors.specs.SimmRules.Net.{Sensitivity}
+use Rattle.vol_factors.specs.SimmRules.Risks.{risk, Amount, select}
+use Rattle.vol_factors.specs.SimmRules.Rates.{VolatilityIn, as_rate_volatility, volatility_currencies}
+use Rattle.vol_factors.specs.FactorBook.declared.place.BookSide.TheVariants as side
+use Rattle.vol_factors.specs.FactorBook.declared.holding.Holding.{Holding}
+use Rattle.vol_factors.specs.FactorBook.Factors.{net_of}
+use Rattle.vol_factors.specs.FactorBook.Place.{book_side}
+use Rattle.vol_factors.specs.FactorBook.Places.{same_side, is_on}
+use Rattle.vol_factors.specs.NameDelta.Values.{nets_in}
+use Rattle.vol_factors.proofs.NameDelta.Selected.{select_none, select_some}
 use Rattle.vega_margin.specs.Combine.{volatility_buckets}
 
 -- ---- different items under a function that keeps their order

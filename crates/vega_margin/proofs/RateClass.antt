@@ -7,29 +7,29 @@ use Rattle.std.proofs.lemmas.Int.{ints}
 use Rattle.std.proofs.lemmas.List.Elements.{All-from_recursion}
 use Rattle.std.proofs.lemmas.Map.Lookups.{exact_bytes}
 use Rattle.std.proofs.lemmas.Simd.{map-map}
-use Rattle.simm_kinds.specs.declared.kinds.BucketId.{BucketId}
-use Rattle.simm_kinds.specs.declared.kinds.BucketId.TheVariants as id
-use Rattle.simm_kinds.specs.Order.{name_cmp, same_name, bucket_id_cmp}
-use Rattle.simm_rules.specs.declared.values.BucketMargin.{BucketMargin}
-use Rattle.simm_rules.specs.Params.{Params}
-use Rattle.simm_rules.specs.Sums.{total_by}
-use Rattle.simm_rules.specs.Net.{Sensitivity}
-use Rattle.simm_rules.specs.Risks.{RateVolatility, Amount, select}
-use Rattle.simm_rules.specs.Concentration.{one}
-use Rattle.simm_rules.specs.Bucket.{Weighted, weighted_value, plain, root_of, pair_sum, weighted_sum}
-use Rattle.simm_rules.specs.Gross.{size_by}
-use Rattle.simm_rules.specs.Rates.{VolatilityIn, as_rate_volatility, same_rate_volatility, rate_volatility_rho, rate_thresholds, volatilities_in, volatility_currencies, rate_volatility_cr, weighted_rate_volatility, tenor_of, currency_vega_value}
-use Rattle.simm_params.specs.Facts.{IsParams}
-use Rattle.simm_params.specs.Weighed.{AreRatesWeighed}
-use Rattle.factor_book.proofs.Sorting.{different_ascends}
-use Rattle.ir_delta.specs.Parts.{IsCurrency, AreParts}
-use Rattle.ir_delta.specs.Range.{IsPart}
-use Rattle.ir_delta.proofs.Lists.{all_map, map_ascends}
-use Rattle.ir_delta.proofs.Sums.{sum_by-agrees, sum_by-ones, sum_by-shifted}
-use Rattle.name_delta.specs.Values.{IsInRange, IsSmall}
-use Rattle.name_delta.proofs.Lists.{each_always}
-use Rattle.name_delta.proofs.Sizes.{sum_by-map, sum_by-below, sum_by-scaled, sum_by-filter, total_size, size_is}
-use Rattle.name_delta.proofs.Thick.{net_thick, cr_size, cr_low, cr_below, weighted_close}
+use Rattle.vol_factors.specs.SimmKinds.declared.kinds.BucketId.{BucketId}
+use Rattle.vol_factors.specs.SimmKinds.declared.kinds.BucketId.TheVariants as id
+use Rattle.vol_factors.specs.SimmKinds.Order.{name_cmp, same_name, bucket_id_cmp}
+use Rattle.vol_factors.specs.SimmRules.declared.values.BucketMargin.{BucketMargin}
+use Rattle.vol_factors.specs.SimmRules.Params.{Params}
+use Rattle.vol_factors.specs.SimmRules.Sums.{total_by}
+use Rattle.vol_factors.specs.SimmRules.Net.{Sensitivity}
+use Rattle.vol_factors.specs.SimmRules.Risks.{RateVolatility, Amount, select}
+use Rattle.vol_factors.specs.SimmRules.Concentration.{one}
+use Rattle.vol_factors.specs.SimmRules.Bucket.{Weighted, weighted_value, plain, root_of, pair_sum, weighted_sum}
+use Rattle.vol_factors.specs.SimmRules.Gross.{size_by}
+use Rattle.vol_factors.specs.SimmRules.Rates.{VolatilityIn, as_rate_volatility, same_rate_volatility, rate_volatility_rho, rate_thresholds, volatilities_in, volatility_currencies, rate_volatility_cr, weighted_rate_volatility, tenor_of, currency_vega_value}
+use Rattle.vol_factors.specs.SimmParams.Facts.{IsParams}
+use Rattle.vol_factors.specs.SimmParams.Weighed.{AreRatesWeighed}
+use Rattle.vol_factors.proofs.FactorBook.Sorting.{different_ascends}
+use Rattle.vol_factors.specs.IrDelta.Parts.{IsCurrency, AreParts}
+use Rattle.vol_factors.specs.IrDelta.Range.{IsPart}
+use Rattle.vol_factors.proofs.IrDelta.Lists.{all_map, map_ascends}
+use Rattle.vol_factors.proofs.IrDelta.Sums.{sum_by-agrees, sum_by-ones, sum_by-shifted}
+use Rattle.vol_factors.specs.NameDelta.Values.{IsInRange, IsSmall}
+use Rattle.vol_factors.proofs.NameDelta.Lists.{each_always}
+use Rattle.vol_factors.proofs.NameDelta.Sizes.{sum_by-map, sum_by-below, sum_by-scaled, sum_by-filter, total_size, size_is}
+use Rattle.vol_factors.proofs.NameDelta.Thick.{net_thick, cr_size, cr_low, cr_below, weighted_close}
 use Rattle.vol_factors.specs.Ranges.{alone}
 use Rattle.vol_factors.proofs.Gathered.{over_names}
 use Rattle.vol_factors.proofs.RateRhos.{small}

@@ -8,26 +8,26 @@ use Rattle.std.proofs.lemmas.List.{get_or-map, length-map}
 use Rattle.std.proofs.lemmas.List.Elements.{All-from_recursion}
 use Rattle.std.proofs.lemmas.List.Sorted.{IsNonDecreasingBy-from_default}
 use Rattle.std.proofs.lemmas.Simd.{map-map}
-use Rattle.simm_kinds.specs.declared.kinds.Tenor.TheVariants as tenor
-use Rattle.simm_rules.specs.declared.values.BucketMargin.{BucketMargin}
-use Rattle.simm_rules.specs.Params.{Params}
-use Rattle.simm_rules.specs.Sums.{total_by}
-use Rattle.simm_rules.specs.Risks.{RateVolatility, Of_rates, Amount}
-use Rattle.simm_rules.specs.Concentration.{one, cr}
-use Rattle.simm_rules.specs.Bucket.{Weighted, weighted_value, plain}
-use Rattle.simm_rules.specs.Bucket.{bucket_value as value_of_factors}
-use Rattle.simm_rules.specs.Rates.{VolatilityIn, same_rate_volatility, rate_volatility_rho, rate_thresholds, rate_volatility_cr, weighted_rate_volatility, currency_vega_value}
-use Rattle.simm_params.specs.Facts.{IsWeighed}
-use Rattle.weighted_bucket.specs.declared.group.Grouped.{Grouped}
-use Rattle.weighted_bucket.specs.declared.scaling.Scaling.TheVariants as scaling
-use Rattle.weighted_bucket.specs.declared.weighed.Weighed.{Weighed}
-use Rattle.weighted_bucket.specs.Bucket.{bucket_value}
-use Rattle.weighted_bucket.specs.Group.{at, group_net, CanConcentrate}
-use Rattle.name_delta.specs.Points.{weighed_in}
-use Rattle.name_delta.specs.Values.{IsInRange, weighed_as}
-use Rattle.name_delta.proofs.Lists.{each_always, each_map}
-use Rattle.name_delta.proofs.Sizes.{sum_by-map, sum_by-scaled, total_size, size_all, size_is}
-use Rattle.name_delta.proofs.Thick.{net_thick, cr_low, cr_below, cr_size}
+use Rattle.vol_factors.specs.SimmKinds.declared.kinds.Tenor.TheVariants as tenor
+use Rattle.vol_factors.specs.SimmRules.declared.values.BucketMargin.{BucketMargin}
+use Rattle.vol_factors.specs.SimmRules.Params.{Params}
+use Rattle.vol_factors.specs.SimmRules.Sums.{total_by}
+use Rattle.vol_factors.specs.SimmRules.Risks.{RateVolatility, Of_rates, Amount}
+use Rattle.vol_factors.specs.SimmRules.Concentration.{one, cr}
+use Rattle.vol_factors.specs.SimmRules.Bucket.{Weighted, weighted_value, plain}
+use Rattle.vol_factors.specs.SimmRules.Bucket.{bucket_value as value_of_factors}
+use Rattle.vol_factors.specs.SimmRules.Rates.{VolatilityIn, same_rate_volatility, rate_volatility_rho, rate_thresholds, rate_volatility_cr, weighted_rate_volatility, currency_vega_value}
+use Rattle.vol_factors.specs.SimmParams.Facts.{IsWeighed}
+use Rattle.vol_factors.specs.WeightedBucket.declared.group.Grouped.{Grouped}
+use Rattle.vol_factors.specs.WeightedBucket.declared.scaling.Scaling.TheVariants as scaling
+use Rattle.vol_factors.specs.WeightedBucket.declared.weighed.Weighed.{Weighed}
+use Rattle.vol_factors.specs.WeightedBucket.Bucket.{bucket_value}
+use Rattle.vol_factors.specs.WeightedBucket.Group.{at, group_net, CanConcentrate}
+use Rattle.vol_factors.specs.NameDelta.Points.{weighed_in}
+use Rattle.vol_factors.specs.NameDelta.Values.{IsInRange, weighed_as}
+use Rattle.vol_factors.proofs.NameDelta.Lists.{each_always, each_map}
+use Rattle.vol_factors.proofs.NameDelta.Sizes.{sum_by-map, sum_by-scaled, total_size, size_all, size_is}
+use Rattle.vol_factors.proofs.NameDelta.Thick.{net_thick, cr_low, cr_below, cr_size}
 use Rattle.vol_factors.specs.declared.rates.VolatilitySum.{VolatilitySum}
 use Rattle.vol_factors.specs.declared.tenor_scale.TenorScale.TheVariants as scale
 use Rattle.vol_factors.specs.Ranges.{alone}

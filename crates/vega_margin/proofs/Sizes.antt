@@ -4,19 +4,19 @@ use Rattle.std.specs.Prelude.{sum_by}
 use Rattle.std.specs.List.{AllByRecursion}
 use Rattle.std.proofs.lemmas.Int.{ints}
 use Rattle.std.proofs.lemmas.List.Elements.{recursion_from_All}
-use Rattle.simm_rules.specs.declared.values.BucketMargin.{BucketMargin}
-use Rattle.simm_rules.specs.Risks.{Amount}
-use Rattle.simm_rules.specs.Concentration.{one}
-use Rattle.simm_rules.specs.Gross.{size_by}
-use Rattle.simm_params.specs.Ranges.{vega_weights, IsWithin}
-use Rattle.ir_delta.proofs.Sums.{sum_by-shifted, sum_by-ones}
-use Rattle.weighted_bucket.specs.declared.group.Grouped.{Grouped}
-use Rattle.weighted_bucket.specs.declared.weighed.Weighed.{Weighed}
-use Rattle.weighted_bucket.specs.Group.{group_net, group_factor, CanConcentrate}
-use Rattle.name_delta.specs.Points.{weighed_in}
-use Rattle.name_delta.proofs.Lists.{each_always, each_weaker}
-use Rattle.name_delta.proofs.Sizes.{sum_by-map, sum_by-below, sum_by-scaled}
-use Rattle.name_delta.proofs.Thick.{cr_size, cr_low, cr_below, weighted_close, all_made}
+use Rattle.vol_factors.specs.SimmRules.declared.values.BucketMargin.{BucketMargin}
+use Rattle.vol_factors.specs.SimmRules.Risks.{Amount}
+use Rattle.vol_factors.specs.SimmRules.Concentration.{one}
+use Rattle.vol_factors.specs.SimmRules.Gross.{size_by}
+use Rattle.vol_factors.specs.SimmParams.Ranges.{vega_weights, IsWithin}
+use Rattle.vol_factors.proofs.IrDelta.Sums.{sum_by-shifted, sum_by-ones}
+use Rattle.vol_factors.specs.WeightedBucket.declared.group.Grouped.{Grouped}
+use Rattle.vol_factors.specs.WeightedBucket.declared.weighed.Weighed.{Weighed}
+use Rattle.vol_factors.specs.WeightedBucket.Group.{group_net, group_factor, CanConcentrate}
+use Rattle.vol_factors.specs.NameDelta.Points.{weighed_in}
+use Rattle.vol_factors.proofs.NameDelta.Lists.{each_always, each_weaker}
+use Rattle.vol_factors.proofs.NameDelta.Sizes.{sum_by-map, sum_by-below, sum_by-scaled}
+use Rattle.vol_factors.proofs.NameDelta.Thick.{cr_size, cr_low, cr_below, weighted_close, all_made}
 use Rattle.vega_margin.specs.Groups.{CanWeigh, AreWeighed, IsValueOf}
 use Rattle.vega_margin.specs.Values.{IsSized}
 

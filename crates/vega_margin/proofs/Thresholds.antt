@@ -1,14 +1,14 @@
 -- What the concentration categories of a pair's currencies say of its vega threshold.
 use Rattle.std.proofs.Common.{◌≡◌, ℕ, Bool, true, false, if◌then◌else◌, List, refl, ap, ◌∙◌}
-use Rattle.simm_kinds.specs.Pair.{Pair}
-use Rattle.simm_rules.specs.Params.{Params}
-use Rattle.simm_rules.specs.Lookups.{is_listed}
-use Rattle.simm_rules.specs.ForeignExchange.{concentration_place, fx_vega_threshold}
-use Rattle.simm_params.specs.declared.category.ConcentrationCategory.{ConcentrationCategory}
-use Rattle.simm_params.specs.declared.category.ConcentrationCategory.TheVariants.{First, Second, Third}
-use Rattle.simm_params.specs.Categories.{concentration}
-use Rattle.simm_params.specs.FxLookups.{category_place, pair_threshold}
-use Rattle.simm_params.specs.Matrix.{entry}
+use Rattle.vol_factors.specs.SimmKinds.Pair.{Pair}
+use Rattle.vol_factors.specs.SimmRules.Params.{Params}
+use Rattle.vol_factors.specs.SimmRules.Lookups.{is_listed}
+use Rattle.vol_factors.specs.SimmRules.ForeignExchange.{concentration_place, fx_vega_threshold}
+use Rattle.vol_factors.specs.SimmParams.declared.category.ConcentrationCategory.{ConcentrationCategory}
+use Rattle.vol_factors.specs.SimmParams.declared.category.ConcentrationCategory.TheVariants.{First, Second, Third}
+use Rattle.vol_factors.specs.SimmParams.Categories.{concentration}
+use Rattle.vol_factors.specs.SimmParams.FxLookups.{category_place, pair_threshold}
+use Rattle.vol_factors.specs.SimmParams.Matrix.{entry}
 
 place_by : (s t : Bool) → category_place (if s then First else (if t then Second else Third)) ≡ (if s then 0 else (if t then 1 else 2))
 place_by true t = refl

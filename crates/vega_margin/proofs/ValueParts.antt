@@ -1,13 +1,13 @@
 -- What is known of the value of factors whose correlations are at most 1 in size.
 use Rattle.std.proofs.Common.{◌≡◌, ◌*◌, ◌≤◌, ℕ, List, sym, subst, refl, ℤ, pos, ◌≤ℤ◌, unsigned_abs}
 use Rattle.std.specs.Prelude.{sum_by}
-use Rattle.mh_units.specs.Rounding.{up, clamp}
-use Rattle.mh_units.proofs.Roundings.{root_is, clamp_size}
-use Rattle.simm_rules.specs.Sums.{total_by}
-use Rattle.simm_rules.specs.Concentration.{one}
-use Rattle.simm_rules.specs.Bucket.{Weighted, root_of, pair_sum, weighted_sum}
-use Rattle.pair_sum.proofs.RootBounds.{root_of_within}
-use Rattle.ir_delta.proofs.Sums.{not_negative, total_size, total_by-pos, pairs_size}
+use Rattle.vol_factors.specs.MhUnits.Rounding.{up, clamp}
+use Rattle.vol_factors.proofs.MhUnits.Roundings.{root_is, clamp_size}
+use Rattle.vol_factors.specs.SimmRules.Sums.{total_by}
+use Rattle.vol_factors.specs.SimmRules.Concentration.{one}
+use Rattle.vol_factors.specs.SimmRules.Bucket.{Weighted, root_of, pair_sum, weighted_sum}
+use Rattle.vol_factors.proofs.PairSums.RootBounds.{root_of_within}
+use Rattle.vol_factors.proofs.IrDelta.Sums.{not_negative, total_size, total_by-pos, pairs_size}
 
 module _ {A : Type 0} (corr : Weighted A → Weighted A → ℤ) (small : (k l : Weighted A) → unsigned_abs (corr k l) ≤ 1000000) (fs : List (Weighted A)) where
   abbrev sizes : ℕ

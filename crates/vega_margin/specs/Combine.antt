@@ -1,23 +1,23 @@
 -- The vega margin of a class over the values of its buckets: across buckets it is joined as that of delta is.
 -- (ISDA SIMM methodology, vega margin: aggregation across buckets.)
 use Rattle.std.specs.Prelude.{ℕ, ◌^◌, ◌≤◌, List, map, length, Option, Some, ℤ, pos, ◌≤ℤ◌}
-use Rattle.simm_kinds.specs.declared.kinds.RiskClass.{RiskClass}
-use Rattle.simm_kinds.specs.declared.kinds.RiskClass.TheVariants as class
-use Rattle.simm_kinds.specs.declared.kinds.BucketId.{BucketId}
-use Rattle.simm_kinds.specs.declared.kinds.BucketId.TheVariants as id
-use Rattle.simm_kinds.specs.declared.key.FactorKey.{FactorKey}
-use Rattle.simm_rules.specs.declared.values.BucketMargin.{BucketMargin}
-use Rattle.simm_rules.specs.Params.{Params}
-use Rattle.simm_rules.specs.Net.{Sensitivity}
-use Rattle.simm_rules.specs.Risks.{select}
-use Rattle.simm_rules.specs.Gross.{size_by}
-use Rattle.simm_rules.specs.Rates.{as_rate_volatility, volatilities_in, volatility_currencies, currency_vega_value}
-use Rattle.factor_book.specs.declared.at.ClassAt.{ClassAt}
-use Rattle.factor_book.specs.declared.holding.Holding.{Holding}
-use Rattle.factor_book.specs.declared.place.BookSide.TheVariants as side
-use Rattle.factor_book.specs.Places.{buckets_on}
-use Rattle.ir_delta.specs.Parts.{AreParts as AreRateParts, margin_over as rate_margin_over}
-use Rattle.name_delta.specs.Combine.{combined_by_class, AreParts as AreNamedParts}
+use Rattle.vol_factors.specs.SimmKinds.declared.kinds.RiskClass.{RiskClass}
+use Rattle.vol_factors.specs.SimmKinds.declared.kinds.RiskClass.TheVariants as class
+use Rattle.vol_factors.specs.SimmKinds.declared.kinds.BucketId.{BucketId}
+use Rattle.vol_factors.specs.SimmKinds.declared.kinds.BucketId.TheVariants as id
+use Rattle.vol_factors.specs.SimmKinds.declared.key.FactorKey.{FactorKey}
+use Rattle.vol_factors.specs.SimmRules.declared.values.BucketMargin.{BucketMargin}
+use Rattle.vol_factors.specs.SimmRules.Params.{Params}
+use Rattle.vol_factors.specs.SimmRules.Net.{Sensitivity}
+use Rattle.vol_factors.specs.SimmRules.Risks.{select}
+use Rattle.vol_factors.specs.SimmRules.Gross.{size_by}
+use Rattle.vol_factors.specs.SimmRules.Rates.{as_rate_volatility, volatilities_in, volatility_currencies, currency_vega_value}
+use Rattle.vol_factors.specs.FactorBook.declared.at.ClassAt.{ClassAt}
+use Rattle.vol_factors.specs.FactorBook.declared.holding.Holding.{Holding}
+use Rattle.vol_factors.specs.FactorBook.declared.place.BookSide.TheVariants as side
+use Rattle.vol_factors.specs.FactorBook.Places.{buckets_on}
+use Rattle.vol_factors.specs.IrDelta.Parts.{AreParts as AreRateParts, margin_over as rate_margin_over}
+use Rattle.vol_factors.specs.NameDelta.Combine.{combined_by_class, AreParts as AreNamedParts}
 use Rattle.vol_factors.specs.Ranges.{alone}
 
 abbrev pub vega_over : Params → RiskClass → List (BucketId × BucketMargin) → Option ℤ

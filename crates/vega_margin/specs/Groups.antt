@@ -2,12 +2,12 @@
 -- (ISDA SIMM methodology, vega margin: vega risk and its concentration factor.)
 use Rattle.std.specs.Prelude.{◌≡◌, ◌+◌, ◌*◌, ◌^◌, ◌<◌, ◌≤◌, All, map, sum_by, List, length, pos, ◌*ℤ◌, ◌≤ℤ◌, ◌<ℤ◌, ℤ, unsigned_abs}
 use Rattle.std.specs.List.Sorted.{IsNonDecreasingBy}
-use Rattle.simm_rules.specs.declared.values.BucketMargin.{BucketMargin}
-use Rattle.simm_rules.specs.Concentration.{one}
-use Rattle.weighted_bucket.specs.declared.group.Grouped.{Grouped}
-use Rattle.weighted_bucket.specs.declared.weighed.Weighed.{Weighed}
-use Rattle.weighted_bucket.specs.Group.{group_net, CanConcentrate}
-use Rattle.name_delta.specs.Points.{weighed_in}
+use Rattle.vol_factors.specs.SimmRules.declared.values.BucketMargin.{BucketMargin}
+use Rattle.vol_factors.specs.SimmRules.Concentration.{one}
+use Rattle.vol_factors.specs.WeightedBucket.declared.group.Grouped.{Grouped}
+use Rattle.vol_factors.specs.WeightedBucket.declared.weighed.Weighed.{Weighed}
+use Rattle.vol_factors.specs.WeightedBucket.Group.{group_net, CanConcentrate}
+use Rattle.vol_factors.specs.NameDelta.Points.{weighed_in}
 
 -- Groups that can be weighed: they are no more than 2,000 and stand in order, their sizes come to at most 1.2 * 10^13 cents and a
 -- cent for each, and the sum of each group is small beside its threshold.

@@ -4,3 +4,4 @@ pub mod Rates
 pub mod Singles
 pub mod Vega
 pub mod Combine
+pub use Rattle.vol_factors.specs as VolFactors

@@ -1,9 +1,9 @@
 -- The volatilities of a currency, in one concentration group.
 -- (ISDA SIMM methodology, interest rate risk: vega.)
 use Rattle.std.specs.Prelude.{List, [], ◌∷◌, ℤ, pos}
-use Rattle.simm_rules.specs.Concentration.{cr}
-use Rattle.weighted_bucket.specs.declared.group.Grouped.{Grouped}
-use Rattle.weighted_bucket.specs.declared.weighed.Weighed.{Weighed}
+use Rattle.vol_factors.specs.SimmRules.Concentration.{cr}
+use Rattle.vol_factors.specs.WeightedBucket.declared.group.Grouped.{Grouped}
+use Rattle.vol_factors.specs.WeightedBucket.declared.weighed.Weighed.{Weighed}
 use Rattle.vol_factors.specs.declared.rates.VolatilitySum.{VolatilitySum}
 
 -- all of a currency are one group

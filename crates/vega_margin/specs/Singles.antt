@@ -1,14 +1,14 @@
 -- Names and pairs of currencies, each a concentration group by itself.
 -- (ISDA SIMM methodology, equity, commodity and foreign exchange risk: vega.)
 use Rattle.std.specs.Prelude.{ℕ, ◌≡◌, ◌<◌, List, map, length, slice_index_or, ◌^◌, ◌*ℤ◌, ℤ, pos}
-use Rattle.mh_units.specs.Rounding.{away}
-use Rattle.simm_kinds.specs.Pair.{Pair}
-use Rattle.simm_rules.specs.Sums.{total_by}
-use Rattle.simm_rules.specs.Risks.{Amount}
-use Rattle.simm_rules.specs.Priced.{NameVolatility, names_of, tenors_of}
-use Rattle.simm_rules.specs.ForeignExchange.{PairVolatility, pairs_of, pair_tenors}
-use Rattle.weighted_bucket.specs.declared.group.Grouped.{Grouped}
-use Rattle.weighted_bucket.specs.Group.{at}
+use Rattle.vol_factors.specs.MhUnits.Rounding.{away}
+use Rattle.vol_factors.specs.SimmKinds.Pair.{Pair}
+use Rattle.vol_factors.specs.SimmRules.Sums.{total_by}
+use Rattle.vol_factors.specs.SimmRules.Risks.{Amount}
+use Rattle.vol_factors.specs.SimmRules.Priced.{NameVolatility, names_of, tenors_of}
+use Rattle.vol_factors.specs.SimmRules.ForeignExchange.{PairVolatility, pairs_of, pair_tenors}
+use Rattle.vol_factors.specs.WeightedBucket.declared.group.Grouped.{Grouped}
+use Rattle.vol_factors.specs.WeightedBucket.Group.{at}
 
 -- the vega risk of a net change for one unit of volatility: the ratio times the volatility times the net
 abbrev pub vega_risk : ℤ → ℤ → ℤ → ℤ

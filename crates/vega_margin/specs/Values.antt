@@ -1,10 +1,10 @@
 -- What is known of a bucket's value.
 -- (ISDA SIMM methodology, vega margin.)
 use Rattle.std.specs.Prelude.{◌*◌, ◌^◌, ◌≤◌, List, length, ℤ, pos, ◌+ℤ◌, ◌*ℤ◌, ◌≤ℤ◌, ◌<ℤ◌, unsigned_abs}
-use Rattle.simm_rules.specs.declared.values.BucketMargin.{BucketMargin}
-use Rattle.simm_rules.specs.Risks.{Amount}
-use Rattle.simm_rules.specs.Concentration.{one}
-use Rattle.simm_rules.specs.Gross.{size_by}
+use Rattle.vol_factors.specs.SimmRules.declared.values.BucketMargin.{BucketMargin}
+use Rattle.vol_factors.specs.SimmRules.Risks.{Amount}
+use Rattle.vol_factors.specs.SimmRules.Concentration.{one}
+use Rattle.vol_factors.specs.SimmRules.Gross.{size_by}
 
 -- The sizes of a bucket's value, beside the sum of the sizes of its sensitivities times their volatilities, in ten-thousandths of a
 -- cent. A vega risk is at most 1.2 times that sum and a cent, a vega risk weight is at most 2, concentration factors are below 347,

@@ -2,12 +2,12 @@
 ghost use Rattle.std.specs.Prelude.{◌≡◌, Some, IfOk, sum_by, pos, ◌≤ℤ◌, unsigned_abs};
 ghost use Rattle.vega_margin.specs.Combine.{vega_over, AreParts};
 
-use factor_book::ClassAt;
-use mh_units::Cents;
-use simm_kinds::{BucketId, RiskClass};
-use simm_params::Params;
-use simm_rules::BucketMargin;
 use std::alloc::{AllocError, Global};
+use vol_factors::factor_book::ClassAt;
+use vol_factors::mh_units::Cents;
+use vol_factors::simm_kinds::{BucketId, RiskClass};
+use vol_factors::simm_params::Params;
+use vol_factors::simm_rules::BucketMargin;
 
 /// The vega margin of a risk class in a product class, over the values of its buckets, in cents. The parts are of different
 /// buckets that the class has, in order; a bucket without sensitivities may be left out. Want of memory is the only error.
@@ -23,11 +23,11 @@ pub fn combine(
     ensures size { IfOk result (λ m. m.0 ≤ℤ pos (sum_by (λ part. unsigned_abs (part.1).k) parts.now)) }
 {
     match at.class {
-        RiskClass::IR => ir_delta::combine(alloc, params, parts),
+        RiskClass::IR => vol_factors::ir_delta::combine(alloc, params, parts),
         RiskClass::CreditQ
         | RiskClass::CreditNonQ
         | RiskClass::Equity
         | RiskClass::Commodity
-        | RiskClass::FX => name_delta::combine(alloc, params, at, parts),
+        | RiskClass::FX => vol_factors::name_delta::combine(alloc, params, at, parts),
     }
 }

@@ -1,7 +1,7 @@
 //! Foreign exchange: the pairs of currencies of a product class, in one bucket. A pair's volatilities of all tenors are one factor, and
 //! each pair a concentration group by itself.
 ghost use Rattle.std.specs.Prelude.{◌≡◌, ◌+◌, ◌*◌, ◌^◌, ◌≤◌, IfOk, All, length, map, unsigned_abs};
-ghost use Rattle.simm_rules.specs.ForeignExchange.{pairs_of, fx_sigma, fx_vega_threshold, fx_vega_value};
+ghost use Rattle.vol_factors.specs.SimmRules.ForeignExchange.{pairs_of, fx_sigma, fx_vega_threshold, fx_vega_value};
 ghost use Rattle.vol_factors.specs.Pairs.{pair_view};
 ghost use Rattle.vol_factors.specs.Places.{pair_volatilities};
 ghost use Rattle.vol_factors.specs.Ranges.{ArePairsInRange};
@@ -10,16 +10,16 @@ ghost use Rattle.vega_margin.specs.Values.{IsSized};
 
 use crate::singles::{single_group, vega_risk};
 use crate::weighing::concentrated_bucket;
-use factor_book::Factors;
-use name_delta::{EvenRho, in_millionths};
-use pair_sum::Steps;
-use simm_kinds::{CurrencyPair, ProductClass};
-use simm_params::Params;
-use simm_rules::BucketMargin;
 use std::alloc::{AllocError, Global};
 use std::sync::ledger::Ledger;
+use vol_factors::factor_book::Factors;
+use vol_factors::name_delta::{EvenRho, in_millionths};
+use vol_factors::pair_sum::Steps;
+use vol_factors::simm_kinds::{CurrencyPair, ProductClass};
+use vol_factors::simm_params::Params;
+use vol_factors::simm_rules::BucketMargin;
+use vol_factors::weighted_bucket::Grouped;
 use vol_factors::{PairSum, TenorScale, pair_sums, pair_volatility};
-use weighted_bucket::Grouped;
 
 /// The vega value of the one bucket of a product class's pairs, whose `k` is the vega margin of foreign exchange. The factors are
 /// those of a book in range. `n` pairs take at most `n * n` steps. Want of memory is the only error.

@@ -1,32 +1,32 @@
 //! What the margins of classes depend on.
 ghost use Rattle.std.specs.Prelude.{◌≡◌, ◌*◌, ◌^◌, ◌≤◌, Bool, ℕ, true, false, List, [], map, length, sum_by, unsigned_abs, ℤ, pos, ◌≤ℤ◌};
 ghost use Rattle.std.specs.List.{filter, list_all};
-ghost use Rattle.simm_kinds.specs.declared.bucket.Bucket.{Bucket as AnyBucket};
-ghost use Rattle.simm_kinds.specs.declared.kinds.BucketId.TheVariants as id;
-ghost use Rattle.simm_kinds.specs.declared.kinds.ProductClass.{ProductClass as AnyProduct};
-ghost use Rattle.simm_kinds.specs.declared.kinds.RiskClass.TheVariants as class;
-ghost use Rattle.simm_kinds.specs.declared.key.FactorKey.{FactorKey};
-ghost use Rattle.simm_kinds.specs.declared.row.CrifRow.{CrifRow as Row};
-ghost use Rattle.simm_kinds.specs.Batch.{is_in_range};
-ghost use Rattle.simm_rules.specs.Params.{CreditParams, PricedParams, Params as ParamsValue};
-ghost use Rattle.simm_rules.specs.Net.{Sensitivity, sensitivities, in_product};
-ghost use Rattle.simm_rules.specs.Risks.{CreditClass, PricedClass, select};
-ghost use Rattle.simm_rules.specs.Gross.{size_by};
-ghost use Rattle.simm_rules.specs.Across.{margin_over};
-ghost use Rattle.simm_rules.specs.Rates.{as_rate_volatility, volatilities_in, volatility_currencies, rate_vega};
-ghost use Rattle.simm_rules.specs.Credit.{as_credit_volatility, listed_credit, credit_vega_parts, credit_vega};
-ghost use Rattle.simm_rules.specs.ForeignExchange.{as_pair_volatility, fx_sigma, fx_vega};
-ghost use Rattle.simm_rules.specs.Priced.{as_price_volatility, listed_priced, price_vega_parts, price_vega};
-ghost use Rattle.factor_book.specs.declared.holding.Holding.{Holding};
-ghost use Rattle.factor_book.specs.Factors.{factors_of};
-ghost use Rattle.ir_delta.specs.Parts.{AreParts, margin_over as over_currencies};
-ghost use Rattle.name_delta.specs.Values.{nets_in, IsInRange};
+ghost use Rattle.vol_factors.specs.SimmKinds.declared.bucket.Bucket.{Bucket as AnyBucket};
+ghost use Rattle.vol_factors.specs.SimmKinds.declared.kinds.BucketId.TheVariants as id;
+ghost use Rattle.vol_factors.specs.SimmKinds.declared.kinds.ProductClass.{ProductClass as AnyProduct};
+ghost use Rattle.vol_factors.specs.SimmKinds.declared.kinds.RiskClass.TheVariants as class;
+ghost use Rattle.vol_factors.specs.SimmKinds.declared.key.FactorKey.{FactorKey};
+ghost use Rattle.vol_factors.specs.SimmKinds.declared.row.CrifRow.{CrifRow as Row};
+ghost use Rattle.vol_factors.specs.SimmKinds.Batch.{is_in_range};
+ghost use Rattle.vol_factors.specs.SimmRules.Params.{CreditParams, PricedParams, Params as ParamsValue};
+ghost use Rattle.vol_factors.specs.SimmRules.Net.{Sensitivity, sensitivities, in_product};
+ghost use Rattle.vol_factors.specs.SimmRules.Risks.{CreditClass, PricedClass, select};
+ghost use Rattle.vol_factors.specs.SimmRules.Gross.{size_by};
+ghost use Rattle.vol_factors.specs.SimmRules.Across.{margin_over};
+ghost use Rattle.vol_factors.specs.SimmRules.Rates.{as_rate_volatility, volatilities_in, volatility_currencies, rate_vega};
+ghost use Rattle.vol_factors.specs.SimmRules.Credit.{as_credit_volatility, listed_credit, credit_vega_parts, credit_vega};
+ghost use Rattle.vol_factors.specs.SimmRules.ForeignExchange.{as_pair_volatility, fx_sigma, fx_vega};
+ghost use Rattle.vol_factors.specs.SimmRules.Priced.{as_price_volatility, listed_priced, price_vega_parts, price_vega};
+ghost use Rattle.vol_factors.specs.FactorBook.declared.holding.Holding.{Holding};
+ghost use Rattle.vol_factors.specs.FactorBook.Factors.{factors_of};
+ghost use Rattle.vol_factors.specs.IrDelta.Parts.{AreParts, margin_over as over_currencies};
+ghost use Rattle.vol_factors.specs.NameDelta.Values.{nets_in, IsInRange};
 ghost use Rattle.vol_factors.specs.Places.{volatilities_of, points_of, name_volatilities, pair_volatilities};
 ghost use Rattle.vol_factors.specs.Ranges.{alone};
 ghost use Rattle.vega_margin.specs.Combine.{currency_buckets, volatility_buckets, IsRateClass};
 
-use factor_book::factors_are_netted;
-use simm_params::Params;
+use vol_factors::factor_book::factors_are_netted;
+use vol_factors::simm_params::Params;
 
 /// The margin over the buckets of the currencies that have a volatility is the rule's vega margin of interest rates. Where the
 /// volatilities of a product class are in range, so are those of each currency, and the buckets' margins can be joined. It does

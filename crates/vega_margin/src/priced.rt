@@ -1,11 +1,11 @@
 //! Equity and commodities: the names of a bucket, whose volatilities of all tenors are one factor, and each a concentration group by
 //! itself.
 ghost use Rattle.std.specs.Prelude.{◌≡◌, ◌+◌, ◌*◌, ◌^◌, ◌≤◌, Some, IfOk, IsSomeAnd, All, length, map, option_map, unsigned_abs};
-ghost use Rattle.simm_rules.specs.Priced.{names_of, priced_params, price_vega_value};
-ghost use Rattle.simm_params.specs.ClassKinds.{priced_class};
-ghost use Rattle.simm_params.specs.ListedBuckets.{priced_bucket_of, priced_bucket_view};
-ghost use Rattle.simm_params.specs.Ranges.{hvrs, sigmas, IsWithin};
-ghost use Rattle.simm_params.specs.Weighed.{IsWeighedPriced};
+ghost use Rattle.vol_factors.specs.SimmRules.Priced.{names_of, priced_params, price_vega_value};
+ghost use Rattle.vol_factors.specs.SimmParams.ClassKinds.{priced_class};
+ghost use Rattle.vol_factors.specs.SimmParams.ListedBuckets.{priced_bucket_of, priced_bucket_view};
+ghost use Rattle.vol_factors.specs.SimmParams.Ranges.{hvrs, sigmas, IsWithin};
+ghost use Rattle.vol_factors.specs.SimmParams.Weighed.{IsWeighedPriced};
 ghost use Rattle.vol_factors.specs.Names.{sum_view};
 ghost use Rattle.vol_factors.specs.Places.{name_volatilities};
 ghost use Rattle.vol_factors.specs.Ranges.{IsPricedInRange};
@@ -14,16 +14,16 @@ ghost use Rattle.vega_margin.specs.Values.{IsSized};
 
 use crate::singles::{single_group, vega_risk};
 use crate::weighing::concentrated_bucket;
-use factor_book::Factors;
-use mh_units::Rate4;
-use name_delta::{EvenRho, in_millionths};
-use pair_sum::Steps;
-use simm_params::{Params, PricedBucket};
-use simm_rules::BucketMargin;
 use std::alloc::{AllocError, Global};
 use std::sync::ledger::Ledger;
+use vol_factors::factor_book::Factors;
+use vol_factors::mh_units::Rate4;
+use vol_factors::name_delta::{EvenRho, in_millionths};
+use vol_factors::pair_sum::Steps;
+use vol_factors::simm_params::{Params, PricedBucket};
+use vol_factors::simm_rules::BucketMargin;
+use vol_factors::weighted_bucket::Grouped;
 use vol_factors::{NameSum, PricedAt, TenorScale, name_sums};
-use weighted_bucket::Grouped;
 
 /// The vega value of a bucket that the file lists, whose factors are those of a book in range. Its `n` names take at most
 /// `n * n` steps. Want of memory is the only error.

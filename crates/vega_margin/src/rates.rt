@@ -1,8 +1,8 @@
 //! Interest rates: the volatilities of a currency's rates and of its inflation, which are one concentration group.
 ghost use Rattle.std.specs.Prelude.{◌≡◌, ◌+◌, ◌*◌, ◌^◌, ◌≤◌, IfOk, length, map, pos, ◌≤ℤ◌};
-ghost use Rattle.simm_rules.specs.Rates.{currency_vega_value};
-ghost use Rattle.simm_params.specs.Ranges.{vega_weights, IsWithin};
-ghost use Rattle.name_delta.specs.Values.{IsInRange};
+ghost use Rattle.vol_factors.specs.SimmRules.Rates.{currency_vega_value};
+ghost use Rattle.vol_factors.specs.SimmParams.Ranges.{vega_weights, IsWithin};
+ghost use Rattle.vol_factors.specs.NameDelta.Values.{IsInRange};
 ghost use Rattle.vol_factors.specs.Places.{volatilities_of};
 ghost use Rattle.vol_factors.specs.Ranges.{alone};
 ghost use Rattle.vega_margin.specs.Groups.{CanWeigh, AreWeighed};
@@ -10,16 +10,16 @@ ghost use Rattle.vega_margin.specs.Rates.{in_one_group, shared_cr};
 ghost use Rattle.vega_margin.specs.Values.{IsSized};
 
 use crate::weighing::weigh_groups;
-use concentration::cr;
-use factor_book::Factors;
-use mh_units::{Corr6, Rate4};
-use pair_sum::Steps;
-use simm_params::{Params, Thresholds};
-use simm_rules::BucketMargin;
 use std::alloc::{AllocError, Global};
 use std::sync::ledger::Ledger;
+use vol_factors::concentration::cr;
+use vol_factors::factor_book::Factors;
+use vol_factors::mh_units::{Corr6, Rate4};
+use vol_factors::pair_sum::Steps;
+use vol_factors::simm_params::{Params, Thresholds};
+use vol_factors::simm_rules::BucketMargin;
+use vol_factors::weighted_bucket::{Grouped, Scaling, Weighed, bucket_margin};
 use vol_factors::{CurrencyAt, TenorScale, VolatilityRho, VolatilitySum, volatility_sums};
-use weighted_bucket::{Grouped, Scaling, Weighed, bucket_margin};
 
 /// The vega value of a currency's bucket, whose factors are those of a book in range. Its `n` volatilities take at most `n * n`
 /// steps. Want of memory is the only error.

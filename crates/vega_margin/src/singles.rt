@@ -1,10 +1,10 @@
 //! Equity, commodities and foreign exchange: vega risks of what is a concentration group by itself.
 ghost use Rattle.std.specs.Prelude.{◌≡◌, ◌*◌, ◌^◌, ◌≤◌, unsigned_abs};
-ghost use Rattle.simm_params.specs.Ranges.{hvrs, sigmas, IsWithin};
+ghost use Rattle.vol_factors.specs.SimmParams.Ranges.{hvrs, sigmas, IsWithin};
 ghost use Rattle.vega_margin.specs.Singles.{single_group, vega_risk};
 
-use mh_units::{Rate4, div_away};
-use weighted_bucket::Grouped;
+use vol_factors::mh_units::{Rate4, div_away};
+use vol_factors::weighted_bucket::Grouped;
 
 /// The group of one thing, by its place: its vega risk, and its vega threshold, in cents.
 pub fn single_group(place: usize, risk: i128, threshold: i64) -> Grouped

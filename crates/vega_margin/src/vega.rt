@@ -7,13 +7,13 @@ use crate::credit::credit_bucket;
 use crate::fx::pair_bucket;
 use crate::priced::priced_bucket;
 use crate::rates::currency_bucket;
-use factor_book::{BucketAt, Factors};
-use pair_sum::Steps;
-use simm_params::Params;
-use simm_rules::BucketMargin;
 use std::alloc::{AllocError, Global};
 use std::sync::ledger::Ledger;
 use vol_factors::VolatileAt;
+use vol_factors::factor_book::{BucketAt, Factors};
+use vol_factors::pair_sum::Steps;
+use vol_factors::simm_params::Params;
+use vol_factors::simm_rules::BucketMargin;
 
 /// The vega value of a bucket: in interest rates that of a currency, in foreign exchange the one bucket, in the other classes one
 /// that the file lists. Its factors are those of a book in range. `n` factors take at most `n * n` steps. Want of memory is the

@@ -1,18 +1,20 @@
 //! Vega risks in their concentration groups, weighed, and the value of a bucket of them.
 ghost use Rattle.std.specs.Prelude.{◌≡◌, ◌+◌, ◌*◌, ◌≤◌, IfOk, length, map};
-ghost use Rattle.simm_rules.specs.Concentration.{one};
-ghost use Rattle.simm_params.specs.Ranges.{vega_weights, IsWithin};
-ghost use Rattle.weighted_bucket.specs.Bucket.{bucket_value};
-ghost use Rattle.weighted_bucket.specs.declared.scaling.Scaling.TheVariants as scaling;
-ghost use Rattle.name_delta.specs.Points.{weighed_in};
+ghost use Rattle.vol_factors.specs.SimmRules.Concentration.{one};
+ghost use Rattle.vol_factors.specs.SimmParams.Ranges.{vega_weights, IsWithin};
+ghost use Rattle.vol_factors.specs.WeightedBucket.Bucket.{bucket_value};
+ghost use Rattle.vol_factors.specs.WeightedBucket.declared.scaling.Scaling.TheVariants as scaling;
+ghost use Rattle.vol_factors.specs.NameDelta.Points.{weighed_in};
 ghost use Rattle.vega_margin.specs.Groups.{CanWeigh, AreWeighed, IsValueOf};
 
-use mh_units::{Corr6, Rate4};
-use pair_sum::Steps;
-use simm_rules::BucketMargin;
 use std::alloc::{AllocError, Global};
 use std::sync::ledger::Ledger;
-use weighted_bucket::{Grouped, Rho, Scaling, Weighed, bucket_margin, group_cr, weigh};
+use vol_factors::mh_units::{Corr6, Rate4};
+use vol_factors::pair_sum::Steps;
+use vol_factors::simm_rules::BucketMargin;
+use vol_factors::weighted_bucket::{
+    Grouped, Rho, Scaling, Weighed, bucket_margin, group_cr, weigh,
+};
 
 /// The value of a bucket of these vega risks, whose correlations their concentration scales. `n` risks take at most `n * n` steps.
 /// Want of memory is the only error.

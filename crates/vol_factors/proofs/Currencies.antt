@@ -2,11 +2,11 @@
 use Rattle.std.proofs.Common.{◌≡◌, ℕ, List, length, sym, ap, ◌∙◌, pos, ◌*◌, unsigned_abs, arith}
 use Rattle.std.specs.Prelude.{sum_by}
 use Rattle.std.proofs.lemmas.Int.{ints}
-use Rattle.simm_rules.specs.Sums.{total_by}
-use Rattle.simm_rules.specs.Net.{Sensitivity}
-use Rattle.simm_rules.specs.Risks.{Amount, select}
-use Rattle.simm_rules.specs.Gross.{size_by}
-use Rattle.simm_rules.specs.Rates.{VolatilityIn, as_rate_volatility, volatilities_in, volatility_currencies}
+use Rattle.ir_delta.specs.SimmRules.Sums.{total_by}
+use Rattle.ir_delta.specs.SimmRules.Net.{Sensitivity}
+use Rattle.ir_delta.specs.SimmRules.Risks.{Amount, select}
+use Rattle.ir_delta.specs.SimmRules.Gross.{size_by}
+use Rattle.ir_delta.specs.SimmRules.Rates.{VolatilityIn, as_rate_volatility, volatilities_in, volatility_currencies}
 use Rattle.ir_delta.proofs.Sums.{sum_by-agrees, sum_by-ones, total_by-pos}
 use Rattle.name_delta.proofs.Sizes.{size_all, size_is}
 use Rattle.vol_factors.specs.Ranges.{alone}

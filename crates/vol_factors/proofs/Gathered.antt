@@ -10,10 +10,10 @@ use Rattle.std.proofs.lemmas.Cmp.{nat_list_cmp_total, eq_by_cmp_equiv}
 use Rattle.std.proofs.lemmas.List.Sorted.{sum_by-IsPermutation}
 use Rattle.std.proofs.lemmas.List.Sums.{sum_by-cons, sum_by-append}
 use Rattle.std.proofs.lemmas.Map.Lookups.{CmpEqualImpliesEq, exact_bytes}
-use Rattle.simm_kinds.specs.Order.{name_cmp, same_name}
-use Rattle.simm_rules.specs.Sums.{different}
-use Rattle.factor_book.proofs.Sorting.{any_different, different_ascends}
-use Rattle.factor_book.proofs.Grouping.{grouped_all}
+use Rattle.ir_delta.specs.SimmKinds.Order.{name_cmp, same_name}
+use Rattle.ir_delta.specs.SimmRules.Sums.{different}
+use Rattle.ir_delta.proofs.FactorBook.Sorting.{any_different, different_ascends}
+use Rattle.ir_delta.proofs.FactorBook.Grouping.{grouped_all}
 use Rattle.ir_delta.proofs.Lists.{filter_agrees}
 
 module _ {A K : Type 0} (cmp : K → K → Ordering) (order : IsTotalOrder cmp) (exact : CmpEqualImpliesEq cmp) (same : K → K → Bool) (tests : (x y : K) → same x y ≡ is_eq (cmp x y)) (key_at : A → K) (xs : List A) where

@@ -2,7 +2,7 @@
 use Rattle.std.proofs.Common.{◌^◌, ◌≤◌, List, unsigned_abs, arith}
 use Rattle.std.specs.Prelude.{sum_by}
 use Rattle.std.proofs.lemmas.Int.{ints}
-use Rattle.simm_rules.specs.Risks.{Amount}
+use Rattle.ir_delta.specs.SimmRules.Risks.{Amount}
 use Rattle.name_delta.specs.Values.{IsInRange}
 use Rattle.name_delta.proofs.Sizes.{sum_by-scaled, size_small}
 use Rattle.vol_factors.specs.Ranges.{alone}

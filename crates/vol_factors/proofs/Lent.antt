@@ -2,18 +2,18 @@
 use Rattle.std.proofs.Common.{◌≡◌, ℕ, ◌≤◌, List, map, sym, ap, ◌∙◌, subst, unsigned_abs}
 use Rattle.std.specs.Prelude.{sum_by}
 use Rattle.std.proofs.lemmas.Simd.{map-map}
-use Rattle.simm_kinds.specs.declared.kinds.ProductClass.{ProductClass}
-use Rattle.simm_kinds.specs.declared.kinds.Tenor.{Tenor}
-use Rattle.simm_kinds.specs.declared.bucket.Bucket.{Bucket}
-use Rattle.simm_kinds.specs.declared.key.FactorKey.{FactorKey}
-use Rattle.simm_kinds.specs.Tenors.{tenor_at}
-use Rattle.simm_rules.specs.Risks.{RateVolatility, CreditClass, CreditPoint, PricedClass, Amount}
-use Rattle.simm_rules.specs.Priced.{NameVolatility}
-use Rattle.simm_rules.specs.ForeignExchange.{PairVolatility}
-use Rattle.factor_book.specs.declared.place.Place.{Place}
-use Rattle.factor_book.specs.declared.holding.Holding.{Holding}
-use Rattle.factor_book.specs.Factors.{IsBook}
-use Rattle.factor_book.specs.Places.{factors_at}
+use Rattle.ir_delta.specs.SimmKinds.declared.kinds.ProductClass.{ProductClass}
+use Rattle.ir_delta.specs.SimmKinds.declared.kinds.Tenor.{Tenor}
+use Rattle.ir_delta.specs.SimmKinds.declared.bucket.Bucket.{Bucket}
+use Rattle.ir_delta.specs.SimmKinds.declared.key.FactorKey.{FactorKey}
+use Rattle.ir_delta.specs.SimmKinds.Tenors.{tenor_at}
+use Rattle.ir_delta.specs.SimmRules.Risks.{RateVolatility, CreditClass, CreditPoint, PricedClass, Amount}
+use Rattle.ir_delta.specs.SimmRules.Priced.{NameVolatility}
+use Rattle.ir_delta.specs.SimmRules.ForeignExchange.{PairVolatility}
+use Rattle.ir_delta.specs.FactorBook.declared.place.Place.{Place}
+use Rattle.ir_delta.specs.FactorBook.declared.holding.Holding.{Holding}
+use Rattle.ir_delta.specs.FactorBook.Factors.{IsBook}
+use Rattle.ir_delta.specs.FactorBook.Places.{factors_at}
 use Rattle.name_delta.proofs.Sizes.{sum_by-map}
 use Rattle.vol_factors.specs.declared.tenor_scale.TenorScale.{TenorScale}
 use Rattle.vol_factors.specs.Places.{currency_place, points_place, names_place, volatilities_of, points_of, name_volatilities, pairs_place, pair_volatilities}

@@ -15,3 +15,8 @@ pub mod InRange
 pub mod Sigmas
 pub mod Lent
 pub mod Currencies
+pub use Rattle.ir_delta.proofs.MhUnits as MhUnits
+pub use Rattle.ir_delta.proofs.FactorBook as FactorBook
+pub use Rattle.ir_delta.proofs.PairSums as PairSums
+pub use Rattle.ir_delta.proofs as IrDelta
+pub use Rattle.name_delta.proofs as NameDelta

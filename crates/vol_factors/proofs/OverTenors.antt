@@ -9,12 +9,12 @@ use Rattle.std.specs.List.Sorted.{IsStrictlySortedBy}
 use Rattle.std.proofs.lemmas.Int.{ints}
 use Rattle.std.proofs.lemmas.Map.Lookups.{CmpEqualImpliesEq}
 use Rattle.std.proofs.lemmas.Simd.{map-map}
-use Rattle.simm_kinds.specs.declared.kinds.Tenor.{Tenor}
-use Rattle.simm_kinds.specs.Order.{tenor_place}
-use Rattle.simm_rules.specs.Sums.{total_by, different}
-use Rattle.simm_rules.specs.Risks.{Amount}
-use Rattle.factor_book.proofs.Sorting.{different_ascends}
-use Rattle.factor_book.proofs.Sums.{total_by-map}
+use Rattle.ir_delta.specs.SimmKinds.declared.kinds.Tenor.{Tenor}
+use Rattle.ir_delta.specs.SimmKinds.Order.{tenor_place}
+use Rattle.ir_delta.specs.SimmRules.Sums.{total_by, different}
+use Rattle.ir_delta.specs.SimmRules.Risks.{Amount}
+use Rattle.ir_delta.proofs.FactorBook.Sorting.{different_ascends}
+use Rattle.ir_delta.proofs.FactorBook.Sums.{total_by-map}
 use Rattle.name_delta.proofs.Lists.{each_weaker, each_map, each_unmap, map-filter, map-itself}
 use Rattle.vol_factors.specs.declared.tenor_scale.TenorScale.{TenorScale}
 use Rattle.vol_factors.specs.declared.tenor_scale.TenorScale.TheVariants as scale

@@ -8,19 +8,19 @@ use Rattle.std.specs.Str.{bytes_eq}
 use Rattle.std.proofs.lemmas.Cmp.{nat_list_cmp_total, on_total, then_total}
 use Rattle.std.proofs.lemmas.Map.Lookups.{CmpEqualImpliesEq, exact_bytes}
 use Rattle.std.proofs.lemmas.Map.Text.{is_eq-slice_cmp}
-use Rattle.simm_kinds.specs.declared.kinds.ProductClass.{ProductClass}
-use Rattle.simm_kinds.specs.declared.kinds.BucketId.TheVariants as id
-use Rattle.simm_kinds.specs.declared.factor.Factor.{Factor}
-use Rattle.simm_kinds.specs.declared.factor.Factor.TheVariants as factor
-use Rattle.simm_kinds.specs.declared.key.FactorKey.{FactorKey}
-use Rattle.simm_kinds.specs.Factors.{bucket_id_of}
-use Rattle.simm_kinds.specs.Pair.{Pair}
-use Rattle.simm_kinds.specs.Order.{same_product, key_cmp, name_cmp, pair_cmp, same_pair, tenor_place, same_bucket_id}
-use Rattle.simm_rules.specs.Risks.{risk, Amount}
-use Rattle.simm_rules.specs.ForeignExchange.{PairVolatility, as_pair_volatility}
-use Rattle.factor_book.specs.declared.holding.Holding.{Holding}
-use Rattle.factor_book.specs.Factors.{IsBook}
-use Rattle.factor_book.specs.Places.{stands_at}
+use Rattle.ir_delta.specs.SimmKinds.declared.kinds.ProductClass.{ProductClass}
+use Rattle.ir_delta.specs.SimmKinds.declared.kinds.BucketId.TheVariants as id
+use Rattle.ir_delta.specs.SimmKinds.declared.factor.Factor.{Factor}
+use Rattle.ir_delta.specs.SimmKinds.declared.factor.Factor.TheVariants as factor
+use Rattle.ir_delta.specs.SimmKinds.declared.key.FactorKey.{FactorKey}
+use Rattle.ir_delta.specs.SimmKinds.Factors.{bucket_id_of}
+use Rattle.ir_delta.specs.SimmKinds.Pair.{Pair}
+use Rattle.ir_delta.specs.SimmKinds.Order.{same_product, key_cmp, name_cmp, pair_cmp, same_pair, tenor_place, same_bucket_id}
+use Rattle.ir_delta.specs.SimmRules.Risks.{risk, Amount}
+use Rattle.ir_delta.specs.SimmRules.ForeignExchange.{PairVolatility, as_pair_volatility}
+use Rattle.ir_delta.specs.FactorBook.declared.holding.Holding.{Holding}
+use Rattle.ir_delta.specs.FactorBook.Factors.{IsBook}
+use Rattle.ir_delta.specs.FactorBook.Places.{stands_at}
 use Rattle.name_delta.proofs.Keys.{then_Equal, and_trues, and_other, and_side, key_with, by_factor}
 use Rattle.name_delta.proofs.Lists.{map-itself}
 use Rattle.name_delta.proofs.Selected.{issuers_place, select_ascends}

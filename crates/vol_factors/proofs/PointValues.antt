@@ -2,21 +2,21 @@
 use Rattle.std.proofs.Common.{◌≡◌, ◌≢◌, ℕ, ◌<◌, List, [], map, length, get_or, Bool, true, false, if◌then◌else◌, refl, ap, ◌∙◌, ℤ, pos, arith}
 use Rattle.std.specs.List.Sorted.{IsStrictlySortedBy}
 use Rattle.std.proofs.lemmas.Int.{ints}
-use Rattle.simm_kinds.specs.declared.credit_tenor.CreditTenor.TheVariants as credit
-use Rattle.simm_kinds.specs.Order.{same_name}
-use Rattle.simm_rules.specs.Params.{CreditBucket}
-use Rattle.simm_rules.specs.Lookups.{six}
-use Rattle.simm_rules.specs.Risks.{CreditPoint, credit_point, Amount}
-use Rattle.simm_rules.specs.Concentration.{one}
-use Rattle.simm_rules.specs.Bucket.{Weighted}
-use Rattle.simm_rules.specs.Bucket.{bucket_value as value_of_factors}
-use Rattle.simm_rules.specs.Credit.{same_point, credit_rho}
-use Rattle.simm_params.specs.Facts.{IsWeighed}
-use Rattle.weighted_bucket.specs.declared.group.Grouped.{Grouped}
-use Rattle.weighted_bucket.specs.declared.scaling.Scaling.{Scaling}
-use Rattle.weighted_bucket.specs.declared.weighed.Weighed.{Weighed}
-use Rattle.weighted_bucket.specs.Bucket.{bucket_value}
-use Rattle.weighted_bucket.proofs.OverKeys.{correlation_by}
+use Rattle.ir_delta.specs.SimmKinds.declared.credit_tenor.CreditTenor.TheVariants as credit
+use Rattle.ir_delta.specs.SimmKinds.Order.{same_name}
+use Rattle.ir_delta.specs.SimmRules.Params.{CreditBucket}
+use Rattle.ir_delta.specs.SimmRules.Lookups.{six}
+use Rattle.ir_delta.specs.SimmRules.Risks.{CreditPoint, credit_point, Amount}
+use Rattle.ir_delta.specs.SimmRules.Concentration.{one}
+use Rattle.ir_delta.specs.SimmRules.Bucket.{Weighted}
+use Rattle.ir_delta.specs.SimmRules.Bucket.{bucket_value as value_of_factors}
+use Rattle.ir_delta.specs.SimmRules.Credit.{same_point, credit_rho}
+use Rattle.ir_delta.specs.SimmParams.Facts.{IsWeighed}
+use Rattle.ir_delta.specs.WeightedBucket.declared.group.Grouped.{Grouped}
+use Rattle.ir_delta.specs.WeightedBucket.declared.scaling.Scaling.{Scaling}
+use Rattle.ir_delta.specs.WeightedBucket.declared.weighed.Weighed.{Weighed}
+use Rattle.ir_delta.specs.WeightedBucket.Bucket.{bucket_value}
+use Rattle.ir_delta.proofs.WeightedBucket.OverKeys.{correlation_by}
 use Rattle.name_delta.specs.Alone.{AreTerms}
 use Rattle.name_delta.specs.Points.{AreGrouped, issuer_rho}
 use Rattle.name_delta.specs.Values.{IsInRange, weighed_as}

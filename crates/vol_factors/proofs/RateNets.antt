@@ -8,20 +8,20 @@ use Rattle.std.specs.Ordering.{nat_cmp, ordering_then, is_eq, then_cmp, on}
 use Rattle.std.specs.Cmp.{IsTotalOrder}
 use Rattle.std.proofs.lemmas.Cmp.{nat_cmp_total, nat_list_cmp_total, tied_itself, then_total, on_total}
 use Rattle.std.proofs.lemmas.Map.Lookups.{exact_bytes}
-use Rattle.simm_kinds.specs.declared.kinds.ProductClass.{ProductClass}
-use Rattle.simm_kinds.specs.declared.kinds.BucketId.TheVariants as id
-use Rattle.simm_kinds.specs.declared.factor.Factor.{Factor}
-use Rattle.simm_kinds.specs.declared.factor.Factor.TheVariants as factor
-use Rattle.simm_kinds.specs.declared.key.FactorKey.{FactorKey}
-use Rattle.simm_kinds.specs.Factors.{bucket_id_of}
-use Rattle.simm_kinds.specs.Order.{same_product, same_name, key_cmp, factor_cmp, name_cmp, tenor_place, same_bucket_id}
-use Rattle.simm_kinds.proofs.Variants.{is_eq-Equal}
-use Rattle.simm_rules.specs.Net.{Sensitivity}
-use Rattle.simm_rules.specs.Risks.{Risk, risk, RateVolatility, Of_rates, Of_inflation, Amount, select}
-use Rattle.simm_rules.specs.Rates.{VolatilityIn, as_rate_volatility, same_rate_volatility}
-use Rattle.factor_book.specs.declared.holding.Holding.{Holding}
-use Rattle.factor_book.specs.Factors.{IsBook}
-use Rattle.factor_book.specs.Places.{stands_at}
+use Rattle.ir_delta.specs.SimmKinds.declared.kinds.ProductClass.{ProductClass}
+use Rattle.ir_delta.specs.SimmKinds.declared.kinds.BucketId.TheVariants as id
+use Rattle.ir_delta.specs.SimmKinds.declared.factor.Factor.{Factor}
+use Rattle.ir_delta.specs.SimmKinds.declared.factor.Factor.TheVariants as factor
+use Rattle.ir_delta.specs.SimmKinds.declared.key.FactorKey.{FactorKey}
+use Rattle.ir_delta.specs.SimmKinds.Factors.{bucket_id_of}
+use Rattle.ir_delta.specs.SimmKinds.Order.{same_product, same_name, key_cmp, factor_cmp, name_cmp, tenor_place, same_bucket_id}
+use Rattle.ir_delta.proofs.SimmKinds.Variants.{is_eq-Equal}
+use Rattle.ir_delta.specs.SimmRules.Net.{Sensitivity}
+use Rattle.ir_delta.specs.SimmRules.Risks.{Risk, risk, RateVolatility, Of_rates, Of_inflation, Amount, select}
+use Rattle.ir_delta.specs.SimmRules.Rates.{VolatilityIn, as_rate_volatility, same_rate_volatility}
+use Rattle.ir_delta.specs.FactorBook.declared.holding.Holding.{Holding}
+use Rattle.ir_delta.specs.FactorBook.Factors.{IsBook}
+use Rattle.ir_delta.specs.FactorBook.Places.{stands_at}
 use Rattle.name_delta.specs.Values.{nets_in}
 use Rattle.name_delta.proofs.Keys.{then_Equal, is_eq-nat, and_last, and_other, and_side, and_bucket, key_with, by_factor, chosen, not_chosen}
 use Rattle.name_delta.proofs.Lists.{map-itself}

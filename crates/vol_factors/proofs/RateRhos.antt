@@ -1,15 +1,15 @@
 -- The correlations of a currency's volatilities: the same both ways round, and at most 1 in size.
 use Rattle.std.proofs.Common.{◌≡◌, ℕ, ◌≤◌, List, get_or, ◌==◌, if◌then◌else◌, refl, ap, ◌∙◌, ℤ, pos, unsigned_abs, arith}
 use Rattle.std.proofs.lemmas.Cmp.{nat_eq_equiv}
-use Rattle.mh_units.proofs.Integers.{product_size, size_from_bounds}
-use Rattle.simm_kinds.specs.declared.kinds.Tenor.{Tenor}
-use Rattle.simm_kinds.specs.Order.{tenor_place}
-use Rattle.simm_rules.specs.Params.{Params}
-use Rattle.simm_rules.specs.Lookups.{at_row, six}
-use Rattle.simm_rules.specs.Risks.{RateVolatility, Of_rates, Of_inflation}
-use Rattle.simm_rules.specs.Rates.{tenor_rho, rate_volatility_rho}
-use Rattle.simm_params.specs.Facts.{IsParams}
-use Rattle.simm_params.specs.Weighed.{AreCorrelations}
+use Rattle.ir_delta.proofs.MhUnits.Integers.{product_size, size_from_bounds}
+use Rattle.ir_delta.specs.SimmKinds.declared.kinds.Tenor.{Tenor}
+use Rattle.ir_delta.specs.SimmKinds.Order.{tenor_place}
+use Rattle.ir_delta.specs.SimmRules.Params.{Params}
+use Rattle.ir_delta.specs.SimmRules.Lookups.{at_row, six}
+use Rattle.ir_delta.specs.SimmRules.Risks.{RateVolatility, Of_rates, Of_inflation}
+use Rattle.ir_delta.specs.SimmRules.Rates.{tenor_rho, rate_volatility_rho}
+use Rattle.ir_delta.specs.SimmParams.Facts.{IsParams}
+use Rattle.ir_delta.specs.SimmParams.Weighed.{AreCorrelations}
 use Rattle.ir_delta.proofs.Rhos.{tenor_rho-small}
 use Rattle.vol_factors.specs.declared.rates.VolatilitySum.{VolatilitySum}
 use Rattle.vol_factors.specs.Rates.{rule_volatility, no_sum, rho_at}

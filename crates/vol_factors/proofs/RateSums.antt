@@ -4,17 +4,17 @@ use Rattle.std.specs.List.Sorted.{IsStrictlySortedBy}
 use Rattle.std.proofs.lemmas.Int.{ints}
 use Rattle.std.proofs.lemmas.List.{get_or-map, length-map}
 use Rattle.std.proofs.lemmas.Simd.{map-map}
-use Rattle.simm_kinds.specs.declared.kinds.Tenor.TheVariants as tenor
-use Rattle.simm_rules.specs.Params.{Params}
-use Rattle.simm_rules.specs.Risks.{RateVolatility, Of_rates, Amount}
-use Rattle.simm_rules.specs.Concentration.{one}
-use Rattle.simm_rules.specs.Bucket.{Weighted}
-use Rattle.simm_rules.specs.Bucket.{bucket_value as value_of_factors}
-use Rattle.simm_rules.specs.Rates.{same_rate_volatility, rate_volatility_rho, tenor_of}
-use Rattle.weighted_bucket.specs.declared.scaling.Scaling.{Scaling}
-use Rattle.weighted_bucket.specs.declared.weighed.Weighed.{Weighed}
-use Rattle.weighted_bucket.specs.Bucket.{bucket_value}
-use Rattle.weighted_bucket.proofs.OverKeys.{correlation_by}
+use Rattle.ir_delta.specs.SimmKinds.declared.kinds.Tenor.TheVariants as tenor
+use Rattle.ir_delta.specs.SimmRules.Params.{Params}
+use Rattle.ir_delta.specs.SimmRules.Risks.{RateVolatility, Of_rates, Amount}
+use Rattle.ir_delta.specs.SimmRules.Concentration.{one}
+use Rattle.ir_delta.specs.SimmRules.Bucket.{Weighted}
+use Rattle.ir_delta.specs.SimmRules.Bucket.{bucket_value as value_of_factors}
+use Rattle.ir_delta.specs.SimmRules.Rates.{same_rate_volatility, rate_volatility_rho, tenor_of}
+use Rattle.ir_delta.specs.WeightedBucket.declared.scaling.Scaling.{Scaling}
+use Rattle.ir_delta.specs.WeightedBucket.declared.weighed.Weighed.{Weighed}
+use Rattle.ir_delta.specs.WeightedBucket.Bucket.{bucket_value}
+use Rattle.ir_delta.proofs.WeightedBucket.OverKeys.{correlation_by}
 use Rattle.name_delta.specs.Values.{weighed_as}
 use Rattle.name_delta.proofs.Valued.{value_is}
 use Rattle.vol_factors.specs.declared.rates.VolatilitySum.{VolatilitySum}

@@ -3,14 +3,14 @@ use Rattle.std.proofs.Common.{◌≡◌, ◌^◌, ℕ, ◌+◌, ◌*◌, ◌≤�
 use Rattle.std.specs.Prelude.{sum_by}
 use Rattle.std.proofs.lemmas.Int.{ints}
 use Rattle.std.proofs.lemmas.List.Sums.{sum_by-cons}
-use Rattle.mh_units.proofs.Integers.{product_size}
-use Rattle.simm_kinds.specs.declared.kinds.Tenor.{Tenor}
-use Rattle.simm_kinds.specs.declared.kinds.Tenor.TheVariants as tenor
-use Rattle.simm_kinds.specs.declared.key.FactorKey.{FactorKey}
-use Rattle.simm_rules.specs.Curvature.{scale_of}
-use Rattle.simm_rules.specs.Risks.{Risk, risk, Amount, select}
-use Rattle.factor_book.specs.declared.holding.Holding.{Holding}
-use Rattle.factor_book.specs.Factors.{net_of}
+use Rattle.ir_delta.proofs.MhUnits.Integers.{product_size}
+use Rattle.ir_delta.specs.SimmKinds.declared.kinds.Tenor.{Tenor}
+use Rattle.ir_delta.specs.SimmKinds.declared.kinds.Tenor.TheVariants as tenor
+use Rattle.ir_delta.specs.SimmKinds.declared.key.FactorKey.{FactorKey}
+use Rattle.ir_delta.specs.SimmRules.Curvature.{scale_of}
+use Rattle.ir_delta.specs.SimmRules.Risks.{Risk, risk, Amount, select}
+use Rattle.ir_delta.specs.FactorBook.declared.holding.Holding.{Holding}
+use Rattle.ir_delta.specs.FactorBook.Factors.{net_of}
 use Rattle.name_delta.proofs.Selected.{select_none, select_some}
 use Rattle.vol_factors.specs.declared.tenor_scale.TenorScale.{TenorScale}
 use Rattle.vol_factors.specs.declared.tenor_scale.TenorScale.TheVariants as scale

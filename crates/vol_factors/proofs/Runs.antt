@@ -8,8 +8,8 @@ use Rattle.std.specs.List.{filter, AllByRecursion}
 use Rattle.std.proofs.Math.IntN.{+ℤ_assoc}
 use Rattle.std.proofs.lemmas.Int.{ints}
 use Rattle.std.proofs.lemmas.Cmp.{tied_itself, eq_by_cmp_equiv}
-use Rattle.simm_rules.specs.Sums.{total_by, placed, put_in, different}
-use Rattle.simm_rules.specs.Risks.{Amount}
+use Rattle.ir_delta.specs.SimmRules.Sums.{total_by, placed, put_in, different}
+use Rattle.ir_delta.specs.SimmRules.Risks.{Amount}
 use Rattle.vol_factors.specs.Together.{plus, summed_from, summed}
 use Rattle.name_delta.proofs.Lists.{each_weaker}
 

@@ -4,8 +4,8 @@ use Rattle.std.specs.Prelude.{sum_by}
 use Rattle.std.proofs.Math.Seq.{drop-cons}
 use Rattle.std.proofs.lemmas.List.{get_or-map, length-map, map-append, drop_all}
 use Rattle.std.proofs.lemmas.List.Sums.{sum_by-cons}
-use Rattle.mh_units.proofs.Integers.{unsigned_abs-add}
-use Rattle.simm_rules.specs.Risks.{Amount}
+use Rattle.ir_delta.proofs.MhUnits.Integers.{unsigned_abs-add}
+use Rattle.ir_delta.specs.SimmRules.Risks.{Amount}
 use Rattle.vol_factors.specs.Together.{plus, summed_from, summed}
 
 -- N is a net as the code has it, and `view` what it is to

@@ -4,12 +4,12 @@ use Rattle.std.specs.Prelude.{sum_by}
 use Rattle.std.specs.List.{AllByRecursion}
 use Rattle.std.proofs.lemmas.List.{length-map}
 use Rattle.std.proofs.lemmas.List.Elements.{All-from_recursion}
-use Rattle.simm_kinds.specs.declared.kinds.Tenor.{Tenor}
-use Rattle.simm_kinds.proofs.Variants.{is_eq-Equal}
-use Rattle.simm_rules.specs.Sums.{total_by}
-use Rattle.simm_rules.specs.Risks.{Amount}
-use Rattle.factor_book.proofs.Sorting.{length-different}
-use Rattle.factor_book.proofs.Sums.{total_by-map}
+use Rattle.ir_delta.specs.SimmKinds.declared.kinds.Tenor.{Tenor}
+use Rattle.ir_delta.proofs.SimmKinds.Variants.{is_eq-Equal}
+use Rattle.ir_delta.specs.SimmRules.Sums.{total_by}
+use Rattle.ir_delta.specs.SimmRules.Risks.{Amount}
+use Rattle.ir_delta.proofs.FactorBook.Sorting.{length-different}
+use Rattle.ir_delta.proofs.FactorBook.Sums.{total_by-map}
 use Rattle.name_delta.proofs.Lists.{each_always, each_weaker, each_map, each_unmap, kept_pass}
 use Rattle.name_delta.proofs.Sizes.{total_size, sum_by-map, sum_by-below, sum_by-filter, sum_by-scaled}
 use Rattle.vol_factors.specs.declared.tenor_scale.TenorScale.{TenorScale}

@@ -1,19 +1,19 @@
 -- The buckets that have volatilities, by what stands in them, and how many factors they have.
 -- (ISDA SIMM methodology, structure of the methodology: buckets of the risk classes.)
 use Rattle.std.specs.Prelude.{ℕ, List, length, Option, Some, None, option_map}
-use Rattle.simm_kinds.specs.declared.kinds.ProductClass.{ProductClass}
-use Rattle.simm_kinds.specs.declared.kinds.RiskClass.{RiskClass}
-use Rattle.simm_kinds.specs.declared.kinds.RiskClass.TheVariants as class
-use Rattle.simm_kinds.specs.declared.kinds.BucketId.{BucketId}
-use Rattle.simm_kinds.specs.declared.kinds.BucketId.TheVariants as id
-use Rattle.simm_kinds.specs.declared.bucket.Bucket.{Bucket}
-use Rattle.simm_kinds.specs.declared.key.FactorKey.{FactorKey}
-use Rattle.simm_rules.specs.Risks.{CreditClass, Qualifying, Non_qualifying, PricedClass, Equities, Commodities}
-use Rattle.simm_rules.specs.Priced.{names_of}
-use Rattle.simm_rules.specs.ForeignExchange.{pairs_of}
-use Rattle.simm_params.specs.ClassKinds.{credit_class, priced_class}
-use Rattle.factor_book.specs.declared.at.BucketAt.{BucketAt}
-use Rattle.factor_book.specs.declared.holding.Holding.{Holding}
+use Rattle.ir_delta.specs.SimmKinds.declared.kinds.ProductClass.{ProductClass}
+use Rattle.ir_delta.specs.SimmKinds.declared.kinds.RiskClass.{RiskClass}
+use Rattle.ir_delta.specs.SimmKinds.declared.kinds.RiskClass.TheVariants as class
+use Rattle.ir_delta.specs.SimmKinds.declared.kinds.BucketId.{BucketId}
+use Rattle.ir_delta.specs.SimmKinds.declared.kinds.BucketId.TheVariants as id
+use Rattle.ir_delta.specs.SimmKinds.declared.bucket.Bucket.{Bucket}
+use Rattle.ir_delta.specs.SimmKinds.declared.key.FactorKey.{FactorKey}
+use Rattle.ir_delta.specs.SimmRules.Risks.{CreditClass, Qualifying, Non_qualifying, PricedClass, Equities, Commodities}
+use Rattle.ir_delta.specs.SimmRules.Priced.{names_of}
+use Rattle.ir_delta.specs.SimmRules.ForeignExchange.{pairs_of}
+use Rattle.ir_delta.specs.SimmParams.ClassKinds.{credit_class, priced_class}
+use Rattle.ir_delta.specs.FactorBook.declared.at.BucketAt.{BucketAt}
+use Rattle.ir_delta.specs.FactorBook.declared.holding.Holding.{Holding}
 use Rattle.name_delta.specs.Ids.{listed_id}
 use Rattle.vol_factors.specs.declared.buckets.VolatileAt.{VolatileAt}
 use Rattle.vol_factors.specs.declared.buckets.VolatileAt.TheVariants as volatile

@@ -1,12 +1,12 @@
 -- The volatilities of the points of a bucket of credit.
 -- (ISDA SIMM methodology, credit spread risk: vega and curvature.)
 use Rattle.std.specs.Prelude.{ℕ, List, map, Option, Some, None, ℤ, ◌*ℤ◌}
-use Rattle.simm_kinds.specs.declared.kinds.Tenor.{Tenor}
-use Rattle.simm_kinds.specs.declared.key.FactorKey.{FactorKey}
-use Rattle.simm_kinds.specs.Tenors.{tenor_at}
-use Rattle.simm_rules.specs.Risks.{Risk, Of_rate, Of_rate_volatility, Of_credit, Of_credit_volatility, Of_base_correlation, Of_price, Of_price_volatility, Of_currency, Of_pair_volatility, CreditPoint, Amount, select}
-use Rattle.factor_book.specs.declared.holding.Holding.{Holding}
-use Rattle.factor_book.specs.Factors.{net_of}
+use Rattle.ir_delta.specs.SimmKinds.declared.kinds.Tenor.{Tenor}
+use Rattle.ir_delta.specs.SimmKinds.declared.key.FactorKey.{FactorKey}
+use Rattle.ir_delta.specs.SimmKinds.Tenors.{tenor_at}
+use Rattle.ir_delta.specs.SimmRules.Risks.{Risk, Of_rate, Of_rate_volatility, Of_credit, Of_credit_volatility, Of_base_correlation, Of_price, Of_price_volatility, Of_currency, Of_pair_volatility, CreditPoint, Amount, select}
+use Rattle.ir_delta.specs.FactorBook.declared.holding.Holding.{Holding}
+use Rattle.ir_delta.specs.FactorBook.Factors.{net_of}
 use Rattle.vol_factors.specs.declared.tenor_scale.TenorScale.{TenorScale}
 use Rattle.vol_factors.specs.Scale.{scale_by}
 

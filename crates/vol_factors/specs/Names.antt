@@ -1,15 +1,15 @@
 -- The volatilities of the names of a bucket of equity or of commodities: a name's tenors stand together, and add up.
 -- (ISDA SIMM methodology, equity and commodity risk: vega and curvature.)
 use Rattle.std.specs.Prelude.{ℕ, List, map, Option, Some, None, ℤ, ◌*ℤ◌}
-use Rattle.simm_kinds.specs.declared.key.FactorKey.{FactorKey}
-use Rattle.simm_kinds.specs.Order.{same_name}
-use Rattle.simm_rules.specs.Sums.{total_by}
-use Rattle.simm_rules.specs.Risks.{Risk, Of_rate, Of_rate_volatility, Of_credit, Of_credit_volatility, Of_base_correlation, Of_price, Of_price_volatility, Of_currency, Of_pair_volatility, Amount, select}
-use Rattle.simm_rules.specs.Priced.{NameVolatility, names_of, tenors_of}
-use Rattle.factor_book.specs.declared.place.Place.{Place}
-use Rattle.factor_book.specs.declared.holding.Holding.{Holding}
-use Rattle.factor_book.specs.Factors.{net_of}
-use Rattle.factor_book.specs.Places.{factors_at}
+use Rattle.ir_delta.specs.SimmKinds.declared.key.FactorKey.{FactorKey}
+use Rattle.ir_delta.specs.SimmKinds.Order.{same_name}
+use Rattle.ir_delta.specs.SimmRules.Sums.{total_by}
+use Rattle.ir_delta.specs.SimmRules.Risks.{Risk, Of_rate, Of_rate_volatility, Of_credit, Of_credit_volatility, Of_base_correlation, Of_price, Of_price_volatility, Of_currency, Of_pair_volatility, Amount, select}
+use Rattle.ir_delta.specs.SimmRules.Priced.{NameVolatility, names_of, tenors_of}
+use Rattle.ir_delta.specs.FactorBook.declared.place.Place.{Place}
+use Rattle.ir_delta.specs.FactorBook.declared.holding.Holding.{Holding}
+use Rattle.ir_delta.specs.FactorBook.Factors.{net_of}
+use Rattle.ir_delta.specs.FactorBook.Places.{factors_at}
 use Rattle.vol_factors.specs.declared.tenor_scale.TenorScale.{TenorScale}
 use Rattle.vol_factors.specs.declared.names.NameSum.{NameSum}
 use Rattle.vol_factors.specs.declared.names.NameVolatility.{NameVolatility as HeldVolatility}

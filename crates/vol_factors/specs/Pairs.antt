@@ -1,16 +1,16 @@
 -- The volatilities of the pairs of currencies of a product class: a pair's tenors stand together, and add up.
 -- (ISDA SIMM methodology, foreign exchange risk: vega and curvature.)
 use Rattle.std.specs.Prelude.{List, map, ℤ, ◌*ℤ◌}
-use Rattle.simm_kinds.specs.declared.key.FactorKey.{FactorKey}
-use Rattle.simm_kinds.specs.Pair.{Pair}
-use Rattle.simm_kinds.specs.Order.{same_pair}
-use Rattle.simm_rules.specs.Sums.{total_by}
-use Rattle.simm_rules.specs.Risks.{Amount, select}
-use Rattle.simm_rules.specs.ForeignExchange.{PairVolatility, as_pair_volatility, pairs_of, pair_tenors}
-use Rattle.factor_book.specs.declared.place.Place.{Place}
-use Rattle.factor_book.specs.declared.holding.Holding.{Holding}
-use Rattle.factor_book.specs.Factors.{net_of}
-use Rattle.factor_book.specs.Places.{factors_at}
+use Rattle.ir_delta.specs.SimmKinds.declared.key.FactorKey.{FactorKey}
+use Rattle.ir_delta.specs.SimmKinds.Pair.{Pair}
+use Rattle.ir_delta.specs.SimmKinds.Order.{same_pair}
+use Rattle.ir_delta.specs.SimmRules.Sums.{total_by}
+use Rattle.ir_delta.specs.SimmRules.Risks.{Amount, select}
+use Rattle.ir_delta.specs.SimmRules.ForeignExchange.{PairVolatility, as_pair_volatility, pairs_of, pair_tenors}
+use Rattle.ir_delta.specs.FactorBook.declared.place.Place.{Place}
+use Rattle.ir_delta.specs.FactorBook.declared.holding.Holding.{Holding}
+use Rattle.ir_delta.specs.FactorBook.Factors.{net_of}
+use Rattle.ir_delta.specs.FactorBook.Places.{factors_at}
 use Rattle.vol_factors.specs.declared.tenor_scale.TenorScale.{TenorScale}
 use Rattle.vol_factors.specs.declared.pairs.PairSum.{PairSum}
 use Rattle.vol_factors.specs.declared.pairs.HeldVolatility.{HeldVolatility}

@@ -1,20 +1,20 @@
 -- The volatilities of a bucket among the factors of a book, and where they stand.
 -- (ISDA SIMM methodology, definition of the sensitivities: vega of interest rates, credit, equity, commodities and foreign exchange.)
 use Rattle.std.specs.Prelude.{ℕ, List}
-use Rattle.simm_kinds.specs.declared.kinds.ProductClass.{ProductClass}
-use Rattle.simm_kinds.specs.declared.kinds.RiskClass.TheVariants as class
-use Rattle.simm_kinds.specs.declared.kinds.BucketId.TheVariants as id
-use Rattle.simm_kinds.specs.declared.bucket.Bucket.{Bucket}
-use Rattle.simm_kinds.specs.declared.key.FactorKey.{FactorKey}
-use Rattle.simm_kinds.specs.Factors.{bucket_id_of}
-use Rattle.simm_rules.specs.Risks.{CreditClass, CreditPoint, PricedClass, Amount, select}
-use Rattle.simm_rules.specs.Rates.{VolatilityIn, volatilities_in}
-use Rattle.simm_rules.specs.Credit.{as_credit_volatility}
-use Rattle.simm_rules.specs.Priced.{NameVolatility, as_price_volatility}
-use Rattle.simm_rules.specs.ForeignExchange.{PairVolatility, as_pair_volatility}
-use Rattle.factor_book.specs.declared.place.Place.{Place}
-use Rattle.factor_book.specs.declared.place.BookSide.TheVariants as side
-use Rattle.factor_book.specs.declared.holding.Holding.{Holding}
+use Rattle.ir_delta.specs.SimmKinds.declared.kinds.ProductClass.{ProductClass}
+use Rattle.ir_delta.specs.SimmKinds.declared.kinds.RiskClass.TheVariants as class
+use Rattle.ir_delta.specs.SimmKinds.declared.kinds.BucketId.TheVariants as id
+use Rattle.ir_delta.specs.SimmKinds.declared.bucket.Bucket.{Bucket}
+use Rattle.ir_delta.specs.SimmKinds.declared.key.FactorKey.{FactorKey}
+use Rattle.ir_delta.specs.SimmKinds.Factors.{bucket_id_of}
+use Rattle.ir_delta.specs.SimmRules.Risks.{CreditClass, CreditPoint, PricedClass, Amount, select}
+use Rattle.ir_delta.specs.SimmRules.Rates.{VolatilityIn, volatilities_in}
+use Rattle.ir_delta.specs.SimmRules.Credit.{as_credit_volatility}
+use Rattle.ir_delta.specs.SimmRules.Priced.{NameVolatility, as_price_volatility}
+use Rattle.ir_delta.specs.SimmRules.ForeignExchange.{PairVolatility, as_pair_volatility}
+use Rattle.ir_delta.specs.FactorBook.declared.place.Place.{Place}
+use Rattle.ir_delta.specs.FactorBook.declared.place.BookSide.TheVariants as side
+use Rattle.ir_delta.specs.FactorBook.declared.holding.Holding.{Holding}
 use Rattle.name_delta.specs.Points.{credit_risk_class}
 use Rattle.name_delta.specs.Names.{priced_risk_class}
 use Rattle.name_delta.specs.Values.{nets_in}

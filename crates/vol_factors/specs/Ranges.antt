@@ -1,14 +1,14 @@
 -- The volatilities of a bucket of a book in range.
 use Rattle.std.specs.Prelude.{◌*◌, ◌^◌, ◌≤◌, List, sum_by, ℤ, pos, unsigned_abs, Option, IsSomeAnd}
-use Rattle.simm_kinds.specs.declared.key.FactorKey.{FactorKey}
-use Rattle.simm_rules.specs.Params.{Params, PricedBucket}
-use Rattle.simm_rules.specs.Risks.{Amount}
-use Rattle.simm_rules.specs.Credit.{credit_params}
-use Rattle.simm_rules.specs.Priced.{NameVolatility, priced_params}
-use Rattle.simm_rules.specs.ForeignExchange.{PairVolatility, fx_sigma}
-use Rattle.simm_params.specs.ListedBuckets.{credit_bucket_of, priced_bucket_of}
-use Rattle.factor_book.specs.declared.at.BucketAt.{BucketAt}
-use Rattle.factor_book.specs.declared.holding.Holding.{Holding}
+use Rattle.ir_delta.specs.SimmKinds.declared.key.FactorKey.{FactorKey}
+use Rattle.ir_delta.specs.SimmRules.Params.{Params, PricedBucket}
+use Rattle.ir_delta.specs.SimmRules.Risks.{Amount}
+use Rattle.ir_delta.specs.SimmRules.Credit.{credit_params}
+use Rattle.ir_delta.specs.SimmRules.Priced.{NameVolatility, priced_params}
+use Rattle.ir_delta.specs.SimmRules.ForeignExchange.{PairVolatility, fx_sigma}
+use Rattle.ir_delta.specs.SimmParams.ListedBuckets.{credit_bucket_of, priced_bucket_of}
+use Rattle.ir_delta.specs.FactorBook.declared.at.BucketAt.{BucketAt}
+use Rattle.ir_delta.specs.FactorBook.declared.holding.Holding.{Holding}
 use Rattle.name_delta.specs.Values.{IsInRange}
 use Rattle.vol_factors.specs.Buckets.{VolatileBucket, Currency_bucket, Credit_bucket, Priced_bucket, Pairs_bucket, volatile_bucket}
 use Rattle.vol_factors.specs.Places.{volatilities_of, points_of, name_volatilities, pair_volatilities}

@@ -1,15 +1,15 @@
 -- The volatilities of a currency, and their correlations by their places.
 -- (ISDA SIMM methodology, interest rate risk: vega and curvature.)
 use Rattle.std.specs.Prelude.{ℕ, List, map, slice_index_or, Option, Some, None, ℤ, pos, ◌*ℤ◌}
-use Rattle.simm_kinds.specs.declared.kinds.Tenor.TheVariants as tenor
-use Rattle.simm_kinds.specs.declared.key.FactorKey.{FactorKey}
-use Rattle.simm_rules.specs.Params.{Params}
-use Rattle.simm_rules.specs.Risks.{Risk, RateVolatility, Of_rates, Of_inflation, Amount, select}
-use Rattle.simm_rules.specs.Rates.{VolatilityIn, as_rate_volatility, rate_volatility_rho, tenor_of}
-use Rattle.factor_book.specs.declared.place.Place.{Place}
-use Rattle.factor_book.specs.declared.holding.Holding.{Holding}
-use Rattle.factor_book.specs.Factors.{net_of}
-use Rattle.factor_book.specs.Places.{factors_at}
+use Rattle.ir_delta.specs.SimmKinds.declared.kinds.Tenor.TheVariants as tenor
+use Rattle.ir_delta.specs.SimmKinds.declared.key.FactorKey.{FactorKey}
+use Rattle.ir_delta.specs.SimmRules.Params.{Params}
+use Rattle.ir_delta.specs.SimmRules.Risks.{Risk, RateVolatility, Of_rates, Of_inflation, Amount, select}
+use Rattle.ir_delta.specs.SimmRules.Rates.{VolatilityIn, as_rate_volatility, rate_volatility_rho, tenor_of}
+use Rattle.ir_delta.specs.FactorBook.declared.place.Place.{Place}
+use Rattle.ir_delta.specs.FactorBook.declared.holding.Holding.{Holding}
+use Rattle.ir_delta.specs.FactorBook.Factors.{net_of}
+use Rattle.ir_delta.specs.FactorBook.Places.{factors_at}
 use Rattle.vol_factors.specs.declared.volatility.Volatility.{Volatility}
 use Rattle.vol_factors.specs.declared.volatility.Volatility.TheVariants as volatility
 use Rattle.vol_factors.specs.declared.rates.VolatilitySum.{VolatilitySum}

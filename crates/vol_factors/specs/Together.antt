@@ -1,6 +1,6 @@
 -- Amounts of which those to one thing stand together, as a sum for each.
 use Rattle.std.specs.Prelude.{List, [], ◌∷◌, Bool, if◌then◌else◌, ◌+ℤ◌}
-use Rattle.simm_rules.specs.Risks.{Amount}
+use Rattle.ir_delta.specs.SimmRules.Risks.{Amount}
 
 abbrev pub plus : {A : Type 0} → Amount A → Amount A → Amount A
 plus a b = record { of = b.of; amount = a.amount +ℤ b.amount }

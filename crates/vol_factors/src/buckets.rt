@@ -1,14 +1,14 @@
 //! The buckets that have volatilities, by what stands in them.
 ghost use Rattle.std.specs.Prelude.{◌≡◌, option_map};
-ghost use Rattle.simm_params.specs.ClassKinds.{credit_class, priced_class};
+ghost use Rattle.ir_delta.specs.SimmParams.ClassKinds.{credit_class, priced_class};
 ghost use Rattle.name_delta.specs.Ids.{listed_id};
 ghost use Rattle.vol_factors.specs.Buckets.{bucket_view, credit_bucket_at, currency_bucket_at, pairs_bucket_at, priced_bucket_at, volatile_bucket};
 
 use crate::places::{CreditAt, CurrencyAt, PricedAt};
-use factor_book::BucketAt;
+use ir_delta::factor_book::BucketAt;
+use ir_delta::simm_kinds::{BucketId, ProductClass, RiskClass};
+use ir_delta::simm_params::{CreditKind, PricedKind};
 use name_delta::listed_bucket;
-use simm_kinds::{BucketId, ProductClass, RiskClass};
-use simm_params::{CreditKind, PricedKind};
 
 /// A bucket that has volatilities, by the kind of its class.
 #[derive(Clone, Copy)]

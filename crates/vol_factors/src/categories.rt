@@ -1,11 +1,11 @@
 //! What the volatility categories of currencies say of a pair of them.
 ghost use Rattle.std.specs.Prelude.{◌≡◌};
-ghost use Rattle.simm_rules.specs.ForeignExchange.{fx_sigma};
-ghost use Rattle.simm_params.specs.Ranges.{sigmas, IsWithin};
+ghost use Rattle.ir_delta.specs.SimmRules.ForeignExchange.{fx_sigma};
+ghost use Rattle.ir_delta.specs.SimmParams.Ranges.{sigmas, IsWithin};
 
-use mh_units::Rate4;
-use simm_kinds::CurrencyPair;
-use simm_params::Params;
+use ir_delta::mh_units::Rate4;
+use ir_delta::simm_kinds::CurrencyPair;
+use ir_delta::simm_params::Params;
 
 /// The volatility of a pair by the volatility categories of both currencies, in ten-thousandths.
 pub fn pair_volatility(params: &Params, pair: CurrencyPair) -> Rate4

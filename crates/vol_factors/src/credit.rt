@@ -1,20 +1,20 @@
 //! The volatilities of the points of a bucket of credit.
 ghost use Rattle.std.specs.Prelude.{◌≡◌, ◌*◌, ◌^◌, ◌≤◌, IfOk, map, sum_by, unsigned_abs};
-ghost use Rattle.simm_rules.specs.Risks.{risk};
-ghost use Rattle.simm_params.specs.ClassKinds.{credit_class};
-ghost use Rattle.simm_params.specs.ListedBuckets.{credit_bucket_view};
+ghost use Rattle.ir_delta.specs.SimmRules.Risks.{risk};
+ghost use Rattle.ir_delta.specs.SimmParams.ClassKinds.{credit_class};
+ghost use Rattle.ir_delta.specs.SimmParams.ListedBuckets.{credit_bucket_view};
 ghost use Rattle.name_delta.specs.Points.{AreGrouped};
 ghost use Rattle.vol_factors.specs.Credit.{as_point_tenor, issuer_net, scaled_point, scaled_tenor, tenors_among};
 ghost use Rattle.vol_factors.specs.Places.{points_of};
 
 use crate::places::CreditAt;
 use crate::tenor_scale::TenorScale;
-use factor_book::{Factors, PlaceFactors};
+use ir_delta::factor_book::{Factors, PlaceFactors};
+use ir_delta::simm_kinds::{Factor, FactorKey, Tenor};
+use ir_delta::simm_params::CreditBucket;
+use ir_delta::weighted_bucket::Grouped;
 use name_delta::group_points;
-use simm_kinds::{Factor, FactorKey, Tenor};
-use simm_params::CreditBucket;
 use std::alloc::{AllocError, Global};
-use weighted_bucket::Grouped;
 
 /// The nets to the volatilities of a bucket of credit in a product class in their order, in cents, each times what its tenor
 /// counts. The sizes of the nets come to no more than those of 200,000 amounts that a batch can have. Want of memory is the only

@@ -1,10 +1,10 @@
 //! What the volatilities of a product class come to.
 ghost use Rattle.std.specs.Prelude.{◌≡◌, List, length, sum_by};
-ghost use Rattle.simm_rules.specs.Net.{Sensitivity};
-ghost use Rattle.simm_rules.specs.Sums.{total_by};
-ghost use Rattle.simm_rules.specs.Risks.{select};
-ghost use Rattle.simm_rules.specs.Gross.{size_by};
-ghost use Rattle.simm_rules.specs.Rates.{as_rate_volatility, volatilities_in, volatility_currencies};
+ghost use Rattle.ir_delta.specs.SimmRules.Net.{Sensitivity};
+ghost use Rattle.ir_delta.specs.SimmRules.Sums.{total_by};
+ghost use Rattle.ir_delta.specs.SimmRules.Risks.{select};
+ghost use Rattle.ir_delta.specs.SimmRules.Gross.{size_by};
+ghost use Rattle.ir_delta.specs.SimmRules.Rates.{as_rate_volatility, volatilities_in, volatility_currencies};
 ghost use Rattle.vol_factors.specs.Ranges.{alone};
 
 /// The volatilities of the currencies that have one are, all together, those of rates and inflation of a product class: as many,

@@ -26,3 +26,11 @@ pub use rate_rho::VolatilityRho;
 pub use rates::{VolatilitySum, volatility_sums};
 pub use tenor_scale::TenorScale;
 pub use volatility::Volatility;
+
+// what the crates above reach through this one
+pub use ir_delta;
+pub use ir_delta::{
+    concentration, factor_book, mh_units, pair_sum, simm_kinds, simm_params, simm_rules,
+    weighted_bucket,
+};
+pub use name_delta;

@@ -1,16 +1,16 @@
 //! The names of a bucket of equity or of commodities: what the volatilities of each come to over its tenors.
 ghost use Rattle.std.specs.Prelude.{◌≡◌, ◌+◌, ◌*◌, ◌^◌, ◌≤◌, IfOk, map, option_map, sum_by, unsigned_abs};
-ghost use Rattle.simm_kinds.specs.Order.{same_name};
-ghost use Rattle.simm_rules.specs.Risks.{risk};
-ghost use Rattle.simm_params.specs.ClassKinds.{priced_class};
+ghost use Rattle.ir_delta.specs.SimmKinds.Order.{same_name};
+ghost use Rattle.ir_delta.specs.SimmRules.Risks.{risk};
+ghost use Rattle.ir_delta.specs.SimmParams.ClassKinds.{priced_class};
 ghost use Rattle.vol_factors.specs.Names.{as_name_volatility, nets_among, nets_at, scaled_net, scaled_nets, name_sums_at, name_totals, sum_view, volatility_view};
 ghost use Rattle.vol_factors.specs.Places.{name_volatilities};
 ghost use Rattle.vol_factors.specs.Together.{plus, summed};
 
 use crate::places::PricedAt;
 use crate::tenor_scale::TenorScale;
-use factor_book::{Factors, Place, PlaceFactors};
-use simm_kinds::{Factor, FactorKey, FullName, Tenor};
+use ir_delta::factor_book::{Factors, Place, PlaceFactors};
+use ir_delta::simm_kinds::{Factor, FactorKey, FullName, Tenor};
 use std::alloc::{AllocError, Global};
 
 /// What the net changes for one unit of the volatility of a name come to over its tenors.

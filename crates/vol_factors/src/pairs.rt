@@ -1,15 +1,17 @@
 //! The pairs of currencies of a product class: what the volatilities of each come to over its tenors.
 ghost use Rattle.std.specs.Prelude.{◌≡◌, ◌+◌, ◌*◌, ◌^◌, ◌≤◌, IfOk, map, option_map, sum_by, unsigned_abs};
-ghost use Rattle.simm_kinds.specs.Order.{same_pair};
-ghost use Rattle.simm_rules.specs.Risks.{risk};
-ghost use Rattle.simm_rules.specs.ForeignExchange.{as_pair_volatility};
+ghost use Rattle.ir_delta.specs.SimmKinds.Order.{same_pair};
+ghost use Rattle.ir_delta.specs.SimmRules.Risks.{risk};
+ghost use Rattle.ir_delta.specs.SimmRules.ForeignExchange.{as_pair_volatility};
 ghost use Rattle.vol_factors.specs.Pairs.{held_view, pair_nets_among, pair_nets_at, pair_sums_at, pair_totals, pair_view, scaled_pair, scaled_pairs};
 ghost use Rattle.vol_factors.specs.Places.{pair_volatilities, pairs_place};
 ghost use Rattle.vol_factors.specs.Together.{plus, summed};
 
 use crate::tenor_scale::TenorScale;
-use factor_book::{BookSide, Factors, Place, PlaceFactors};
-use simm_kinds::{BucketId, CurrencyPair, Factor, FactorKey, ProductClass, RiskClass, Tenor};
+use ir_delta::factor_book::{BookSide, Factors, Place, PlaceFactors};
+use ir_delta::simm_kinds::{
+    BucketId, CurrencyPair, Factor, FactorKey, ProductClass, RiskClass, Tenor,
+};
 use std::alloc::{AllocError, Global};
 
 /// What the net changes for one unit of the volatility of a pair come to over its tenors.

@@ -1,12 +1,12 @@
 //! The buckets whose volatilities are asked for, and where these stand in a book.
 ghost use Rattle.std.specs.Prelude.{◌≡◌};
-ghost use Rattle.simm_params.specs.ClassKinds.{credit_class, priced_class};
+ghost use Rattle.ir_delta.specs.SimmParams.ClassKinds.{credit_class, priced_class};
 ghost use Rattle.vol_factors.specs.Places.{currency_place, points_place, names_place};
 
-use factor_book::{BookSide, Place};
+use ir_delta::factor_book::{BookSide, Place};
+use ir_delta::simm_kinds::{Bucket, BucketId, Currency, ProductClass, RiskClass};
+use ir_delta::simm_params::{CreditKind, PricedKind};
 use name_delta::bucket_id;
-use simm_kinds::{Bucket, BucketId, Currency, ProductClass, RiskClass};
-use simm_params::{CreditKind, PricedKind};
 
 /// The bucket of a currency in a product class.
 #[derive(Clone, Copy)]

@@ -4,10 +4,10 @@ ghost use Rattle.vol_factors.specs.Rates.{rho_at, rho_of};
 
 use crate::rates::VolatilitySum;
 use crate::volatility::Volatility;
-use mh_units::Corr6;
+use ir_delta::mh_units::Corr6;
+use ir_delta::simm_params::Params;
+use ir_delta::weighted_bucket::Rho;
 use name_delta::in_millionths;
-use simm_params::Params;
-use weighted_bucket::Rho;
 
 /// The parameters' correlations of the volatilities of one currency, by their places.
 #[derive(Drop)]

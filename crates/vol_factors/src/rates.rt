@@ -6,7 +6,7 @@ ghost use Rattle.vol_factors.specs.Rates.{alone_of, scaled_volatility, sum_view,
 use crate::places::CurrencyAt;
 use crate::tenor_scale::TenorScale;
 use crate::volatility::Volatility;
-use factor_book::{Factors, PlaceFactors};
+use ir_delta::factor_book::{Factors, PlaceFactors};
 use std::alloc::{AllocError, Global};
 
 /// The net sensitivity to a volatility of a currency.

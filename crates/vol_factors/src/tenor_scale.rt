@@ -1,8 +1,8 @@
 ghost use Rattle.std.specs.Prelude.{◌≡◌, ◌*◌, ◌^◌, ◌≤◌, ◌*ℤ◌, unsigned_abs};
-ghost use Rattle.simm_rules.specs.Curvature.{scale_of};
+ghost use Rattle.ir_delta.specs.SimmRules.Curvature.{scale_of};
 ghost use Rattle.vol_factors.specs.Scale.{scale_by};
 
-use simm_kinds::Tenor;
+use ir_delta::simm_kinds::Tenor;
 
 /// How much the net sensitivity to a volatility counts by its tenor.
 #[derive(Clone, Copy)]

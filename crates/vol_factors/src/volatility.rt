@@ -1,9 +1,9 @@
 ghost use Rattle.std.specs.Prelude.{◌≡◌};
-ghost use Rattle.simm_rules.specs.Risks.{risk};
-ghost use Rattle.simm_rules.specs.Rates.{tenor_of};
+ghost use Rattle.ir_delta.specs.SimmRules.Risks.{risk};
+ghost use Rattle.ir_delta.specs.SimmRules.Rates.{tenor_of};
 ghost use Rattle.vol_factors.specs.Rates.{as_volatility, rule_volatility, rule_volatilities};
 
-use simm_kinds::{Factor, FactorKey, Tenor};
+use ir_delta::simm_kinds::{Factor, FactorKey, Tenor};
 
 /// A volatility of a currency, by what its correlations go by.
 #[derive(Clone, Copy)]

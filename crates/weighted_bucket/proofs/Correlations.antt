@@ -3,11 +3,11 @@ use Rattle.std.proofs.Common.{◌≡◌, ℕ, ◌<◌, ◌≤◌, List, length, 
 use Rattle.std.specs.Int.{int_min, int_max}
 use Rattle.std.proofs.lemmas.Int.{ints, clamps}
 use Rattle.std.proofs.lemmas.List.{length-map}
-use Rattle.mh_units.specs.Rounding.{down, trunc, up}
-use Rattle.mh_units.proofs.Roundings.{correlation_size, up_is}
+use Rattle.concentration.specs.MhUnits.Rounding.{down, trunc, up}
+use Rattle.concentration.proofs.MhUnits.Roundings.{correlation_size, up_is}
 use Rattle.concentration.proofs.Factors.{ratio_bounds, ratio_of_equals}
-use Rattle.simm_rules.specs.Concentration.{one, ratio}
-use Rattle.simm_rules.specs.Bucket.{combined}
+use Rattle.concentration.specs.SimmRules.Concentration.{one, ratio}
+use Rattle.concentration.specs.SimmRules.Bucket.{combined}
 use Rattle.pair_sum.specs.PairTotal.{at_place}
 use Rattle.pair_sum.proofs.Sums.{sum_below-ext}
 use Rattle.pair_sum.proofs.Itself.{with_itself-symmetric, with_itself-at_most_one}

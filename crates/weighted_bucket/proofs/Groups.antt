@@ -7,9 +7,9 @@ use Rattle.std.proofs.lemmas.Bool.{cases_lt, eq-eqb, ne_eqb}
 use Rattle.std.proofs.lemmas.Int.{ints, fits_signed_from_abs}
 use Rattle.std.proofs.lemmas.List.{get_or-map, map-append, take_more}
 use Rattle.std.proofs.lemmas.List.Sums.{get_or-le-sum_by}
-use Rattle.mh_units.specs.declared.quantities.Corr6.{Corr6}
-use Rattle.simm_rules.specs.Concentration.{cr}
-use Rattle.simm_rules.specs.Sums.{total_by}
+use Rattle.concentration.specs.MhUnits.declared.quantities.Corr6.{Corr6}
+use Rattle.concentration.specs.SimmRules.Concentration.{cr}
+use Rattle.concentration.specs.SimmRules.Sums.{total_by}
 use Rattle.pair_sum.specs.PairTotal.{sum_below, at_place}
 use Rattle.pair_sum.proofs.Sums.{sizes_below-all, sizes_below-le, sizes_below-mono, total_by-places}
 use Rattle.weighted_bucket.specs.declared.group.Grouped.{Grouped}

@@ -4,12 +4,12 @@ use Rattle.std.proofs.Common.{◌≡◌, ◌≢◌, ℕ, ◌<◌, List, [], ◌�
 use Rattle.std.proofs.lemmas.Bool.{eq-eqb, false≢true}
 use Rattle.std.proofs.lemmas.List.{get_or-map}
 use Rattle.std.proofs.lemmas.Simd.{map-map}
-use Rattle.mh_units.specs.Rounding.{clamp}
-use Rattle.simm_rules.specs.declared.values.BucketMargin.{BucketMargin}
-use Rattle.simm_rules.specs.Concentration.{one}
-use Rattle.simm_rules.specs.Sums.{total_by, total_by_pairs}
-use Rattle.simm_rules.specs.Bucket.{Weighted, plain, concentrated, squared, root_of, pair_sum, weighted_sum}
-use Rattle.simm_rules.specs.Bucket.{bucket_value as value_of_factors}
+use Rattle.concentration.specs.MhUnits.Rounding.{clamp}
+use Rattle.concentration.specs.SimmRules.declared.values.BucketMargin.{BucketMargin}
+use Rattle.concentration.specs.SimmRules.Concentration.{one}
+use Rattle.concentration.specs.SimmRules.Sums.{total_by, total_by_pairs}
+use Rattle.concentration.specs.SimmRules.Bucket.{Weighted, plain, concentrated, squared, root_of, pair_sum, weighted_sum}
+use Rattle.concentration.specs.SimmRules.Bucket.{bucket_value as value_of_factors}
 use Rattle.pair_sum.proofs.OverLists.{pair_total-keys}
 use Rattle.weighted_bucket.specs.declared.scaling.Scaling.{Scaling}
 use Rattle.weighted_bucket.specs.declared.scaling.Scaling.TheVariants as scaling

@@ -2,7 +2,7 @@
 use Rattle.std.proofs.Common.{◌≡◌, ◌^◌, ◌*◌, ◌<◌, ◌≤◌, ℤ, ◌*ℤ◌, unsigned_abs, FitsSigned, ap, ◌∙◌, arith, mul-le-mul_left, mul-le-mul_right}
 use Rattle.std.specs.Int.{w128, cast_signed, cast_unsigned}
 use Rattle.std.proofs.lemmas.Int.{fits_signed_from_abs, unsigned_abs-mul}
-use Rattle.mh_units.proofs.Integers.{same128}
+use Rattle.concentration.proofs.MhUnits.Integers.{same128}
 
 -- two factors, each passed on
 pub factors_passed : (f g x y : ℤ) → FitsSigned w128 f → FitsSigned w128 g → f ≡ x → g ≡ y → cast_signed w128 (cast_unsigned w128 f) *ℤ cast_signed w128 (cast_unsigned w128 g) ≡ x *ℤ y

@@ -4,7 +4,7 @@ use Rattle.std.specs.Int.{w128}
 use Rattle.std.proofs.lemmas.Int.{fits_signed_from_abs}
 use Rattle.std.proofs.lemmas.List.{get_or-map}
 use Rattle.std.proofs.lemmas.List.Sums.{get_or-le-sum_by}
-use Rattle.mh_units.proofs.Integers.{unsigned_abs-add}
+use Rattle.concentration.proofs.MhUnits.Integers.{unsigned_abs-add}
 use Rattle.pair_sum.specs.PairTotal.{sum_below, at_place}
 use Rattle.pair_sum.proofs.Sums.{sizes_below, sizes_below-all, sizes_below-mono, total_by-places}
 use Rattle.weighted_bucket.specs.declared.weighed.Weighed.{Weighed}

@@ -1,11 +1,11 @@
 -- The value of a bucket.
 -- (ISDA SIMM methodology, aggregation within a bucket.)
 use Rattle.std.specs.Prelude.{ℕ, List, map, ℤ, pos, unsigned_abs}
-use Rattle.mh_units.specs.Rounding.{clamp}
-use Rattle.mh_units.specs.declared.quantities.Corr6.{Corr6}
-use Rattle.simm_rules.specs.declared.values.BucketMargin.{BucketMargin}
-use Rattle.simm_rules.specs.Bucket.{root_of}
-use Rattle.simm_rules.specs.Sums.{total_by}
+use Rattle.concentration.specs.MhUnits.Rounding.{clamp}
+use Rattle.concentration.specs.MhUnits.declared.quantities.Corr6.{Corr6}
+use Rattle.concentration.specs.SimmRules.declared.values.BucketMargin.{BucketMargin}
+use Rattle.concentration.specs.SimmRules.Bucket.{root_of}
+use Rattle.concentration.specs.SimmRules.Sums.{total_by}
 use Rattle.pair_sum.specs.PairTotal.{pair_total}
 use Rattle.weighted_bucket.specs.declared.scaling.Scaling.{Scaling}
 use Rattle.weighted_bucket.specs.declared.weighed.Weighed.{Weighed}

@@ -2,8 +2,8 @@
 -- (ISDA SIMM methodology: delta and vega margin, correlations times the ratio of concentrations; curvature margin, squared
 -- correlations.)
 use Rattle.std.specs.Prelude.{◌≡◌, ℕ, ◌<◌, List, length, slice_index_or, ℤ, pos}
-use Rattle.simm_rules.specs.Concentration.{ratio}
-use Rattle.simm_rules.specs.Bucket.{combined}
+use Rattle.concentration.specs.SimmRules.Concentration.{ratio}
+use Rattle.concentration.specs.SimmRules.Bucket.{combined}
 use Rattle.pair_sum.specs.WithItself.{with_itself}
 use Rattle.weighted_bucket.specs.declared.scaling.Scaling.{Scaling}
 use Rattle.weighted_bucket.specs.declared.scaling.Scaling.TheVariants as scaling

@@ -2,8 +2,8 @@
 -- (ISDA SIMM methodology, concentration: the concentration risk factor of a group of sensitivities.)
 use Rattle.std.specs.Prelude.{ℕ, ◌*◌, ◌^◌, ◌≤◌, List, slice_index_or, ◌==◌, ℤ, pos, ◌≤ℤ◌, unsigned_abs}
 use Rattle.std.specs.List.{filter}
-use Rattle.simm_rules.specs.Concentration.{cr}
-use Rattle.simm_rules.specs.Sums.{total_by}
+use Rattle.concentration.specs.SimmRules.Concentration.{cr}
+use Rattle.concentration.specs.SimmRules.Sums.{total_by}
 use Rattle.weighted_bucket.specs.declared.group.Grouped.{Grouped}
 
 -- the sum of the amounts of a group

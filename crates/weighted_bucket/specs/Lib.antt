@@ -1,3 +1,4 @@
 pub mod Correlated
 pub mod Bucket
 pub mod Group
+pub use Rattle.pair_sum.specs as PairSums

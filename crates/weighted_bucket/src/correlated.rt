@@ -1,14 +1,14 @@
 ghost use Rattle.std.specs.Prelude.{◌≡◌, ℕ, ◌<◌, ◌≤◌, All, length, pos, ◌≤ℤ◌, ◌<ℤ◌, unsigned_abs};
 ghost use Rattle.pair_sum.specs.WithItself.{with_itself-one};
-ghost use Rattle.simm_rules.specs.Concentration.{one};
+ghost use Rattle.concentration.specs.SimmRules.Concentration.{one};
 ghost use Rattle.weighted_bucket.specs.Correlated.{correlation, scaled_at};
 
 use crate::rho::Rho;
 use crate::scaling::Scaling;
 use crate::way::Way;
 use crate::weighed::Weighed;
+use concentration::mh_units::Corr6;
 use concentration::{combine, ratio};
-use mh_units::Corr6;
 use pair_sum::Correlation;
 
 /// The correlations of the factors of one bucket, by their places.

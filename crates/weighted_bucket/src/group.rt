@@ -4,7 +4,7 @@ ghost use Rattle.std.specs.List.Sorted.{IsNonDecreasingBy};
 ghost use Rattle.weighted_bucket.specs.Group.{CanConcentrate, at, group_factor, group_net};
 
 use concentration::cr;
-use mh_units::Corr6;
+use concentration::mh_units::Corr6;
 use std::alloc::{AllocError, Global};
 
 /// The amount of one factor, and its concentration group.

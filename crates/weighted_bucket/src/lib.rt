@@ -19,3 +19,7 @@ pub use margin::bucket_margin;
 pub use rho::Rho;
 pub use scaling::Scaling;
 pub use weighed::{Weighed, weigh};
+
+// what the crates above reach through this one
+pub use concentration;
+pub use pair_sum;

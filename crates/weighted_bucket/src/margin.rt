@@ -1,5 +1,5 @@
 ghost use Rattle.std.specs.Prelude.{◌≡◌, ◌+◌, ◌*◌, ◌^◌, ◌<◌, ◌≤◌, All, length, sum_by, pos, ◌≤ℤ◌, ◌<ℤ◌, unsigned_abs};
-ghost use Rattle.simm_rules.specs.Concentration.{one};
+ghost use Rattle.concentration.specs.SimmRules.Concentration.{one};
 ghost use Rattle.weighted_bucket.specs.Bucket.{bucket_value};
 
 use crate::pairs::scaled_pairs;
@@ -7,9 +7,9 @@ use crate::rho::Rho;
 use crate::scaling::Scaling;
 use crate::sums::{gross, sum};
 use crate::weighed::Weighed;
-use mh_units::{Corr6, clamp_to};
+use concentration::mh_units::{Corr6, clamp_to};
+use concentration::simm_rules::BucketMargin;
 use pair_sum::{Steps, bucket_root};
-use simm_rules::BucketMargin;
 use std::sync::ledger::Ledger;
 
 /// The value of the bucket of these factors, whose correlations are made of `rho`. `cr` is the bucket's concentration factor:

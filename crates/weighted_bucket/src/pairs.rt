@@ -1,6 +1,6 @@
 ghost use Rattle.std.specs.Prelude.{◌≡◌, ◌+◌, ◌*◌, ◌^◌, ◌<◌, ◌≤◌, All, length, sum_by, pos, ◌≤ℤ◌, ◌<ℤ◌, unsigned_abs};
 ghost use Rattle.std.specs.Bool.{OnTrue};
-ghost use Rattle.simm_rules.specs.Concentration.{one};
+ghost use Rattle.concentration.specs.SimmRules.Concentration.{one};
 ghost use Rattle.weighted_bucket.specs.Bucket.{pairs_of};
 ghost use Rattle.weighted_bucket.specs.Correlated.{ShareConcentration};
 ghost use Rattle.weighted_bucket.specs.declared.scaling.Scaling.TheVariants as ways;

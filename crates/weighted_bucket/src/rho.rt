@@ -1,6 +1,6 @@
 ghost use Rattle.std.specs.Prelude.{◌≡◌, ℕ, ◌<◌, ◌≤◌, ℤ, unsigned_abs};
 
-use mh_units::Corr6;
+use concentration::mh_units::Corr6;
 
 /// The parameters' correlations of two different factors of a bucket, by their places: the same both ways round, and between
 /// -1 and 1. What is looked up for a factor, as its tenor or its category, is looked up once, when the table is made.

@@ -1,7 +1,7 @@
 ghost use Rattle.std.specs.Prelude.{◌≡◌, ◌*◌, ◌^◌, ◌<◌, ◌≤◌, unsigned_abs};
-ghost use Rattle.simm_rules.specs.Bucket.{weighted_value};
+ghost use Rattle.concentration.specs.SimmRules.Bucket.{weighted_value};
 
-use mh_units::{Corr6, Rate4, div_away};
+use concentration::mh_units::{Corr6, Rate4, div_away};
 use pair_sum::Weighted;
 
 /// A factor of a bucket.

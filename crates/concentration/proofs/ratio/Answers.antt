@@ -1,7 +1,7 @@
 use Rattle.std.proofs.Common.{◌∙◌, ap, sym, rules, arith, FitsSigned}
 use Rattle.std.proofs.lemmas.Int.{to_z-of_z}
 use Rattle.std.specs.Int.{w64, cast_signed}
-use Rattle.mh_units.proofs.Integers.{same64}
+use Rattle.simm_rules.proofs.MhUnits.Integers.{same64}
 use Rattle.concentration.proofs.Factors.{ratio_of_equals}
 use Rattle.concentration.proofs.ratio.Goals as goal
 

@@ -1,5 +1,5 @@
 use Rattle.std.proofs.Common.{rules}
-use Rattle.mh_units.specs.Rounding.{root}
+use Rattle.simm_rules.specs.MhUnits.Rounding.{root}
 use Rattle.concentration.proofs.Factors.{root_small}
 use Rattle.concentration.proofs.root_of_ratio.Goals as goal
 

@@ -10,8 +10,8 @@ ghost use Rattle.simm_params.specs.Weighed.{IsWeighedCredit, AreWeighedCredit};
 use super::Params;
 use crate::class_kind::CreditKind;
 use crate::classes::{CreditBucket, CreditParams};
-use mh_units::Rate4;
-use simm_kinds::Bucket;
+use simm_rules::mh_units::Rate4;
+use simm_rules::simm_kinds::Bucket;
 
 impl Params {
     ghost use Rattle.simm_params.specs.ClassView.{credit_view};

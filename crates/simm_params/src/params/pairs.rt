@@ -1,6 +1,6 @@
 //! The look-ups of volatilities of currency pairs.
 ghost use Rattle.std.specs.Prelude.{◌≡◌, ◌≤◌, pos, unsigned_abs};
-ghost use Rattle.simm_kinds.specs.Pair.{Pair};
+ghost use Rattle.simm_rules.specs.SimmKinds.Pair.{Pair};
 ghost use Rattle.simm_rules.specs.ForeignExchange.{fx_vega_threshold as threshold_of};
 ghost use Rattle.simm_params.specs.FxLookups.{pair_threshold};
 ghost use Rattle.simm_params.specs.Ranges.{vega_weights, hvrs, IsWithin};
@@ -8,7 +8,7 @@ ghost use Rattle.simm_params.specs.Facts.{IsWeighed};
 
 use super::Params;
 use crate::category::ConcentrationCategory;
-use mh_units::Rate4;
+use simm_rules::mh_units::Rate4;
 
 impl Params {
     /// What follows at every pair. It does nothing.

@@ -11,8 +11,8 @@ ghost use Rattle.simm_params.specs.Weighed.{IsWeighedPriced, AreWeighedPriced};
 use super::Params;
 use crate::class_kind::PricedKind;
 use crate::classes::{PricedBucket, PricedParams};
-use mh_units::Rate4;
-use simm_kinds::Bucket;
+use simm_rules::mh_units::Rate4;
+use simm_rules::simm_kinds::Bucket;
 
 impl Params {
     ghost use Rattle.simm_params.specs.ClassView.{priced_view};

@@ -1,6 +1,6 @@
 //! The look-ups of interest rates.
 ghost use Rattle.std.specs.Prelude.{◌≡◌, ◌≤◌, List, ℕ, unsigned_abs};
-ghost use Rattle.simm_kinds.specs.Order.{tenor_place};
+ghost use Rattle.simm_rules.specs.SimmKinds.Order.{tenor_place};
 ghost use Rattle.simm_rules.specs.Lookups.{at_place};
 ghost use Rattle.simm_rules.specs.Rates.{curve_weights, rate_thresholds, tenor_rho, sub_rho};
 ghost use Rattle.simm_params.specs.Ranges.{weights, vega_weights, ir_hvrs, IsWithin};
@@ -11,8 +11,8 @@ ghost use Rattle.simm_params.specs.Weighed.{AreCorrelations, AreRatesWeighed};
 use super::Params;
 use crate::category::CurveCategory;
 use crate::thresholds::Thresholds;
-use mh_units::Rate4;
-use simm_kinds::{Currency, SubCurve, Tenor};
+use simm_rules::mh_units::Rate4;
+use simm_rules::simm_kinds::{Currency, SubCurve, Tenor};
 
 /// The correlation of a rate with itself.
 const UNIT: Rate4 = Rate4(10_000);

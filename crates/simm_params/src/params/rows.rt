@@ -3,7 +3,7 @@ ghost use Rattle.std.specs.Prelude.{◌≡◌};
 ghost use Rattle.simm_rules.specs.Admits.{admits_factor, admits};
 
 use super::Params;
-use simm_kinds::{Bucket, CrifRow, Factor};
+use simm_rules::simm_kinds::{Bucket, CrifRow, Factor};
 
 impl Params {
     /// Whether the file lists the bucket of a factor; one without a numbered or residual bucket is admitted.

@@ -1,4 +1,4 @@
-use Rattle.name_delta.specs.Values.{nets_in}
+use Rattle.class_volatility.specs.NameDelta.Values.{nets_in}
 use Rattle.book_margin.proofs.Parts.{parts_of}
 use Rattle.book_margin.proofs.class.class_from.Goals as goal
 

@@ -1,8 +1,8 @@
 use Rattle.std.proofs.Common.{◌≡◌, false, ap}
 use Rattle.std.specs.Prelude.{is_ok, IsOk}
 use Rattle.std.proofs.lemmas.List.{get_or_default}
-use Rattle.simm_kinds.specs.declared.kinds.ProductClass.TheVariants.{RatesFX}
-use Rattle.simm_rules.specs.Simm.{products}
+use Rattle.kept_buckets.specs.SimmKinds.declared.kinds.ProductClass.TheVariants.{RatesFX}
+use Rattle.kept_buckets.specs.SimmRules.Simm.{products}
 use Rattle.book_margin.proofs.Classes.{IsProductKept, class_of_product, all_margins, products_are, products_sized, fresh}
 use Rattle.book_margin.proofs.Gathering.{renewed_first, renewed_next, renewed_all}
 use Rattle.book_margin.proofs.Renewed.{renews_both, margin_still, margins_still}

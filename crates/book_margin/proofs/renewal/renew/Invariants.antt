@@ -1,5 +1,5 @@
 use Rattle.std.proofs.Common.{take}
-use Rattle.simm_rules.specs.Simm.{products}
+use Rattle.kept_buckets.specs.SimmRules.Simm.{products}
 use Rattle.book_margin.proofs.Classes.{IsProductKept}
 use Rattle.book_margin.proofs.Gathering.{Renewed}
 use Rattle.book_margin.proofs.renewal.renew.Given as goal

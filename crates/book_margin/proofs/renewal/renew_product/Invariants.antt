@@ -1,5 +1,5 @@
 use Rattle.std.proofs.Common.{take}
-use Rattle.simm_rules.specs.Simm.{classes}
+use Rattle.kept_buckets.specs.SimmRules.Simm.{classes}
 use Rattle.book_margin.proofs.Classes.{IsClassKept}
 use Rattle.book_margin.proofs.Gathering.{Renewed}
 use Rattle.book_margin.proofs.renewal.renew_product.Given as goal

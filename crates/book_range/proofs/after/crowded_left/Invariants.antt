@@ -2,7 +2,7 @@ use Rattle.std.proofs.Common.{◌≡◌, List}
 use Rattle.std.specs.Prelude.{is_some}
 use Rattle.std.specs.List.{find}
 use Rattle.std.specs.Map.{keys_of}
-use Rattle.simm_kinds.specs.declared.key.FactorKey.{FactorKey}
+use Rattle.simm_params.specs.SimmKinds.declared.key.FactorKey.{FactorKey}
 use Rattle.factor_book.specs.declared.holding.Holding.{Holding}
 use Rattle.factor_book.specs.Factors.{IsWithout}
 use Rattle.factor_book.specs.Places.{places_of}

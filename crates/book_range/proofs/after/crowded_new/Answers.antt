@@ -1,6 +1,6 @@
 use Rattle.std.proofs.Common.{subst}
 use Rattle.std.proofs.lemmas.List.{take_all}
-use Rattle.simm_kinds.specs.Batch.{rows_of}
+use Rattle.simm_params.specs.SimmKinds.Batch.{rows_of}
 use Rattle.book_range.specs.Firsts.{IsFirst, IsNewAt}
 use Rattle.book_range.proofs.Coming.{new_none, new_trade}
 use Rattle.book_range.proofs.after.crowded_new.Goals as goal

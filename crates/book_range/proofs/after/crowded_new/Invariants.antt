@@ -1,6 +1,6 @@
 use Rattle.std.proofs.Common.{List, take}
-use Rattle.simm_kinds.specs.declared.key.FactorKey.{FactorKey}
-use Rattle.simm_kinds.specs.Batch.{rows_of}
+use Rattle.simm_params.specs.SimmKinds.declared.key.FactorKey.{FactorKey}
+use Rattle.simm_params.specs.SimmKinds.Batch.{rows_of}
 use Rattle.factor_book.specs.declared.holding.Holding.{Holding}
 use Rattle.factor_book.specs.Factors.{IsWithout}
 use Rattle.book_range.specs.Firsts.{IsFirst, IsNewAt}

@@ -1,4 +1,4 @@
-use Rattle.simm_kinds.specs.Batch.{rows_of}
+use Rattle.simm_params.specs.SimmKinds.Batch.{rows_of}
 use Rattle.book_range.proofs.Coming.{after_is}
 use Rattle.book_range.proofs.after.first_crowded.Goals as goal
 

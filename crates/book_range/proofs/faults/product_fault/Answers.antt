@@ -1,8 +1,8 @@
 use Rattle.std.proofs.Common.{◌∙◌, sym, ap}
 use Rattle.std.specs.Prelude.{is_some}
 use Rattle.std.proofs.lemmas.List.{get_or_default}
-use Rattle.simm_kinds.specs.declared.kinds.RiskClass.TheVariants.{IR}
-use Rattle.simm_rules.specs.Simm.{classes}
+use Rattle.simm_params.specs.SimmKinds.declared.kinds.RiskClass.TheVariants.{IR}
+use Rattle.simm_params.specs.SimmRules.Simm.{classes}
 use Rattle.book_range.specs.Faults.{size_fault}
 use Rattle.book_range.specs.Gross.{side_at}
 use Rattle.book_range.proofs.Firsts.{next_none, first_hit, none_from_test}

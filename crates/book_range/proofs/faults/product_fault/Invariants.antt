@@ -1,6 +1,6 @@
 use Rattle.std.proofs.Common.{◌≡◌, None, map, take}
-use Rattle.simm_rules.specs.Sums.{first_some}
-use Rattle.simm_rules.specs.Simm.{classes}
+use Rattle.simm_params.specs.SimmRules.Sums.{first_some}
+use Rattle.simm_params.specs.SimmRules.Simm.{classes}
 use Rattle.book_range.specs.Faults.{size_fault}
 use Rattle.book_range.specs.Gross.{side_at}
 use Rattle.book_range.proofs.faults.product_fault.Given as goal

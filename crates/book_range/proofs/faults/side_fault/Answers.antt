@@ -1,8 +1,8 @@
 use Rattle.std.proofs.Common.{◌∙◌, sym, ap}
 use Rattle.std.specs.Prelude.{is_some}
 use Rattle.std.proofs.lemmas.List.{get_or_default}
-use Rattle.simm_kinds.specs.declared.kinds.ProductClass.TheVariants.{RatesFX}
-use Rattle.simm_rules.specs.Simm.{products}
+use Rattle.simm_params.specs.SimmKinds.declared.kinds.ProductClass.TheVariants.{RatesFX}
+use Rattle.simm_params.specs.SimmRules.Simm.{products}
 use Rattle.book_range.specs.Faults.{product_fault}
 use Rattle.book_range.proofs.Firsts.{next_none, first_hit, none_from_test}
 use Rattle.book_range.proofs.faults.side_fault.Goals as goal

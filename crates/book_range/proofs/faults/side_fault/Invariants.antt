@@ -1,6 +1,6 @@
 use Rattle.std.proofs.Common.{◌≡◌, None, map, take}
-use Rattle.simm_rules.specs.Sums.{first_some}
-use Rattle.simm_rules.specs.Simm.{products}
+use Rattle.simm_params.specs.SimmRules.Sums.{first_some}
+use Rattle.simm_params.specs.SimmRules.Simm.{products}
 use Rattle.book_range.specs.Faults.{product_fault}
 use Rattle.book_range.proofs.faults.side_fault.Given as goal
 

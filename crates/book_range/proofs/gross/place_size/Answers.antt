@@ -1,6 +1,6 @@
 use Rattle.std.proofs.Common.{◌≡◌, ◌*ℤ◌, ◌∙◌, FitsSigned, rules, ap}
 use Rattle.std.specs.Int.{w128}
-use Rattle.mh_units.proofs.Integers.{same128}
+use Rattle.simm_params.proofs.MhUnits.Integers.{same128}
 use Rattle.book_range.specs.Weighing.{weight_at}
 use Rattle.book_range.proofs.Grosses.{summed_next}
 use Rattle.book_range.proofs.gross.place_size.Goals as goal

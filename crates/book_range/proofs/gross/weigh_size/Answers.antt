@@ -1,7 +1,7 @@
 use Rattle.std.proofs.Common.{◌≤◌, ◌*◌, ◌^◌, ◌*ℤ◌, ◌∙◌, FitsSigned, rules, refl, sym, subst, unsigned_abs, arith}
 use Rattle.std.specs.Int.{w64, w128}
 use Rattle.std.proofs.lemmas.Int.{fits_signed_from_abs}
-use Rattle.mh_units.proofs.Integers.{same64, product_size}
+use Rattle.simm_params.proofs.MhUnits.Integers.{same64, product_size}
 use Rattle.book_range.proofs.Grosses.{product_passed}
 use Rattle.book_range.proofs.gross.weigh_size.Goals as goal
 

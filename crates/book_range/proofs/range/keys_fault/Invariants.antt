@@ -1,5 +1,5 @@
 use Rattle.std.proofs.Common.{◌≡◌, map}
-use Rattle.simm_rules.specs.Sums.{first_some}
+use Rattle.simm_params.specs.SimmRules.Sums.{first_some}
 use Rattle.book_range.specs.Faults.{place_fault, keys_fault}
 use Rattle.book_range.proofs.range.keys_fault.Given as goal
 

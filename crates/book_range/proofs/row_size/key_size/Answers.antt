@@ -1,6 +1,6 @@
 use Rattle.std.proofs.Common.{◌≡◌, ◌*ℤ◌, ◌∙◌, FitsSigned, pos, unsigned_abs, rules, sym, ap}
 use Rattle.std.specs.Int.{w128}
-use Rattle.mh_units.proofs.Integers.{same128}
+use Rattle.simm_params.proofs.MhUnits.Integers.{same128}
 use Rattle.book_range.specs.Weights.{factor_weight}
 use Rattle.book_range.proofs.Placed.{weight_there}
 use Rattle.book_range.proofs.row_size.key_size.Goals as goal

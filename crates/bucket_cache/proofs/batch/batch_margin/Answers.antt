@@ -1,11 +1,11 @@
 use Rattle.std.proofs.Common.{◌≡◌, ◌∙◌, Some, Result, Err, length, ap, sym, subst, arith}
-use Rattle.simm_kinds.specs.declared.row.TradeRows.{TradeRows}
-use Rattle.simm_kinds.specs.Batch.{rows_of}
-use Rattle.simm_rules.specs.declared.values.Breakdown.{Breakdown}
-use Rattle.simm_rules.specs.declared.values.RangeFault.{RangeFault}
-use Rattle.factor_book.specs.Factors.{factors_of}
-use Rattle.class_combine.specs.Sums.{AreOfBook, StandFor, sums_of}
-use Rattle.book_range.specs.Bounded.{IsMarginable}
+use Rattle.book_margin.specs.SimmKinds.declared.row.TradeRows.{TradeRows}
+use Rattle.book_margin.specs.SimmKinds.Batch.{rows_of}
+use Rattle.book_margin.specs.SimmRules.declared.values.Breakdown.{Breakdown}
+use Rattle.book_margin.specs.SimmRules.declared.values.RangeFault.{RangeFault}
+use Rattle.book_margin.specs.FactorBook.Factors.{factors_of}
+use Rattle.book_margin.specs.ClassCombine.Sums.{AreOfBook, StandFor, sums_of}
+use Rattle.book_margin.specs.BookRange.Bounded.{IsMarginable}
 use Rattle.bucket_cache.specs.declared.fault.SubmitFault.{SubmitFault}
 use Rattle.bucket_cache.specs.declared.fault.SubmitFault.TheVariants as submit
 use Rattle.bucket_cache.proofs.Batches.{few_lent, amounts_lent, batch_book}

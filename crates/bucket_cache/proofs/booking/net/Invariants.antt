@@ -1,5 +1,5 @@
 use Rattle.std.proofs.Common.{◌≡◌, take}
-use Rattle.factor_book.specs.Factors.{factors_of}
+use Rattle.book_margin.specs.FactorBook.Factors.{factors_of}
 use Rattle.bucket_cache.specs.Lent.{all_rows}
 use Rattle.bucket_cache.proofs.booking.net.Given as goal
 

@@ -1,6 +1,6 @@
 use Rattle.std.proofs.Common.{length, ap, arith, take}
 use Rattle.std.proofs.lemmas.List.Folds.{length-flat_map-take}
-use Rattle.simm_kinds.specs.Batch.{is_in_range}
+use Rattle.book_margin.specs.SimmKinds.Batch.{is_in_range}
 use Rattle.bucket_cache.specs.declared.lent.LentRows.{LentRows}
 use Rattle.bucket_cache.specs.Lent.{all_rows}
 use Rattle.bucket_cache.proofs.Books.{each_trade}

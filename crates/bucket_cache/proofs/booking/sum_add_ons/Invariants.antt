@@ -1,5 +1,5 @@
 use Rattle.std.proofs.Common.{◌≡◌, take}
-use Rattle.class_combine.specs.Sums.{sums_of}
+use Rattle.book_margin.specs.ClassCombine.Sums.{sums_of}
 use Rattle.bucket_cache.specs.Lent.{all_rows}
 use Rattle.bucket_cache.proofs.booking.sum_add_ons.Given as goal
 

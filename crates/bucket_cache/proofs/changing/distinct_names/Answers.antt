@@ -1,8 +1,8 @@
 use Rattle.std.proofs.Common.{◌∙◌, sym, ap, ◌||◌}
 use Rattle.std.specs.List.{list_any}
 use Rattle.std.proofs.lemmas.List.{take_all}
-use Rattle.simm_kinds.specs.Order.{same_name}
-use Rattle.simm_kinds.specs.Repeats.{repeats}
+use Rattle.book_margin.specs.SimmKinds.Order.{same_name}
+use Rattle.book_margin.specs.SimmKinds.Repeats.{repeats}
 use Rattle.bucket_cache.specs.Entries.{is_among, lent_names}
 use Rattle.bucket_cache.proofs.Maps.{is_among-insert_key, any_next, different-insert_key}
 use Rattle.bucket_cache.proofs.changing.distinct_names.Goals as goal

@@ -1,7 +1,7 @@
 use Rattle.std.proofs.Common.{◌≡◌, ℕ, List, take, false}
 use Rattle.std.specs.List.{list_any}
-use Rattle.simm_kinds.specs.Order.{same_name}
-use Rattle.simm_kinds.specs.Repeats.{repeats}
+use Rattle.book_margin.specs.SimmKinds.Order.{same_name}
+use Rattle.book_margin.specs.SimmKinds.Repeats.{repeats}
 use Rattle.bucket_cache.specs.Entries.{is_among, lent_names}
 use Rattle.bucket_cache.proofs.changing.distinct_names.Given as goal
 

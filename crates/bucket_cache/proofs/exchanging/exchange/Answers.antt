@@ -1,5 +1,5 @@
 use Rattle.std.proofs.Common.{◌∙◌, sym}
-use Rattle.simm_kinds.specs.Batch.{rows_of}
+use Rattle.book_margin.specs.SimmKinds.Batch.{rows_of}
 use Rattle.bucket_cache.specs.Lent.{all_rows}
 use Rattle.bucket_cache.proofs.AddOnOrder.{add_ons_move}
 use Rattle.bucket_cache.proofs.Exchanges.{exchange_netted, gone_amounts, gone_few}

@@ -1,6 +1,6 @@
 use Rattle.std.proofs.Common.{◌∙◌, sym}
-use Rattle.simm_kinds.specs.declared.row.TradeRows.{TradeRows}
-use Rattle.simm_kinds.specs.Batch.{rows_of}
+use Rattle.book_margin.specs.SimmKinds.declared.row.TradeRows.{TradeRows}
+use Rattle.book_margin.specs.SimmKinds.Batch.{rows_of}
 use Rattle.bucket_cache.specs.Live.{put_trades, rows_in}
 use Rattle.bucket_cache.specs.Entries.{trades_of}
 use Rattle.bucket_cache.specs.Lent.{all_rows}

@@ -1,5 +1,5 @@
 use Rattle.std.proofs.Common.{take}
-use Rattle.kept_buckets.specs.Touched.{Forgets}
+use Rattle.book_margin.specs.KeptBuckets.Touched.{Forgets}
 use Rattle.bucket_cache.specs.Lent.{all_rows}
 use Rattle.bucket_cache.proofs.touching.touch_lent.Given as goal
 

@@ -1,5 +1,5 @@
 use Rattle.std.proofs.Common.{◌∙◌, ap, sym, subst}
-use Rattle.mh_units.specs.declared.quantities.Cents.{Cents}
+use Rattle.simm_params.specs.MhUnits.declared.quantities.Cents.{Cents}
 use Rattle.class_combine.specs.declared.sums.AddOnSums.{AddOnSums}
 use Rattle.class_combine.specs.Whole.{IsAddOn}
 use Rattle.class_combine.proofs.InRange.{fixed_range}

@@ -1,8 +1,8 @@
 use Rattle.std.proofs.Common.{◌≡◌, ◌∙◌, ap, sym, subst, pos, ◌-ℤ◌, ◌*ℤ◌, FitsSigned, arith}
 use Rattle.std.specs.Int.{w64, w128}
 use Rattle.std.proofs.lemmas.Int.{ints, to_z-of_z, fits_signed_from_abs}
-use Rattle.mh_units.specs.Rounding.{up}
-use Rattle.mh_units.proofs.Integers.{same64, same128}
+use Rattle.simm_params.specs.MhUnits.Rounding.{up}
+use Rattle.simm_params.proofs.MhUnits.Integers.{same64, same128}
 use Rattle.class_combine.specs.Multipliers.{IsMultiplied}
 use Rattle.class_combine.proofs.Multiplying.{over_margin, multiplied_range}
 use Rattle.class_combine.proofs.multipliers.multiplied.Goals as goal

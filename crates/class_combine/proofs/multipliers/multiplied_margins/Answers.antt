@@ -1,5 +1,5 @@
 use Rattle.std.proofs.Common.{◌≡◌, ◌∙◌, ℤ, pos, ◌+ℤ◌}
-use Rattle.simm_kinds.specs.declared.kinds.ProductClass.TheVariants as product
+use Rattle.simm_params.specs.SimmKinds.declared.kinds.ProductClass.TheVariants as product
 use Rattle.class_combine.proofs.Multiplying.{four_of}
 use Rattle.class_combine.proofs.multipliers.multiplied_margins.Goals as goal
 

@@ -1,5 +1,5 @@
 use Rattle.std.proofs.Common.{drop}
-use Rattle.simm_rules.specs.Sums.{total_by}
+use Rattle.simm_params.specs.SimmRules.Sums.{total_by}
 use Rattle.class_combine.specs.Notionals.{share_in, size_at}
 use Rattle.class_combine.proofs.Adding.{Adds}
 use Rattle.class_combine.proofs.notional.notional_add_on.Given as goal

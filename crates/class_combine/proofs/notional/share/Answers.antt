@@ -1,6 +1,6 @@
 use Rattle.std.proofs.Common.{◌∙◌, ap, sym, subst}
-use Rattle.simm_kinds.specs.declared.row.CrifRow.TheVariants as row
-use Rattle.simm_kinds.specs.Batch.{is_in_range}
+use Rattle.simm_params.specs.SimmKinds.declared.row.CrifRow.TheVariants as row
+use Rattle.simm_params.specs.SimmKinds.Batch.{is_in_range}
 use Rattle.class_combine.specs.Notionals.{size_at, IsNotional}
 use Rattle.class_combine.proofs.InRange.{factor_row}
 use Rattle.class_combine.proofs.Products.{passed}

@@ -1,8 +1,8 @@
 use Rattle.std.proofs.Common.{◌∙◌, ap, subst, sym, arith}
 use Rattle.std.specs.Int.{w64}
 use Rattle.std.proofs.lemmas.Int.{ints, fits_signed_from_abs}
-use Rattle.mh_units.proofs.Integers.{same64}
-use Rattle.mh_units.specs.declared.quantities.Cents.{Cents}
+use Rattle.simm_params.proofs.MhUnits.Integers.{same64}
+use Rattle.simm_params.specs.MhUnits.declared.quantities.Cents.{Cents}
 use Rattle.class_combine.specs.Classes.{IsClassMargin}
 use Rattle.class_combine.proofs.Products.{pair_of, same_product}
 use Rattle.class_combine.proofs.product.pair.Goals as goal

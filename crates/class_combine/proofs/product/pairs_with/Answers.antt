@@ -1,9 +1,9 @@
 use Rattle.std.proofs.Common.{◌≡◌, ◌∙◌, pos, FitsSigned, to_z, ap, sym, rules}
 use Rattle.std.specs.Int.{w128}
-use Rattle.mh_units.proofs.Integers.{same128}
-use Rattle.mh_units.specs.declared.quantities.Cents.{Cents}
-use Rattle.simm_kinds.specs.declared.kinds.RiskClass.{RiskClass}
-use Rattle.simm_kinds.specs.declared.kinds.RiskClass.TheVariants as classes
+use Rattle.simm_params.proofs.MhUnits.Integers.{same128}
+use Rattle.simm_params.specs.MhUnits.declared.quantities.Cents.{Cents}
+use Rattle.simm_params.specs.SimmKinds.declared.kinds.RiskClass.{RiskClass}
+use Rattle.simm_params.specs.SimmKinds.declared.kinds.RiskClass.TheVariants as classes
 use Rattle.class_combine.specs.Classes.{class_in, class_pair}
 use Rattle.class_combine.proofs.Products.{six_nothings, without_margin}
 use Rattle.class_combine.proofs.product.pairs_with.Goals as goal

@@ -1,8 +1,8 @@
 use Rattle.std.proofs.Common.{◌≡◌, ◌∙◌, ap, sym, subst, arith, ◌*◌, ◌^◌, ◌≤ℤ◌, pos, FitsSigned, unsigned_abs}
 use Rattle.std.proofs.lemmas.Int.{ints, fits_signed_from_abs}
 use Rattle.std.specs.Int.{w128}
-use Rattle.mh_units.specs.Rounding.{up, root}
-use Rattle.mh_units.proofs.Integers.{same128}
+use Rattle.simm_params.specs.MhUnits.Rounding.{up, root}
+use Rattle.simm_params.proofs.MhUnits.Integers.{same128}
 use Rattle.class_combine.proofs.Products.{root_low, root_abs, root_within}
 use Rattle.class_combine.proofs.product.product_margin.Goals as goal
 

@@ -1,8 +1,8 @@
 use Rattle.std.proofs.Common.{◌≡◌, ℤ}
-use Rattle.simm_kinds.specs.declared.kinds.ProductClass.TheVariants as product
-use Rattle.simm_rules.specs.declared.values.ProductMargin.{ProductMargin}
-use Rattle.simm_rules.specs.declared.values.Breakdown.{Breakdown}
-use Rattle.simm_rules.specs.Parts.{cents}
+use Rattle.simm_params.specs.SimmKinds.declared.kinds.ProductClass.TheVariants as product
+use Rattle.simm_params.specs.SimmRules.declared.values.ProductMargin.{ProductMargin}
+use Rattle.simm_params.specs.SimmRules.declared.values.Breakdown.{Breakdown}
+use Rattle.simm_params.specs.SimmRules.Parts.{cents}
 use Rattle.class_combine.specs.declared.additional.AddOns.{AddOns}
 use Rattle.class_combine.proofs.Totals.{total_of}
 use Rattle.class_combine.proofs.whole.breakdown.Goals as goal

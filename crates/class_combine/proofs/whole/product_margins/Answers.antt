@@ -1,4 +1,4 @@
-use Rattle.simm_kinds.specs.declared.kinds.ProductClass.TheVariants as product
+use Rattle.simm_params.specs.SimmKinds.declared.kinds.ProductClass.TheVariants as product
 use Rattle.class_combine.proofs.whole.product_margins.Goals as goal
 
 pub product_margin-requires : goal.product_margin-requires

@@ -1,5 +1,5 @@
 use Rattle.std.proofs.Common.{◌≡◌, ◌∙◌, ◌++◌, ap}
-use Rattle.factor_book.specs.Places.{buckets_on, by_bucket}
+use Rattle.ir_delta.specs.FactorBook.Places.{buckets_on, by_bucket}
 use Rattle.class_delta.proofs.Lent.{buckets_of, all_lent}
 use Rattle.class_delta.proofs.buckets.delta_buckets.Goals as goal
 

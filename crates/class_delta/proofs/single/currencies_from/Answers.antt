@@ -1,6 +1,6 @@
 use Rattle.std.proofs.Common.{◌^◌, ◌*◌, ◌∙◌, sym, subst, pos, ◌≤ℤ◌, FitsSigned, rules}
 use Rattle.std.specs.Int.{w128}
-use Rattle.mh_units.proofs.Integers.{same128}
+use Rattle.ir_delta.proofs.MhUnits.Integers.{same128}
 use Rattle.class_delta.proofs.OneBucket.{IsWithin, currencies_total, currencies_within}
 use Rattle.class_delta.proofs.single.currencies_from.Goals as goal
 

@@ -1,7 +1,7 @@
 use Rattle.std.proofs.Common.{◌≡◌, ◌∙◌, ◌^◌, ◌+◌, ◌*◌, ℕ, List, pos, ◌≤ℤ◌, arith}
 use Rattle.std.proofs.lemmas.Int.{ints}
 use Rattle.std.proofs.lemmas.Result.{IfOk-weaker}
-use Rattle.name_delta.specs.Values.{nets_in}
+use Rattle.class_delta.specs.NameDelta.Values.{nets_in}
 use Rattle.curvature_margin.specs.Combine.{curvature_by_class, margins_size, gross_size}
 use Rattle.class_delta.proofs.Valued.{Whole}
 use Rattle.class_volatility.specs.Curvature.{class_curvature_of}

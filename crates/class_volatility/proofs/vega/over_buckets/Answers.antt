@@ -2,7 +2,7 @@ use Rattle.std.proofs.Common.{◌≡◌, ◌^◌, ◌*◌, ℕ, List, Some, pos,
 use Rattle.std.specs.Prelude.{sum_by}
 use Rattle.std.proofs.lemmas.Int.{ints}
 use Rattle.std.proofs.lemmas.Result.{IfOk-weaker}
-use Rattle.name_delta.specs.Values.{nets_in}
+use Rattle.class_delta.specs.NameDelta.Values.{nets_in}
 use Rattle.class_delta.proofs.Valued.{Whole}
 use Rattle.vega_margin.specs.Combine.{vega_over}
 use Rattle.class_volatility.specs.Vega.{class_vega_of}

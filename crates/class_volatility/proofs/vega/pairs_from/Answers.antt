@@ -1,6 +1,6 @@
 use Rattle.std.proofs.Common.{◌^◌, ◌*◌, ◌∙◌, sym, subst, pos, ◌≤ℤ◌, FitsSigned, rules}
 use Rattle.std.specs.Int.{w128}
-use Rattle.mh_units.proofs.Integers.{same128}
+use Rattle.class_delta.proofs.MhUnits.Integers.{same128}
 use Rattle.class_delta.proofs.OneBucket.{IsWithin}
 use Rattle.class_volatility.proofs.Pairs.{pairs_total, pairs_within}
 use Rattle.class_volatility.proofs.vega.pairs_from.Goals as goal

@@ -2,7 +2,7 @@ use Rattle.std.proofs.Common.{◌∷◌, [], length, get_or, take, ap, ◌∙◌
 use Rattle.std.specs.List.{flat_map, AllByRecursion}
 use Rattle.std.proofs.lemmas.Grind.{flat_map-append}
 use Rattle.std.proofs.lemmas.List.{append-nil, take_all}
-use Rattle.simm_kinds.proofs.Repeated.{take_next}
+use Rattle.crif_reader.proofs.SimmKinds.Repeated.{take_next}
 use Rattle.crif_writer.specs.Text.{header_fields, trade_records, batch_text, HasWritten, HasTradeParts}
 use Rattle.crif_writer.proofs.ReadsBack.{text_reads_back}
 use Rattle.crif_reader.proofs.All.{all_more}

@@ -1,6 +1,6 @@
 use Rattle.std.proofs.Common.{◌∷◌, [], length, get_or, map, take, ap, ◌∙◌, arith}
 use Rattle.std.proofs.lemmas.List.{map-append, take_all}
-use Rattle.simm_kinds.proofs.Repeated.{take_next}
+use Rattle.crif_reader.proofs.SimmKinds.Repeated.{take_next}
 use Rattle.crif_writer.specs.Rows.{row_fields, HasRowParts}
 use Rattle.crif_writer.specs.Text.{WritesMore}
 use Rattle.crif_reader.proofs.All.{all_more}

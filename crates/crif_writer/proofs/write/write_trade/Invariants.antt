@@ -1,6 +1,6 @@
 use Rattle.std.proofs.Common.{take, map}
 use Rattle.std.specs.List.{AllByRecursion}
-use Rattle.simm_kinds.specs.NameText.{IsName}
+use Rattle.crif_reader.specs.SimmKinds.NameText.{IsName}
 use Rattle.crif_writer.specs.Rows.{row_fields, HasRowParts}
 use Rattle.crif_writer.specs.Text.{WritesMore}
 use Rattle.crif_writer.proofs.write.write_trade.Given as goal

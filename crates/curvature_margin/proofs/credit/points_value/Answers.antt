@@ -3,16 +3,16 @@ use Rattle.std.specs.Prelude.{sum_by}
 use Rattle.std.specs.Int.{w64}
 use Rattle.std.proofs.lemmas.Int.{ints}
 use Rattle.std.proofs.lemmas.Result.{IfOk-weaker}
-use Rattle.mh_units.proofs.Integers.{same64}
-use Rattle.simm_rules.specs.declared.values.BucketMargin.{BucketMargin}
-use Rattle.simm_rules.specs.Concentration.{one}
-use Rattle.simm_params.specs.ClassKinds.{credit_class}
-use Rattle.simm_params.specs.ListedBuckets.{credit_bucket_view}
-use Rattle.simm_params.specs.Ranges.{sigmas, IsWithin}
-use Rattle.weighted_bucket.specs.declared.scaling.Scaling.TheVariants as scaling
-use Rattle.weighted_bucket.specs.Bucket.{bucket_value}
-use Rattle.name_delta.specs.Points.{issuer_rho}
-use Rattle.name_delta.proofs.Numbers.{issuer_rho-symmetric, issuer_rho-small}
+use Rattle.vol_factors.proofs.MhUnits.Integers.{same64}
+use Rattle.vol_factors.specs.SimmRules.declared.values.BucketMargin.{BucketMargin}
+use Rattle.vol_factors.specs.SimmRules.Concentration.{one}
+use Rattle.vol_factors.specs.SimmParams.ClassKinds.{credit_class}
+use Rattle.vol_factors.specs.SimmParams.ListedBuckets.{credit_bucket_view}
+use Rattle.vol_factors.specs.SimmParams.Ranges.{sigmas, IsWithin}
+use Rattle.vol_factors.specs.WeightedBucket.declared.scaling.Scaling.TheVariants as scaling
+use Rattle.vol_factors.specs.WeightedBucket.Bucket.{bucket_value}
+use Rattle.vol_factors.specs.NameDelta.Points.{issuer_rho}
+use Rattle.vol_factors.proofs.NameDelta.Numbers.{issuer_rho-symmetric, issuer_rho-small}
 use Rattle.vol_factors.specs.Places.{points_of}
 use Rattle.vol_factors.specs.Ranges.{alone}
 use Rattle.vol_factors.proofs.InRange.{amounts_small}

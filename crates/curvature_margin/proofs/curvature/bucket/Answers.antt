@@ -1,5 +1,5 @@
 use Rattle.std.proofs.Common.{◌≡◌, ◌+◌, ◌*◌, ◌≤◌, Option, Some, IfOk, sym, subst}
-use Rattle.simm_rules.specs.declared.values.BucketMargin.{BucketMargin}
+use Rattle.vol_factors.specs.SimmRules.declared.values.BucketMargin.{BucketMargin}
 use Rattle.vol_factors.specs.Buckets.{count_in}
 use Rattle.vol_factors.specs.Ranges.{IsReadyIn}
 use Rattle.curvature_margin.specs.Curvature.{curvature_in, IsCurvatureSizedIn}

@@ -1,8 +1,8 @@
 use Rattle.std.proofs.Common.{◌≡◌, ◌∙◌, ◌+◌, ◌*◌, ◌≤◌, map, ap, subst}
-use Rattle.simm_rules.specs.Concentration.{one}
-use Rattle.simm_rules.specs.Lookups.{six}
-use Rattle.weighted_bucket.specs.declared.scaling.Scaling.TheVariants as scaling
-use Rattle.weighted_bucket.specs.Bucket.{bucket_value}
+use Rattle.vol_factors.specs.SimmRules.Concentration.{one}
+use Rattle.vol_factors.specs.SimmRules.Lookups.{six}
+use Rattle.vol_factors.specs.WeightedBucket.declared.scaling.Scaling.TheVariants as scaling
+use Rattle.vol_factors.specs.WeightedBucket.Bucket.{bucket_value}
 use Rattle.vol_factors.specs.Pairs.{pair_view}
 use Rattle.vol_factors.specs.Places.{pair_volatilities}
 use Rattle.curvature_margin.proofs.PairValues.{pairs_small, pairs_value, pairs_unconcentrated, pairs_in_range, pairs_counted, pairs_sized}

@@ -1,5 +1,5 @@
 use Rattle.std.proofs.Common.{take}
-use Rattle.name_delta.proofs.Parts.{HaveBeenNumbered}
+use Rattle.vol_factors.proofs.NameDelta.Parts.{HaveBeenNumbered}
 use Rattle.curvature_margin.specs.Listed.{listed_in}
 use Rattle.curvature_margin.proofs.numbered_parts.number_parts.Given as goal
 

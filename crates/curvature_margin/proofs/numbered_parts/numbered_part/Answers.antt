@@ -2,11 +2,11 @@ use Rattle.std.proofs.Common.{◌≡◌, ◌∙◌, ◌+◌, ◌*◌, ◌^◌, �
 use Rattle.std.specs.Prelude.{sum_by}
 use Rattle.std.specs.Int.{w128}
 use Rattle.std.proofs.lemmas.Int.{ints}
-use Rattle.mh_units.proofs.Integers.{same128}
-use Rattle.simm_rules.specs.declared.values.BucketMargin.{BucketMargin}
-use Rattle.simm_kinds.specs.Order.{same_bucket}
-use Rattle.simm_rules.specs.Across.{outer, numbered, gamma_squared}
-use Rattle.name_delta.specs.Combine.{parts_in, margins_of}
+use Rattle.vol_factors.proofs.MhUnits.Integers.{same128}
+use Rattle.vol_factors.specs.SimmRules.declared.values.BucketMargin.{BucketMargin}
+use Rattle.vol_factors.specs.SimmKinds.Order.{same_bucket}
+use Rattle.vol_factors.specs.SimmRules.Across.{outer, numbered, gamma_squared}
+use Rattle.vol_factors.specs.NameDelta.Combine.{parts_in, margins_of}
 use Rattle.curvature_margin.specs.Listed.{listed_in, gamma_in}
 use Rattle.curvature_margin.specs.Numbered.{numbered_bound}
 use Rattle.curvature_margin.specs.Part.{part_over}

@@ -1,6 +1,6 @@
 use Rattle.std.proofs.Common.{◌≡◌, ◌∙◌, ◌+◌, ◌*◌, ◌≤◌, sym, ap, subst, pos, ◌+ℤ◌, ◌≤ℤ◌, unsigned_abs, FitsSigned, rules, arith}
 use Rattle.std.specs.Int.{w128}
-use Rattle.mh_units.proofs.Integers.{same128}
+use Rattle.vol_factors.proofs.MhUnits.Integers.{same128}
 use Rattle.curvature_margin.specs.Numbered.{numbered_part, numbered_bound, residual_bound}
 use Rattle.curvature_margin.specs.Combine.{gross_size, margins_size}
 use Rattle.curvature_margin.proofs.Splits.{split_sizes}

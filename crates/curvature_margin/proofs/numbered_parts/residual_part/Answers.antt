@@ -2,11 +2,11 @@ use Rattle.std.proofs.Common.{◌≡◌, ◌∙◌, ◌+◌, ◌*◌, ◌^◌, �
 use Rattle.std.specs.Prelude.{sum_by}
 use Rattle.std.specs.Int.{w128}
 use Rattle.std.proofs.lemmas.Int.{ints}
-use Rattle.mh_units.proofs.Integers.{same128}
-use Rattle.simm_rules.specs.declared.values.BucketMargin.{BucketMargin}
-use Rattle.simm_rules.specs.Sums.{total_by}
-use Rattle.simm_rules.specs.Across.{residual}
-use Rattle.name_delta.specs.Combine.{parts_in, margins_of}
+use Rattle.vol_factors.proofs.MhUnits.Integers.{same128}
+use Rattle.vol_factors.specs.SimmRules.declared.values.BucketMargin.{BucketMargin}
+use Rattle.vol_factors.specs.SimmRules.Sums.{total_by}
+use Rattle.vol_factors.specs.SimmRules.Across.{residual}
+use Rattle.vol_factors.specs.NameDelta.Combine.{parts_in, margins_of}
 use Rattle.curvature_margin.specs.Numbered.{residual_bound}
 use Rattle.curvature_margin.specs.Part.{margin_over, part_over}
 use Rattle.curvature_margin.proofs.Splits.{split_sizes, all_residual, by_residual}

@@ -1,6 +1,6 @@
 use Rattle.std.proofs.Common.{◌∙◌, sym, subst, ap, pos, ◌≤ℤ◌, ◌^◌, FitsSigned, rules}
 use Rattle.std.specs.Int.{w128, w64, int_min}
-use Rattle.mh_units.proofs.Integers.{same128, same64}
+use Rattle.vol_factors.proofs.MhUnits.Integers.{same128, same64}
 use Rattle.curvature_margin.proofs.Lambdas.{whole_is, base_fits, short_fits, first_passed, whole_passed, lambda_passed}
 use Rattle.curvature_margin.proofs.part.lambda.Goals as goal
 

@@ -1,5 +1,5 @@
 use Rattle.std.proofs.Common.{◌≡◌, take}
-use Rattle.simm_rules.specs.Sums.{total_by}
+use Rattle.vol_factors.specs.SimmRules.Sums.{total_by}
 use Rattle.curvature_margin.proofs.part.margin_over.Given as goal
 
 abbrev pub invariant-loop-value : goal.invariant-loop-value

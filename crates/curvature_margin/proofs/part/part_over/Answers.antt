@@ -2,8 +2,8 @@ use Rattle.std.proofs.Common.{◌≡◌, ◌∙◌, ◌+◌, sym, subst, ap, pos
 use Rattle.std.specs.Prelude.{sum_by}
 use Rattle.std.specs.Int.{w128, int_max}
 use Rattle.std.proofs.lemmas.Int.{ints}
-use Rattle.mh_units.proofs.Integers.{same128}
-use Rattle.simm_rules.specs.declared.values.BucketMargin.{BucketMargin}
+use Rattle.vol_factors.proofs.MhUnits.Integers.{same128}
+use Rattle.vol_factors.specs.SimmRules.declared.values.BucketMargin.{BucketMargin}
 use Rattle.curvature_margin.specs.Part.{gross_over, sum_over}
 use Rattle.curvature_margin.proofs.Lambdas.{passed}
 use Rattle.curvature_margin.proofs.Parts.{some_gross, both_passed, part_passed}

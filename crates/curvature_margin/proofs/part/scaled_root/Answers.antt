@@ -1,6 +1,6 @@
 use Rattle.std.proofs.Common.{◌∙◌, sym, subst, pos, ◌≤ℤ◌, ◌*◌, unsigned_abs, FitsSigned, rules}
 use Rattle.std.specs.Int.{w128}
-use Rattle.mh_units.proofs.Integers.{same128}
+use Rattle.vol_factors.proofs.MhUnits.Integers.{same128}
 use Rattle.curvature_margin.proofs.Lambdas.{scaled_is, root_passed}
 use Rattle.curvature_margin.proofs.part.scaled_root.Goals as goal
 

@@ -1,5 +1,5 @@
 use Rattle.std.proofs.lemmas.Int.{to_z-of_z}
-use Rattle.simm_rules.specs.declared.values.BucketMargin.{BucketMargin}
+use Rattle.vol_factors.specs.SimmRules.declared.values.BucketMargin.{BucketMargin}
 use Rattle.curvature_margin.proofs.Totals.{total_step}
 use Rattle.curvature_margin.proofs.part.sum_over.Goals as goal
 

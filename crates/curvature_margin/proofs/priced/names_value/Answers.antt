@@ -1,14 +1,14 @@
 use Rattle.std.proofs.Common.{◌≡◌, ◌∙◌, ◌+◌, ◌*◌, ◌≤◌, map, length, sym, ap, subst, unsigned_abs, IfOk}
 use Rattle.std.specs.Prelude.{sum_by}
 use Rattle.std.proofs.lemmas.Result.{IfOk-weaker}
-use Rattle.simm_rules.specs.declared.values.BucketMargin.{BucketMargin}
-use Rattle.simm_rules.specs.Concentration.{one}
-use Rattle.simm_rules.specs.Priced.{NameVolatility}
-use Rattle.simm_params.specs.ClassKinds.{priced_class}
-use Rattle.simm_params.specs.ListedBuckets.{priced_bucket_view}
-use Rattle.simm_params.specs.Ranges.{sigmas, IsWithin}
-use Rattle.weighted_bucket.specs.declared.scaling.Scaling.TheVariants as scaling
-use Rattle.weighted_bucket.specs.Bucket.{bucket_value}
+use Rattle.vol_factors.specs.SimmRules.declared.values.BucketMargin.{BucketMargin}
+use Rattle.vol_factors.specs.SimmRules.Concentration.{one}
+use Rattle.vol_factors.specs.SimmRules.Priced.{NameVolatility}
+use Rattle.vol_factors.specs.SimmParams.ClassKinds.{priced_class}
+use Rattle.vol_factors.specs.SimmParams.ListedBuckets.{priced_bucket_view}
+use Rattle.vol_factors.specs.SimmParams.Ranges.{sigmas, IsWithin}
+use Rattle.vol_factors.specs.WeightedBucket.declared.scaling.Scaling.TheVariants as scaling
+use Rattle.vol_factors.specs.WeightedBucket.Bucket.{bucket_value}
 use Rattle.vol_factors.specs.Places.{name_volatilities}
 use Rattle.curvature_margin.specs.Risk.{curved_by, IsCurved}
 use Rattle.curvature_margin.specs.Values.{IsSized}

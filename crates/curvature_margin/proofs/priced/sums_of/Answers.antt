@@ -1,8 +1,8 @@
 use Rattle.std.proofs.Common.{◌≡◌, ◌∙◌, IfOk, List, ℕ, map, ap, sym, subst}
 use Rattle.std.proofs.lemmas.Simd.{map-map}
-use Rattle.simm_rules.specs.Priced.{names_of}
-use Rattle.simm_rules.specs.Risks.{Amount}
-use Rattle.simm_params.specs.ClassKinds.{priced_class}
+use Rattle.vol_factors.specs.SimmRules.Priced.{names_of}
+use Rattle.vol_factors.specs.SimmRules.Risks.{Amount}
+use Rattle.vol_factors.specs.SimmParams.ClassKinds.{priced_class}
 use Rattle.vol_factors.specs.declared.tenor_scale.TenorScale.TheVariants as scale
 use Rattle.vol_factors.specs.Names.{name_total, sum_view}
 use Rattle.vol_factors.specs.Places.{name_volatilities}

@@ -1,8 +1,8 @@
 use Rattle.std.proofs.Common.{◌≡◌, ◌∙◌, ◌+◌, ◌*◌, ◌≤◌, map, sym, ap, subst, unsigned_abs}
 use Rattle.std.specs.Prelude.{sum_by}
-use Rattle.simm_rules.specs.Concentration.{one}
-use Rattle.weighted_bucket.specs.declared.scaling.Scaling.TheVariants as scaling
-use Rattle.weighted_bucket.specs.Bucket.{bucket_value}
+use Rattle.vol_factors.specs.SimmRules.Concentration.{one}
+use Rattle.vol_factors.specs.WeightedBucket.declared.scaling.Scaling.TheVariants as scaling
+use Rattle.vol_factors.specs.WeightedBucket.Bucket.{bucket_value}
 use Rattle.curvature_margin.specs.Risk.{curved_by, IsCurved}
 use Rattle.curvature_margin.proofs.Risks.{unconcentrated, risks_count, risks_near, risks_in_range}
 use Rattle.curvature_margin.proofs.risk.curved_bucket.Goals as goal

@@ -1,7 +1,7 @@
 use Rattle.std.proofs.Common.{ap}
-use Rattle.simm_rules.specs.Concentration.{one}
-use Rattle.weighted_bucket.specs.declared.scaling.Scaling.TheVariants as scaling
-use Rattle.weighted_bucket.specs.Bucket.{bucket_value}
+use Rattle.vol_factors.specs.SimmRules.Concentration.{one}
+use Rattle.vol_factors.specs.WeightedBucket.declared.scaling.Scaling.TheVariants as scaling
+use Rattle.vol_factors.specs.WeightedBucket.Bucket.{bucket_value}
 use Rattle.curvature_margin.proofs.Risks.{risks_from_one, risks_below, is_curved}
 use Rattle.curvature_margin.proofs.risk.value_of_risks.Goals as goal
 

@@ -2,11 +2,11 @@ use Rattle.std.proofs.Common.{◌≡◌, ◌∙◌, ◌+◌, ◌*◌, ◌^◌, �
 use Rattle.std.specs.Prelude.{sum_by}
 use Rattle.std.specs.Int.{w128}
 use Rattle.std.proofs.lemmas.Int.{ints}
-use Rattle.mh_units.proofs.Integers.{same128}
-use Rattle.simm_rules.specs.declared.values.BucketMargin.{BucketMargin}
-use Rattle.simm_kinds.specs.Order.{same_name}
-use Rattle.simm_rules.specs.Across.{outer}
-use Rattle.ir_delta.specs.Parts.{parts_of}
+use Rattle.vol_factors.proofs.MhUnits.Integers.{same128}
+use Rattle.vol_factors.specs.SimmRules.declared.values.BucketMargin.{BucketMargin}
+use Rattle.vol_factors.specs.SimmKinds.Order.{same_name}
+use Rattle.vol_factors.specs.SimmRules.Across.{outer}
+use Rattle.vol_factors.specs.IrDelta.Parts.{parts_of}
 use Rattle.curvature_margin.specs.Combine.{gamma_across, gross_size, margins_size}
 use Rattle.curvature_margin.specs.Part.{part_over}
 use Rattle.curvature_margin.proofs.Currencies.{values_of, values_are, all_values, values_size, currencies_root, even-symmetric, even-small}

@@ -1,7 +1,7 @@
 use Rattle.std.proofs.Common.{◌≡◌, ◌∙◌, ◌+◌, ◌*◌, ◌^◌, sym, ap, subst, pos, ◌≤ℤ◌, unsigned_abs, FitsSigned, rules, arith}
 use Rattle.std.specs.Int.{w128}
 use Rattle.std.proofs.lemmas.Int.{ints}
-use Rattle.mh_units.proofs.Integers.{same128}
+use Rattle.vol_factors.proofs.MhUnits.Integers.{same128}
 use Rattle.curvature_margin.specs.Combine.{over_currencies, over_ratio, gross_size, margins_size}
 use Rattle.curvature_margin.proofs.Lambdas.{passed}
 use Rattle.curvature_margin.proofs.whole_parts.over_currencies.Goals as goal

@@ -1,6 +1,6 @@
 use Rattle.std.proofs.Common.{◌∙◌, sym, subst, pos, ◌≤ℤ◌, ◌*◌, unsigned_abs, FitsSigned, rules}
 use Rattle.std.specs.Int.{w128, w64}
-use Rattle.mh_units.proofs.Integers.{same128, same64}
+use Rattle.vol_factors.proofs.MhUnits.Integers.{same128, same64}
 use Rattle.curvature_margin.proofs.Lambdas.{over_ratio_is, ratio_passed, hvr_fits}
 use Rattle.curvature_margin.proofs.whole_parts.over_ratio.Goals as goal
 

@@ -2,11 +2,11 @@ use Rattle.std.proofs.Common.{◌≡◌, ◌∙◌, ◌+◌, ◌*◌, ◌^◌, �
 use Rattle.std.specs.Prelude.{sum_by}
 use Rattle.std.specs.Int.{w128}
 use Rattle.std.proofs.lemmas.Int.{ints}
-use Rattle.mh_units.proofs.Integers.{same128}
-use Rattle.simm_rules.specs.declared.values.BucketMargin.{BucketMargin}
-use Rattle.simm_rules.specs.Sums.{total_by}
-use Rattle.factor_book.proofs.Sums.{total_by-map}
-use Rattle.simm_kinds.specs.declared.kinds.BucketId.{BucketId}
+use Rattle.vol_factors.proofs.MhUnits.Integers.{same128}
+use Rattle.vol_factors.specs.SimmRules.declared.values.BucketMargin.{BucketMargin}
+use Rattle.vol_factors.specs.SimmRules.Sums.{total_by}
+use Rattle.vol_factors.proofs.FactorBook.Sums.{total_by-map}
+use Rattle.vol_factors.specs.SimmKinds.declared.kinds.BucketId.{BucketId}
 use Rattle.curvature_margin.specs.Combine.{as_parts, gross_size, margins_size}
 use Rattle.curvature_margin.specs.Part.{margin_over, part_over}
 use Rattle.curvature_margin.proofs.Currencies.{values_of, single_values, all_values, by_values, values_size}

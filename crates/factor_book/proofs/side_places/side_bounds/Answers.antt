@@ -2,7 +2,7 @@ use Rattle.std.proofs.Common.{◌∙◌, ap}
 use Rattle.std.specs.declared.ops.Bound.TheVariants.{Included, Excluded}
 use Rattle.std.specs.BTreeMap.Range.{range_contains}
 use Rattle.factor_book.specs.Place.{place_cmp}
-use Rattle.simm_kinds.specs.declared.kinds.BucketId.TheVariants as id
+use Rattle.simm_rules.specs.SimmKinds.declared.kinds.BucketId.TheVariants as id
 use Rattle.factor_book.specs.Places.{place_in}
 use Rattle.factor_book.proofs.Sides.{next_side}
 use Rattle.factor_book.proofs.side_places.side_bounds.Goals as goal

@@ -1,9 +1,9 @@
 use Rattle.std.proofs.Common.{◌∙◌, FitsSigned, rules, ap, pos, ◌≤ℤ◌, ◌<ℤ◌, ◌≤◌, All, unsigned_abs}
 use Rattle.std.specs.Int.{w128}
-use Rattle.mh_units.proofs.Integers.{same128}
-use Rattle.simm_rules.specs.declared.values.BucketMargin.{BucketMargin}
-use Rattle.simm_rules.specs.Lookups.{six}
-use Rattle.simm_rules.specs.Concentration.{one}
+use Rattle.simm_params.proofs.MhUnits.Integers.{same128}
+use Rattle.simm_params.specs.SimmRules.declared.values.BucketMargin.{BucketMargin}
+use Rattle.simm_params.specs.SimmRules.Lookups.{six}
+use Rattle.simm_params.specs.SimmRules.Concentration.{one}
 use Rattle.ir_delta.proofs.Gammas.{each_value, gamma-symmetric, gamma-small, margin_is}
 use Rattle.ir_delta.proofs.across.combine.Goals as goal
 

@@ -1,7 +1,7 @@
 use Rattle.std.proofs.Common.{◌≡◌, ◌∙◌, ap, sym}
-use Rattle.simm_rules.specs.Bucket.{combined}
-use Rattle.simm_rules.specs.Lookups.{six}
-use Rattle.simm_rules.specs.Rates.{tenor_rho, sub_rho}
+use Rattle.simm_params.specs.SimmRules.Bucket.{combined}
+use Rattle.simm_params.specs.SimmRules.Lookups.{six}
+use Rattle.simm_params.specs.SimmRules.Rates.{tenor_rho, sub_rho}
 use Rattle.ir_delta.specs.declared.rate.Rate.TheVariants as rate
 use Rattle.ir_delta.specs.Rho.{rho_of}
 use Rattle.ir_delta.proofs.Rhos.{combined_sixes}

@@ -1,9 +1,9 @@
 use Rattle.std.proofs.Common.{◌∙◌, ◌*◌, pos, ◌≤ℤ◌, ◌≤◌, ◌^◌, unsigned_abs, FitsSigned, rules, ap, sym, subst}
 use Rattle.std.specs.Int.{w64, w128, cast_signed, cast_unsigned}
-use Rattle.mh_units.proofs.Integers.{same64, same128}
-use Rattle.simm_rules.specs.Concentration.{cr}
-use Rattle.simm_rules.specs.Params.{Thresholds}
-use Rattle.simm_rules.specs.Rates.{rate_thresholds}
+use Rattle.simm_params.proofs.MhUnits.Integers.{same64, same128}
+use Rattle.simm_params.specs.SimmRules.Concentration.{cr}
+use Rattle.simm_params.specs.SimmRules.Params.{Thresholds}
+use Rattle.simm_params.specs.SimmRules.Rates.{rate_thresholds}
 use Rattle.ir_delta.specs.Rate.{group_net}
 use Rattle.ir_delta.proofs.Concentrations.{concentrates}
 use Rattle.ir_delta.proofs.weighing.currency_cr.Goals as goal

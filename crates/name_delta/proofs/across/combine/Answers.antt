@@ -2,9 +2,9 @@ use Rattle.std.proofs.Common.{◌∙◌, sym, subst, pos, ◌≤ℤ◌, FitsSign
 use Rattle.std.specs.Prelude.{sum_by}
 use Rattle.std.specs.Int.{w128}
 use Rattle.std.specs.List.{AllByRecursion}
-use Rattle.mh_units.proofs.Integers.{same128}
-use Rattle.simm_kinds.specs.declared.kinds.BucketId.{BucketId}
-use Rattle.simm_rules.specs.declared.values.BucketMargin.{BucketMargin}
+use Rattle.simm_params.proofs.MhUnits.Integers.{same128}
+use Rattle.simm_params.specs.SimmKinds.declared.kinds.BucketId.{BucketId}
+use Rattle.simm_params.specs.SimmRules.declared.values.BucketMargin.{BucketMargin}
 use Rattle.name_delta.specs.Combine.{HasBucket}
 use Rattle.name_delta.proofs.Parts.{size, total-low, total-high}
 use Rattle.name_delta.proofs.across.combine.Goals as goal

@@ -3,10 +3,10 @@ use Rattle.std.specs.Prelude.{sum_by}
 use Rattle.std.specs.Int.{w128, cast_signed, cast_unsigned}
 use Rattle.std.specs.List.{AllByRecursion}
 use Rattle.std.proofs.lemmas.List.Elements.{All-from_recursion}
-use Rattle.mh_units.proofs.Integers.{same128}
-use Rattle.simm_kinds.specs.Order.{same_bucket}
-use Rattle.simm_rules.specs.declared.values.BucketMargin.{BucketMargin}
-use Rattle.simm_rules.specs.Across.{outer, numbered, gamma_among}
+use Rattle.simm_params.proofs.MhUnits.Integers.{same128}
+use Rattle.simm_params.specs.SimmKinds.Order.{same_bucket}
+use Rattle.simm_params.specs.SimmRules.declared.values.BucketMargin.{BucketMargin}
+use Rattle.simm_params.specs.SimmRules.Across.{outer, numbered, gamma_among}
 use Rattle.name_delta.specs.Combine.{listed_in, gamma_in, parts_in}
 use Rattle.name_delta.proofs.Parts.{size, sizes_numbered, split_sizes, each_numbered, whole_sum, outer_is, numbered_ascend}
 use Rattle.name_delta.proofs.across.over.Goals as goal

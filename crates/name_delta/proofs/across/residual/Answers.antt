@@ -1,6 +1,6 @@
 use Rattle.std.proofs.Common.{◌∙◌, FitsSigned, rules}
 use Rattle.std.specs.Int.{w128}
-use Rattle.mh_units.proofs.Integers.{same128}
+use Rattle.simm_params.proofs.MhUnits.Integers.{same128}
 use Rattle.name_delta.proofs.Parts.{residual_step}
 use Rattle.name_delta.proofs.across.residual.Goals as goal
 

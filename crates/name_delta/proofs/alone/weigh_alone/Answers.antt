@@ -1,8 +1,8 @@
 use Rattle.std.proofs.Common.{◌≡◌, ◌∙◌, ◌^◌, pos, ◌≤ℤ◌, FitsSigned, rules, unsigned_abs, ap, sym, subst, arith}
 use Rattle.std.specs.Int.{w128, w64, cast_signed, cast_unsigned}
-use Rattle.mh_units.proofs.Integers.{same128, same64}
-use Rattle.simm_rules.specs.Concentration.{cr}
-use Rattle.simm_rules.specs.Bucket.{weighted_value}
+use Rattle.simm_params.proofs.MhUnits.Integers.{same128, same64}
+use Rattle.simm_params.specs.SimmRules.Concentration.{cr}
+use Rattle.simm_params.specs.SimmRules.Bucket.{weighted_value}
 use Rattle.name_delta.proofs.Thick.{net_thick}
 use Rattle.name_delta.proofs.Weighings.{weighed_is}
 use Rattle.name_delta.proofs.alone.weigh_alone.Goals as goal

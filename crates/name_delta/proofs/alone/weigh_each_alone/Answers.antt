@@ -1,6 +1,6 @@
 use Rattle.std.proofs.Common.{◌∙◌, ℤ, ap, FitsSigned, rules}
 use Rattle.std.specs.Int.{w64, w128, cast_signed, cast_unsigned}
-use Rattle.mh_units.proofs.Integers.{same128}
+use Rattle.simm_params.proofs.MhUnits.Integers.{same128}
 use Rattle.name_delta.specs.Alone.{weighed_alone}
 use Rattle.name_delta.specs.Values.{IsSmall}
 use Rattle.name_delta.proofs.Weighings.{weighing_next}

@@ -1,7 +1,7 @@
 use Rattle.std.proofs.Common.{◌∙◌, ap, sym, subst, pos, refl, ◌*◌, ◌^◌, ◌≤◌, FitsSigned, rules, unsigned_abs, arith}
 use Rattle.std.specs.Int.{w128, w64}
-use Rattle.mh_units.specs.Rounding.{away}
-use Rattle.mh_units.proofs.Integers.{same128, same64}
+use Rattle.simm_params.specs.MhUnits.Rounding.{away}
+use Rattle.simm_params.proofs.MhUnits.Integers.{same128, same64}
 use Rattle.weighted_bucket.proofs.Passing.{factors_passed, product_passed, weight_net_fits}
 use Rattle.name_delta.proofs.Weighings.{weighed_with}
 use Rattle.name_delta.proofs.base.weigh_index.Goals as goal

@@ -1,6 +1,6 @@
 use Rattle.std.proofs.Common.{◌∙◌, ap, FitsSigned, rules}
 use Rattle.std.specs.Int.{w128}
-use Rattle.mh_units.proofs.Integers.{same128}
+use Rattle.simm_params.proofs.MhUnits.Integers.{same128}
 use Rattle.name_delta.specs.Base.{weighed_net}
 use Rattle.name_delta.specs.Values.{IsSmall}
 use Rattle.name_delta.proofs.Weighings.{weighing_next}

@@ -1,10 +1,10 @@
 use Rattle.std.proofs.Common.{◌≡◌, ◌∙◌, ◌+◌, ◌*◌, ◌≤◌, length, refl, ap, sym, subst, pos, ◌<ℤ◌, ◌≤ℤ◌, FitsSigned, rules}
 use Rattle.std.specs.Int.{w64}
 use Rattle.std.proofs.lemmas.List.{length-map}
-use Rattle.mh_units.proofs.Integers.{same64}
-use Rattle.simm_rules.specs.Risks.{CreditPoint, Amount}
-use Rattle.simm_rules.specs.Concentration.{one}
-use Rattle.simm_rules.specs.Credit.{weighted_point}
+use Rattle.simm_params.proofs.MhUnits.Integers.{same64}
+use Rattle.simm_params.specs.SimmRules.Risks.{CreditPoint, Amount}
+use Rattle.simm_params.specs.SimmRules.Concentration.{one}
+use Rattle.simm_params.specs.SimmRules.Credit.{weighted_point}
 use Rattle.simm_params.specs.ClassKinds.{credit_class}
 use Rattle.simm_params.specs.ListedBuckets.{credit_bucket_view}
 use Rattle.weighted_bucket.specs.declared.scaling.Scaling.TheVariants as scaling

@@ -1,7 +1,7 @@
 use Rattle.std.proofs.Common.{◌≡◌, ◌∙◌, ◌<◌, ◌≤◌, ap, sym, subst, pos, unsigned_abs, FitsSigned, rules, arith}
 use Rattle.std.specs.Int.{w128, cast_signed, cast_unsigned}
-use Rattle.mh_units.proofs.Integers.{same128}
-use Rattle.simm_rules.specs.Bucket.{weighted_value}
+use Rattle.simm_params.proofs.MhUnits.Integers.{same128}
+use Rattle.simm_params.specs.SimmRules.Bucket.{weighted_value}
 use Rattle.weighted_bucket.specs.declared.group.Grouped.{Grouped}
 use Rattle.weighted_bucket.specs.Group.{at, group_net, group_factor}
 use Rattle.name_delta.specs.Points.{weighed_in}

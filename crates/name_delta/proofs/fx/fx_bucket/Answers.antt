@@ -1,7 +1,7 @@
 use Rattle.std.proofs.Common.{◌≡◌, ◌∙◌, ◌+◌, ◌*◌, ◌≤◌, ℕ, List, map, length, ap, sym, subst, pos, ◌<ℤ◌, ◌≤ℤ◌}
 use Rattle.std.proofs.lemmas.List.{length-map}
-use Rattle.simm_rules.specs.Concentration.{one}
-use Rattle.simm_rules.specs.ForeignExchange.{fx_weight, fx_threshold}
+use Rattle.simm_params.specs.SimmRules.Concentration.{one}
+use Rattle.simm_params.specs.SimmRules.ForeignExchange.{fx_weight, fx_threshold}
 use Rattle.weighted_bucket.specs.declared.weighed.Weighed.{Weighed}
 use Rattle.name_delta.specs.Currencies.{category_of, currencies_in, weighed_currency}
 use Rattle.name_delta.specs.Values.{AreSmall}

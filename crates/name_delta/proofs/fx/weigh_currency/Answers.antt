@@ -1,7 +1,7 @@
 use Rattle.std.proofs.Common.{◌≡◌, ◌∙◌, FitsSigned, rules, ap, sym, subst}
 use Rattle.std.specs.Int.{w64, cast_signed, cast_unsigned}
-use Rattle.mh_units.proofs.Integers.{same128, same64}
-use Rattle.simm_rules.specs.ForeignExchange.{fx_weight, fx_threshold}
+use Rattle.simm_params.proofs.MhUnits.Integers.{same128, same64}
+use Rattle.simm_params.specs.SimmRules.ForeignExchange.{fx_weight, fx_threshold}
 use Rattle.simm_params.specs.Categories.{category_threshold, category_weight}
 use Rattle.name_delta.specs.Alone.{AreTerms, weighed_alone}
 use Rattle.name_delta.specs.Values.{IsSmall}

@@ -1,8 +1,8 @@
 use Rattle.std.proofs.Common.{◌∙◌, ap, sym, FitsSigned, rules}
 use Rattle.std.specs.Int.{w128}
-use Rattle.mh_units.proofs.Integers.{same128}
-use Rattle.simm_kinds.specs.declared.key.FactorKey.{FactorKey}
-use Rattle.simm_rules.specs.ForeignExchange.{fx_weight}
+use Rattle.simm_params.proofs.MhUnits.Integers.{same128}
+use Rattle.simm_params.specs.SimmKinds.declared.key.FactorKey.{FactorKey}
+use Rattle.simm_params.specs.SimmRules.ForeignExchange.{fx_weight}
 use Rattle.factor_book.specs.declared.holding.Holding.{Holding}
 use Rattle.name_delta.specs.Currencies.{as_risky, category_of, weighed_currency}
 use Rattle.name_delta.proofs.Weighings.{picking_next, small_next}

@@ -1,15 +1,15 @@
 use Rattle.std.proofs.Common.{ℕ, List, not, ℤ, pos, ◌≤ℤ◌, arith}
 use Rattle.std.proofs.lemmas.Int.{ints}
-use Rattle.simm_kinds.specs.declared.kinds.ProductClass.{ProductClass}
-use Rattle.simm_kinds.specs.declared.row.CrifRow.{CrifRow}
-use Rattle.simm_rules.specs.Params.{Params}
-use Rattle.simm_rules.specs.Net.{sensitivities, in_product}
-use Rattle.simm_rules.specs.Risks.{CreditPoint, Amount, select}
-use Rattle.simm_rules.specs.Gross.{size_by}
-use Rattle.simm_rules.specs.BaseCorrelation.{as_index}
-use Rattle.simm_rules.specs.Credit.{as_credit}
-use Rattle.simm_rules.specs.ForeignExchange.{as_currency, is_own_currency, fx_weight}
-use Rattle.simm_rules.specs.Priced.{as_price}
+use Rattle.simm_params.specs.SimmKinds.declared.kinds.ProductClass.{ProductClass}
+use Rattle.simm_params.specs.SimmKinds.declared.row.CrifRow.{CrifRow}
+use Rattle.simm_params.specs.SimmRules.Params.{Params}
+use Rattle.simm_params.specs.SimmRules.Net.{sensitivities, in_product}
+use Rattle.simm_params.specs.SimmRules.Risks.{CreditPoint, Amount, select}
+use Rattle.simm_params.specs.SimmRules.Gross.{size_by}
+use Rattle.simm_params.specs.SimmRules.BaseCorrelation.{as_index}
+use Rattle.simm_params.specs.SimmRules.Credit.{as_credit}
+use Rattle.simm_params.specs.SimmRules.ForeignExchange.{as_currency, is_own_currency, fx_weight}
+use Rattle.simm_params.specs.SimmRules.Priced.{as_price}
 use Rattle.factor_book.specs.Factors.{factors_of}
 use Rattle.name_delta.specs.Base.{index_weight}
 use Rattle.name_delta.specs.Currencies.{currencies_in}

@@ -1,8 +1,8 @@
 use Rattle.std.proofs.Common.{◌∙◌, map, ap, sym}
 use Rattle.std.proofs.lemmas.Simd.{map-map}
-use Rattle.simm_kinds.specs.declared.key.FactorKey.{FactorKey}
-use Rattle.simm_kinds.specs.Order.{same_product}
-use Rattle.simm_rules.specs.Net.{Sensitivity, sensitivities, in_product, keys_of}
+use Rattle.simm_params.specs.SimmKinds.declared.key.FactorKey.{FactorKey}
+use Rattle.simm_params.specs.SimmKinds.Order.{same_product}
+use Rattle.simm_params.specs.SimmRules.Net.{Sensitivity, sensitivities, in_product, keys_of}
 use Rattle.factor_book.specs.Factors.{factor_of, factors_of, net_of}
 use Rattle.name_delta.proofs.Lists.{map-filter}
 use Rattle.name_delta.proofs.laws.products_are_netted.Goals as goal

@@ -2,8 +2,8 @@ use Rattle.std.proofs.Common.{◌≡◌, ◌∙◌, ◌+◌, ◌-◌, ◌<◌, �
 use Rattle.std.proofs.lemmas.Bool.{not-true, not-false}
 use Rattle.std.proofs.lemmas.List.{get_or-map}
 use Rattle.std.proofs.lemmas.Map.Text.{is_eq-slice_cmp}
-use Rattle.simm_kinds.specs.Order.{same_name}
-use Rattle.simm_rules.specs.Risks.{Amount}
+use Rattle.simm_params.specs.SimmKinds.Order.{same_name}
+use Rattle.simm_params.specs.SimmRules.Risks.{Amount}
 use Rattle.name_delta.specs.declared.points.Point.{Point}
 use Rattle.name_delta.specs.Points.{net_at, point_view, points_view}
 use Rattle.name_delta.proofs.Numbers.{changes-le, number_same, number_other, number_first}

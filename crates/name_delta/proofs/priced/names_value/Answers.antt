@@ -2,9 +2,9 @@ use Rattle.std.proofs.Common.{◌≡◌, ◌∙◌, ◌+◌, ◌*◌, ◌≤◌,
 use Rattle.std.specs.List.{AllByRecursion}
 use Rattle.std.specs.Int.{w64}
 use Rattle.std.proofs.lemmas.List.{length-map}
-use Rattle.mh_units.proofs.Integers.{same64}
-use Rattle.simm_rules.specs.Risks.{Amount}
-use Rattle.simm_rules.specs.Concentration.{one}
+use Rattle.simm_params.proofs.MhUnits.Integers.{same64}
+use Rattle.simm_params.specs.SimmRules.Risks.{Amount}
+use Rattle.simm_params.specs.SimmRules.Concentration.{one}
 use Rattle.simm_params.specs.ClassKinds.{priced_class}
 use Rattle.simm_params.specs.ListedBuckets.{priced_bucket_view}
 use Rattle.weighted_bucket.specs.declared.weighed.Weighed.{Weighed}

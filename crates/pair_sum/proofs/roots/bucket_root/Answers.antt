@@ -1,7 +1,7 @@
 use Rattle.std.proofs.Common.{◌≡◌, ◌∙◌, ap, rules, arith, pos, FitsSigned}
 use Rattle.std.proofs.lemmas.Int.{ints, to_z-of_z}
 use Rattle.std.specs.Int.{w128}
-use Rattle.mh_units.specs.Rounding.{up, root}
+use Rattle.simm_rules.specs.MhUnits.Rounding.{up, root}
 use Rattle.simm_rules.specs.Concentration.{one}
 use Rattle.pair_sum.proofs.RootBounds.{root_none, within_from, bits_within}
 use Rattle.pair_sum.proofs.roots.bucket_root.Goals as goal

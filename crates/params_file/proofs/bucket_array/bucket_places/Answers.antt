@@ -1,6 +1,6 @@
 use Rattle.std.proofs.Common.{nat_le, sym, ◌∙◌, arith}
 use Rattle.std.proofs.lemmas.Bool.{and_parts, leb-true}
-use Rattle.toml_values.proofs.Shapes.{items_count-view}
+use Rattle.simm_params.proofs.TomlValues.Shapes.{items_count-view}
 use Rattle.params_file.proofs.bucket_array.bucket_places.Goals as goal
 
 pub returns-then-is_bucket_count-clause-few : goal.returns-then-is_bucket_count-clause-few

@@ -1,9 +1,9 @@
 use Rattle.std.proofs.Common.{[], map, arith}
 use Rattle.std.proofs.lemmas.Result.{err_from_is_err_and}
 use Rattle.std.proofs.lemmas.List.Elements.{All-nil, All-push}
-use Rattle.toml_values.specs.Answers.{is_memory}
-use Rattle.toml_values.specs.Paths.{word_of}
-use Rattle.toml_values.proofs.Places.{begins, goes_on, ends, is_done}
+use Rattle.simm_params.specs.TomlValues.Answers.{is_memory}
+use Rattle.simm_params.specs.TomlValues.Paths.{word_of}
+use Rattle.simm_params.proofs.TomlValues.Places.{begins, goes_on, ends, is_done}
 use Rattle.simm_params.specs.BucketView.{bucket_view}
 use Rattle.params_file.specs.Classes.{bucket_at}
 use Rattle.params_file.specs.ClassRanges.{IsClassBucket}

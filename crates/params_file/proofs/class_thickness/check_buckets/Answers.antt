@@ -1,5 +1,5 @@
 use Rattle.std.proofs.Common.{List, map, ap, ◌∙◌, subst}
-use Rattle.simm_rules.specs.Params.{BucketTerms}
+use Rattle.simm_params.specs.SimmRules.Params.{BucketTerms}
 use Rattle.simm_params.specs.Buckets.{ClassBucket}
 use Rattle.params_file.specs.Faults.{Gives, is_memory}
 use Rattle.simm_params.specs.Thickness.{AreThickBuckets}

@@ -1,5 +1,5 @@
 use Rattle.std.proofs.Common.{List, OnOk, subst}
-use Rattle.simm_rules.specs.Params.{BucketTerms}
+use Rattle.simm_params.specs.SimmRules.Params.{BucketTerms}
 use Rattle.params_file.specs.Faults.{Gives}
 use Rattle.params_file.specs.BucketClass.{class_key}
 use Rattle.simm_params.specs.Thickness.{AreThickBuckets}

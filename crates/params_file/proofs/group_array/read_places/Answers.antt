@@ -3,9 +3,9 @@ use Rattle.std.proofs.lemmas.List.{map-append}
 use Rattle.std.proofs.lemmas.List.Elements.{All-push}
 use Rattle.std.proofs.lemmas.Result.{err_from_is_err_and}
 use Rattle.toml.specs.View.{view}
-use Rattle.toml_values.specs.Answers.{Unless, is_memory}
-use Rattle.toml_values.proofs.Places.{goes_on, ends, is_done}
-use Rattle.simm_rules.specs.Params.{CurrencyGroup}
+use Rattle.simm_params.specs.TomlValues.Answers.{Unless, is_memory}
+use Rattle.simm_params.proofs.TomlValues.Places.{goes_on, ends, is_done}
+use Rattle.simm_params.specs.SimmRules.Params.{CurrencyGroup}
 use Rattle.simm_params.specs.GroupView.{group_view}
 use Rattle.simm_params.specs.Thresholds.{AreThresholds}
 use Rattle.params_file.specs.Groups.{group_at, group_of}

@@ -1,7 +1,7 @@
 use Rattle.std.proofs.Common.{◌≡◌, [], map}
 use Rattle.toml.specs.View.{items_view}
-use Rattle.toml_values.specs.Places.{each_of}
-use Rattle.toml_values.proofs.Places.{SoFar}
+use Rattle.simm_params.specs.TomlValues.Places.{each_of}
+use Rattle.simm_params.proofs.TomlValues.Places.{SoFar}
 use Rattle.simm_params.specs.GroupView.{group_view}
 use Rattle.params_file.specs.Groups.{AreGroups, currencies_in, group_at}
 use Rattle.params_file.proofs.group_array.read_places.Given as goal

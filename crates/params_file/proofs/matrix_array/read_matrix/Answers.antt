@@ -1,5 +1,5 @@
 use Rattle.std.proofs.Common.{map}
-use Rattle.toml_values.specs.Paths.{word_of}
+use Rattle.simm_params.specs.TomlValues.Paths.{word_of}
 use Rattle.params_file.proofs.Each.{array_of_length-count}
 use Rattle.params_file.proofs.Matrices.{is_matrix, is_square}
 use Rattle.params_file.proofs.matrix_array.read_matrix.Goals as goal

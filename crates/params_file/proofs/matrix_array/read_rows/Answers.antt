@@ -1,8 +1,8 @@
 use Rattle.std.proofs.Common.{[], map}
 use Rattle.std.proofs.lemmas.Result.{err_from_is_err_and}
-use Rattle.toml_values.specs.Answers.{is_memory}
-use Rattle.toml_values.specs.Paths.{word_of}
-use Rattle.toml_values.proofs.Places.{goes_on, ends, is_done}
+use Rattle.simm_params.specs.TomlValues.Answers.{is_memory}
+use Rattle.simm_params.specs.TomlValues.Paths.{word_of}
+use Rattle.simm_params.proofs.TomlValues.Places.{goes_on, ends, is_done}
 use Rattle.params_file.specs.Matrix.{row_at}
 use Rattle.params_file.proofs.matrix_array.read_rows.Goals as goal
 

@@ -1,8 +1,8 @@
 use Rattle.std.proofs.Common.{[], map}
 use Rattle.toml.specs.View.{items_view}
-use Rattle.toml_values.specs.Paths.{word_of}
-use Rattle.toml_values.specs.Places.{each_of}
-use Rattle.toml_values.proofs.Places.{SoFar}
+use Rattle.simm_params.specs.TomlValues.Paths.{word_of}
+use Rattle.simm_params.specs.TomlValues.Places.{each_of}
+use Rattle.simm_params.proofs.TomlValues.Places.{SoFar}
 use Rattle.params_file.specs.Matrix.{rate_at}
 use Rattle.params_file.proofs.rate_array.read_places.Given as goal
 

@@ -1,6 +1,6 @@
 use Rattle.std.proofs.Common.{map}
-use Rattle.toml_values.specs.Answers.{is_memory}
-use Rattle.toml_values.specs.Paths.{word_of}
+use Rattle.simm_params.specs.TomlValues.Answers.{is_memory}
+use Rattle.simm_params.specs.TomlValues.Paths.{word_of}
 use Rattle.params_file.proofs.Each.{of_given, array_of_length-count}
 use Rattle.params_file.proofs.Matrices.{are_rates}
 use Rattle.params_file.proofs.rate_array.read_rates.Goals as goal

@@ -1,6 +1,6 @@
 use Rattle.std.proofs.lemmas.Result.{err_from_is_err_and}
-use Rattle.toml_values.specs.Answers.{is_memory}
-use Rattle.toml_values.proofs.Places.{Unless-from}
+use Rattle.simm_params.specs.TomlValues.Answers.{is_memory}
+use Rattle.simm_params.proofs.TomlValues.Places.{Unless-from}
 use Rattle.params_file.specs.Grammar.{tables_of}
 use Rattle.params_file.proofs.Each.{ended}
 use Rattle.params_file.proofs.root_table.read_tables.Goals as goal

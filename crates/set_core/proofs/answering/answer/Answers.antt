@@ -1,5 +1,5 @@
 use Rattle.std.proofs.Common.{rules, refl, sym, ap, ◌∙◌, subst, IfOk, ℤ, FitsSigned, w64, to_z, of_z}
-use Rattle.mh_units.proofs.Integers.{same64}
+use Rattle.collateral_ledger.proofs.MhUnits.Integers.{same64}
 use Rattle.set_core.specs.declared.event.Event.{Event}
 use Rattle.set_core.specs.declared.event.Event.TheVariants as event
 use Rattle.set_core.specs.declared.reply.Reply.TheVariants as reply

@@ -1,5 +1,5 @@
 use Rattle.std.proofs.Common.{◌≡◌, ℕ, Option, None, Some, refl, sym, ap, ◌∙◌, Err}
-use Rattle.simm_rules.specs.declared.values.RangeFault.{RangeFault}
+use Rattle.bucket_cache.specs.SimmRules.declared.values.RangeFault.{RangeFault}
 use Rattle.bucket_cache.specs.declared.place.RowPlace.{RowPlace}
 use Rattle.set_core.specs.declared.event.Event.TheVariants as events
 use Rattle.set_core.specs.declared.reply.Reply.TheVariants as reply

@@ -1,8 +1,8 @@
 use Rattle.std.proofs.Common.{rules, ◌≡◌, ℕ, ◌^◌, Result, Ok, Err, IfOk, refl, false, sym, ap, ◌∙◌, subst, arith, ℤ, pos, ◌≤ℤ◌, ◌<ℤ◌, true, FitsSigned, w32, to_z, of_z}
 use Rattle.std.specs.Int.{w128}
 use Rattle.std.proofs.lemmas.Int.{ints, to_z-of_z}
-use Rattle.mh_units.proofs.Integers.{same128}
-use Rattle.csa_terms.specs.Calendar.{due_day}
+use Rattle.collateral_ledger.proofs.MhUnits.Integers.{same128}
+use Rattle.collateral_ledger.specs.CsaTerms.Calendar.{due_day}
 use Rattle.csa_calls.specs.declared.CallAmount.{CallAmount}
 use Rattle.csa_calls.specs.declared.CallAmount.TheVariants as amount
 use Rattle.bucket_cache.specs.Live.{Live}

@@ -1,5 +1,5 @@
 use Rattle.std.proofs.Common.{◌∷◌, ◌++◌, [], refl, subst, IfOk, ℤ, w64, to_z, of_z}
-use Rattle.mh_units.proofs.Integers.{same64}
+use Rattle.collateral_ledger.proofs.MhUnits.Integers.{same64}
 use Rattle.set_core.specs.Live.{Traded, Does}
 use Rattle.collateral_ledger.specs.Booked.{rate_of}
 use Rattle.collateral_ledger.specs.Refusals.{IsCause, put_refusal}

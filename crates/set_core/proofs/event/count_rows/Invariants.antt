@@ -1,5 +1,5 @@
 use Rattle.std.proofs.Common.{◌≡◌, length, take}
-use Rattle.simm_kinds.specs.Batch.{rows_of}
+use Rattle.collateral_ledger.specs.SimmKinds.Batch.{rows_of}
 use Rattle.set_core.proofs.event.count_rows.Given as goal
 
 abbrev pub invariant-loop-trade : goal.invariant-loop-trade

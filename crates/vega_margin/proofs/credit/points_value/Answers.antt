@@ -1,10 +1,10 @@
 use Rattle.std.proofs.Common.{◌≡◌, ◌+◌, ◌*◌, ◌≤◌, map, sym, subst, IfOk}
 use Rattle.std.proofs.lemmas.Result.{IfOk-weaker}
-use Rattle.simm_rules.specs.declared.values.BucketMargin.{BucketMargin}
-use Rattle.simm_params.specs.ClassKinds.{credit_class}
-use Rattle.simm_params.specs.ListedBuckets.{credit_bucket_view}
-use Rattle.name_delta.specs.Points.{AreGrouped}
-use Rattle.name_delta.proofs.Numbers.{issuer_rho-symmetric, issuer_rho-small}
+use Rattle.vol_factors.specs.SimmRules.declared.values.BucketMargin.{BucketMargin}
+use Rattle.vol_factors.specs.SimmParams.ClassKinds.{credit_class}
+use Rattle.vol_factors.specs.SimmParams.ListedBuckets.{credit_bucket_view}
+use Rattle.vol_factors.specs.NameDelta.Points.{AreGrouped}
+use Rattle.vol_factors.proofs.NameDelta.Numbers.{issuer_rho-symmetric, issuer_rho-small}
 use Rattle.vol_factors.specs.Credit.{issuer_net}
 use Rattle.vol_factors.specs.Places.{points_of}
 use Rattle.vol_factors.specs.Ranges.{alone}

@@ -1,7 +1,7 @@
 use Rattle.std.proofs.Common.{◌≡◌, ◌∙◌, ap, ℤ, FitsSigned, rules}
 use Rattle.std.specs.Int.{w64, w128, cast_signed, cast_unsigned}
-use Rattle.mh_units.proofs.Integers.{same64, same128}
-use Rattle.simm_rules.specs.ForeignExchange.{fx_sigma}
+use Rattle.vol_factors.proofs.MhUnits.Integers.{same64, same128}
+use Rattle.vol_factors.specs.SimmRules.ForeignExchange.{fx_sigma}
 use Rattle.vega_margin.specs.Singles.{single_group, vega_risk}
 use Rattle.vega_margin.proofs.fx.group_pair.Goals as goal
 

@@ -1,7 +1,7 @@
 use Rattle.std.proofs.Common.{◌∙◌, ◌*◌, ◌^◌, List, IfOk, map, ap, subst, arith}
-use Rattle.simm_kinds.specs.Pair.{Pair}
-use Rattle.simm_rules.specs.Risks.{Amount}
-use Rattle.simm_rules.specs.ForeignExchange.{fx_sigma, fx_vega_threshold}
+use Rattle.vol_factors.specs.SimmKinds.Pair.{Pair}
+use Rattle.vol_factors.specs.SimmRules.Risks.{Amount}
+use Rattle.vol_factors.specs.SimmRules.ForeignExchange.{fx_sigma, fx_vega_threshold}
 use Rattle.vol_factors.specs.declared.tenor_scale.TenorScale.TheVariants as scale
 use Rattle.vol_factors.specs.Pairs.{pair_view}
 use Rattle.vol_factors.specs.Places.{pair_volatilities}

@@ -1,6 +1,6 @@
 use Rattle.std.proofs.Common.{◌≡◌, ◌∙◌, sym, ap, length, map, get_or, rules, arith}
 use Rattle.std.proofs.lemmas.List.{get_or-map, length-map}
-use Rattle.simm_rules.specs.ForeignExchange.{fx_sigma, fx_vega_threshold}
+use Rattle.vol_factors.specs.SimmRules.ForeignExchange.{fx_sigma, fx_vega_threshold}
 use Rattle.vol_factors.specs.Pairs.{pair_view}
 use Rattle.vega_margin.proofs.OwnGroups.{grouping_next, all_grouped}
 use Rattle.vega_margin.proofs.fx.group_sums.Goals as goal

@@ -1,5 +1,5 @@
 use Rattle.std.proofs.Common.{map}
-use Rattle.simm_rules.specs.ForeignExchange.{fx_sigma, fx_vega_threshold}
+use Rattle.vol_factors.specs.SimmRules.ForeignExchange.{fx_sigma, fx_vega_threshold}
 use Rattle.vol_factors.specs.Pairs.{pair_view}
 use Rattle.vega_margin.proofs.OwnGroups.{Grouping}
 use Rattle.vega_margin.proofs.fx.group_sums.Given as goal

@@ -1,8 +1,8 @@
 use Rattle.std.proofs.Common.{◌≡◌, ◌∙◌, ◌+◌, ◌*◌, ◌≤◌, ap, sym, subst, IfOk}
 use Rattle.std.proofs.lemmas.Result.{IfOk-weaker}
-use Rattle.simm_rules.specs.declared.values.BucketMargin.{BucketMargin}
-use Rattle.simm_rules.specs.Lookups.{six}
-use Rattle.simm_rules.specs.ForeignExchange.{fx_sigma, fx_vega_threshold}
+use Rattle.vol_factors.specs.SimmRules.declared.values.BucketMargin.{BucketMargin}
+use Rattle.vol_factors.specs.SimmRules.Lookups.{six}
+use Rattle.vol_factors.specs.SimmRules.ForeignExchange.{fx_sigma, fx_vega_threshold}
 use Rattle.vol_factors.specs.Places.{pair_volatilities}
 use Rattle.vega_margin.specs.Groups.{IsValueOf}
 use Rattle.vega_margin.specs.Singles.{pair_nets, AreGrouped}

@@ -1,6 +1,6 @@
 use Rattle.std.proofs.Common.{◌∙◌, FitsSigned, rules}
 use Rattle.std.specs.Int.{w64}
-use Rattle.mh_units.proofs.Integers.{same64}
+use Rattle.vol_factors.proofs.MhUnits.Integers.{same64}
 use Rattle.vega_margin.proofs.Thresholds.{threshold_is}
 use Rattle.vega_margin.proofs.fx.threshold.Goals as goal
 

@@ -1,5 +1,5 @@
-use Rattle.simm_rules.specs.ForeignExchange.{as_pair_volatility}
-use Rattle.simm_rules.specs.Priced.{as_price_volatility}
+use Rattle.vol_factors.specs.SimmRules.ForeignExchange.{as_pair_volatility}
+use Rattle.vol_factors.specs.SimmRules.Priced.{as_price_volatility}
 use Rattle.vega_margin.proofs.Bounded.{nets_bounded}
 use Rattle.vega_margin.proofs.laws.changes_are_bounded.Goals as goal
 

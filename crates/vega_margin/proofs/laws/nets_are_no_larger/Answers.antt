@@ -1,18 +1,18 @@
 use Rattle.std.proofs.Common.{ℕ, List, pos, ◌≤ℤ◌, arith}
 use Rattle.std.proofs.lemmas.Int.{ints}
-use Rattle.simm_kinds.specs.declared.kinds.ProductClass.{ProductClass}
-use Rattle.simm_kinds.specs.declared.row.CrifRow.{CrifRow}
-use Rattle.simm_kinds.specs.Order.{same_name}
-use Rattle.simm_rules.specs.Net.{sensitivities, in_product}
-use Rattle.simm_rules.specs.Risks.{CreditPoint, Amount, select}
-use Rattle.simm_rules.specs.Gross.{size_by}
-use Rattle.simm_rules.specs.Rates.{VolatilityIn, as_rate_volatility}
-use Rattle.simm_rules.specs.Credit.{as_credit_volatility}
-use Rattle.simm_rules.specs.ForeignExchange.{PairVolatility, as_pair_volatility, fx_sigma}
-use Rattle.simm_rules.specs.Priced.{NameVolatility, as_price_volatility}
-use Rattle.factor_book.specs.Factors.{factors_of}
-use Rattle.name_delta.specs.Values.{nets_in}
-use Rattle.name_delta.proofs.Shrinking.{SizesAreNetted, nets_shrink, filter_shrinks}
+use Rattle.vol_factors.specs.SimmKinds.declared.kinds.ProductClass.{ProductClass}
+use Rattle.vol_factors.specs.SimmKinds.declared.row.CrifRow.{CrifRow}
+use Rattle.vol_factors.specs.SimmKinds.Order.{same_name}
+use Rattle.vol_factors.specs.SimmRules.Net.{sensitivities, in_product}
+use Rattle.vol_factors.specs.SimmRules.Risks.{CreditPoint, Amount, select}
+use Rattle.vol_factors.specs.SimmRules.Gross.{size_by}
+use Rattle.vol_factors.specs.SimmRules.Rates.{VolatilityIn, as_rate_volatility}
+use Rattle.vol_factors.specs.SimmRules.Credit.{as_credit_volatility}
+use Rattle.vol_factors.specs.SimmRules.ForeignExchange.{PairVolatility, as_pair_volatility, fx_sigma}
+use Rattle.vol_factors.specs.SimmRules.Priced.{NameVolatility, as_price_volatility}
+use Rattle.vol_factors.specs.FactorBook.Factors.{factors_of}
+use Rattle.vol_factors.specs.NameDelta.Values.{nets_in}
+use Rattle.vol_factors.proofs.NameDelta.Shrinking.{SizesAreNetted, nets_shrink, filter_shrinks}
 use Rattle.vol_factors.specs.Places.{volatilities_of}
 use Rattle.vol_factors.specs.Ranges.{alone}
 use Rattle.vol_factors.proofs.Sigmas.{sigma_low}

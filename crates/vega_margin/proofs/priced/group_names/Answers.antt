@@ -1,6 +1,6 @@
 use Rattle.std.proofs.Common.{◌∙◌, ◌*◌, ◌^◌, IfOk, map, ap, subst, arith}
-use Rattle.simm_params.specs.ClassKinds.{priced_class}
-use Rattle.simm_params.specs.ListedBuckets.{priced_bucket_view}
+use Rattle.vol_factors.specs.SimmParams.ClassKinds.{priced_class}
+use Rattle.vol_factors.specs.SimmParams.ListedBuckets.{priced_bucket_view}
 use Rattle.vol_factors.specs.declared.tenor_scale.TenorScale.TheVariants as scale
 use Rattle.vol_factors.specs.Names.{sum_view}
 use Rattle.vol_factors.specs.Places.{name_volatilities}

@@ -1,8 +1,8 @@
 use Rattle.std.proofs.Common.{◌≡◌, ◌∙◌, length, map, get_or, ap, sym, FitsSigned, rules, arith}
 use Rattle.std.specs.Int.{w64, w128}
 use Rattle.std.proofs.lemmas.List.{get_or-map, length-map}
-use Rattle.mh_units.proofs.Integers.{same64, same128}
-use Rattle.simm_params.specs.ListedBuckets.{priced_bucket_view}
+use Rattle.vol_factors.proofs.MhUnits.Integers.{same64, same128}
+use Rattle.vol_factors.specs.SimmParams.ListedBuckets.{priced_bucket_view}
 use Rattle.vol_factors.specs.Names.{sum_view}
 use Rattle.vega_margin.specs.Singles.{single_group, vega_risk}
 use Rattle.vega_margin.proofs.OwnGroups.{grouping_next, all_grouped}

@@ -1,9 +1,9 @@
 use Rattle.std.proofs.Common.{◌≡◌, ◌+◌, ◌*◌, ◌≤◌, length, sym, subst, IfOk}
 use Rattle.std.proofs.lemmas.Result.{IfOk-weaker}
-use Rattle.simm_rules.specs.declared.values.BucketMargin.{BucketMargin}
-use Rattle.simm_rules.specs.Priced.{NameVolatility}
-use Rattle.simm_params.specs.ClassKinds.{priced_class}
-use Rattle.simm_params.specs.ListedBuckets.{priced_bucket_view}
+use Rattle.vol_factors.specs.SimmRules.declared.values.BucketMargin.{BucketMargin}
+use Rattle.vol_factors.specs.SimmRules.Priced.{NameVolatility}
+use Rattle.vol_factors.specs.SimmParams.ClassKinds.{priced_class}
+use Rattle.vol_factors.specs.SimmParams.ListedBuckets.{priced_bucket_view}
 use Rattle.vol_factors.specs.Places.{name_volatilities}
 use Rattle.vega_margin.specs.Groups.{IsValueOf}
 use Rattle.vega_margin.specs.Singles.{name_nets, AreGrouped}

@@ -1,10 +1,10 @@
 use Rattle.std.proofs.Common.{◌≡◌, ◌∙◌, List, option_map, Option, Some, Result, Ok, Err, IfOk, ℤ, ap}
-use Rattle.simm_rules.specs.declared.values.BucketMargin.{BucketMargin}
-use Rattle.simm_rules.specs.Params.{PricedBucket}
-use Rattle.simm_rules.specs.Risks.{Amount}
-use Rattle.simm_rules.specs.Priced.{NameVolatility, priced_params, price_vega_value}
-use Rattle.simm_params.specs.ClassKinds.{priced_class}
-use Rattle.simm_params.specs.ListedBuckets.{priced_bucket_of, priced_bucket_view}
+use Rattle.vol_factors.specs.SimmRules.declared.values.BucketMargin.{BucketMargin}
+use Rattle.vol_factors.specs.SimmRules.Params.{PricedBucket}
+use Rattle.vol_factors.specs.SimmRules.Risks.{Amount}
+use Rattle.vol_factors.specs.SimmRules.Priced.{NameVolatility, priced_params, price_vega_value}
+use Rattle.vol_factors.specs.SimmParams.ClassKinds.{priced_class}
+use Rattle.vol_factors.specs.SimmParams.ListedBuckets.{priced_bucket_of, priced_bucket_view}
 use Rattle.vol_factors.specs.Places.{name_volatilities}
 use Rattle.vega_margin.proofs.priced.priced_bucket.Goals as goal
 

@@ -1,11 +1,11 @@
 use Rattle.std.proofs.Common.{◌≡◌, ◌∙◌, ◌+◌, ◌*◌, ◌^◌, ◌≤◌, map, length, ap, sym, subst, pos, ◌<ℤ◌, ◌≤ℤ◌, arith}
 use Rattle.std.proofs.lemmas.List.{length-map}
-use Rattle.simm_rules.specs.Concentration.{one}
-use Rattle.simm_rules.specs.Params.{Thresholds}
-use Rattle.simm_rules.specs.Rates.{rate_volatility_cr}
-use Rattle.weighted_bucket.specs.declared.scaling.Scaling.TheVariants as scaling
-use Rattle.weighted_bucket.specs.Bucket.{bucket_value}
-use Rattle.name_delta.specs.Points.{weighed_in}
+use Rattle.vol_factors.specs.SimmRules.Concentration.{one}
+use Rattle.vol_factors.specs.SimmRules.Params.{Thresholds}
+use Rattle.vol_factors.specs.SimmRules.Rates.{rate_volatility_cr}
+use Rattle.vol_factors.specs.WeightedBucket.declared.scaling.Scaling.TheVariants as scaling
+use Rattle.vol_factors.specs.WeightedBucket.Bucket.{bucket_value}
+use Rattle.vol_factors.specs.NameDelta.Points.{weighed_in}
 use Rattle.vol_factors.specs.Places.{volatilities_of}
 use Rattle.vol_factors.specs.Rates.{sum_view, rho_at}
 use Rattle.vol_factors.proofs.InRange.{amounts_small}

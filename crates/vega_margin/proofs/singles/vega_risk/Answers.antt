@@ -1,7 +1,7 @@
 use Rattle.std.proofs.Common.{◌≡◌, ◌∙◌, ap, sym, subst, pos, ◌^◌, ◌*ℤ◌, FitsSigned, rules}
 use Rattle.std.specs.Int.{w128, w64, cast_signed, cast_unsigned}
-use Rattle.mh_units.specs.Rounding.{away}
-use Rattle.mh_units.proofs.Integers.{same128, same64}
+use Rattle.vol_factors.specs.MhUnits.Rounding.{away}
+use Rattle.vol_factors.proofs.MhUnits.Integers.{same128, same64}
 use Rattle.vega_margin.proofs.OwnGroups.{pair_fits, risk_fits}
 use Rattle.vega_margin.proofs.singles.vega_risk.Goals as goal
 

@@ -3,15 +3,15 @@ use Rattle.std.proofs.lemmas.Int.{ints}
 use Rattle.std.proofs.lemmas.List.{take_all}
 use Rattle.std.proofs.lemmas.List.Sums.{get_or-le-sum_by}
 use Rattle.std.specs.Int.{w128, cast_signed, cast_unsigned}
-use Rattle.mh_units.proofs.Integers.{same128}
-use Rattle.simm_rules.specs.Bucket.{weighted_value}
-use Rattle.weighted_bucket.specs.declared.group.Grouped.{Grouped}
-use Rattle.weighted_bucket.specs.Group.{at, group_net, group_factor}
-use Rattle.name_delta.specs.Points.{weighed_in}
-use Rattle.name_delta.proofs.Alike.{made_more}
-use Rattle.name_delta.proofs.Groups.{factor_at}
-use Rattle.name_delta.proofs.Thick.{cr_size}
-use Rattle.name_delta.proofs.Weighings.{weighed_with, weighed_is}
+use Rattle.vol_factors.proofs.MhUnits.Integers.{same128}
+use Rattle.vol_factors.specs.SimmRules.Bucket.{weighted_value}
+use Rattle.vol_factors.specs.WeightedBucket.declared.group.Grouped.{Grouped}
+use Rattle.vol_factors.specs.WeightedBucket.Group.{at, group_net, group_factor}
+use Rattle.vol_factors.specs.NameDelta.Points.{weighed_in}
+use Rattle.vol_factors.proofs.NameDelta.Alike.{made_more}
+use Rattle.vol_factors.proofs.NameDelta.Groups.{factor_at}
+use Rattle.vol_factors.proofs.NameDelta.Thick.{cr_size}
+use Rattle.vol_factors.proofs.NameDelta.Weighings.{weighed_with, weighed_is}
 use Rattle.vega_margin.proofs.Sizes.{are_weighed}
 use Rattle.vega_margin.proofs.weighing.weigh_groups.Goals as goal
 

@@ -1,5 +1,5 @@
 use Rattle.std.proofs.Common.{◌≡◌, map, take}
-use Rattle.name_delta.specs.Points.{weighed_in}
+use Rattle.vol_factors.specs.NameDelta.Points.{weighed_in}
 use Rattle.vega_margin.proofs.weighing.weigh_groups.Given as goal
 
 abbrev pub invariant-loop-place : goal.invariant-loop-place

@@ -1,7 +1,7 @@
 use Rattle.std.proofs.Common.{◌∙◌, IfOk, ap, subst, FitsSigned, rules}
 use Rattle.std.specs.Int.{w64}
-use Rattle.mh_units.proofs.Integers.{same64}
-use Rattle.simm_params.specs.ClassKinds.{credit_class}
+use Rattle.ir_delta.proofs.MhUnits.Integers.{same64}
+use Rattle.ir_delta.specs.SimmParams.ClassKinds.{credit_class}
 use Rattle.name_delta.specs.Points.{issuer_nets_at, AreGrouped}
 use Rattle.vol_factors.proofs.VolatilePoints.{points_nets}
 use Rattle.vol_factors.proofs.credit.point_groups.Goals as goal

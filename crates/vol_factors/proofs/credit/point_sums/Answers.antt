@@ -1,6 +1,6 @@
 use Rattle.std.proofs.Common.{◌≡◌, ◌∙◌, ◌*◌, ◌^◌, IfOk, map, refl, sym, ap, subst}
-use Rattle.simm_params.specs.ClassKinds.{credit_class}
-use Rattle.factor_book.specs.Places.{factors_at}
+use Rattle.ir_delta.specs.SimmParams.ClassKinds.{credit_class}
+use Rattle.ir_delta.specs.FactorBook.Places.{factors_at}
 use Rattle.vol_factors.specs.Credit.{scaled_tenor, tenors_among}
 use Rattle.vol_factors.proofs.Lent.{points_small, points_scaled}
 use Rattle.vol_factors.proofs.credit.point_sums.Goals as goal

@@ -1,5 +1,5 @@
 use Rattle.std.proofs.Common.{◌≡◌, ◌*◌, ◌^◌, IfOk, map, subst}
-use Rattle.simm_params.specs.ClassKinds.{priced_class}
+use Rattle.ir_delta.specs.SimmParams.ClassKinds.{priced_class}
 use Rattle.vol_factors.specs.Names.{sum_view}
 use Rattle.vol_factors.proofs.Lent.{names_small, names_summed}
 use Rattle.vol_factors.proofs.names.name_sums.Goals as goal

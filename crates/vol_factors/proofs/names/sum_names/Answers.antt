@@ -1,6 +1,6 @@
 use Rattle.std.proofs.Common.{◌≡◌, ◌∙◌, ◌+◌, get_or, sym, subst, rules}
 use Rattle.std.proofs.lemmas.Map.Text.{is_eq-slice_cmp}
-use Rattle.simm_kinds.specs.Order.{same_name}
+use Rattle.ir_delta.specs.SimmKinds.Order.{same_name}
 use Rattle.vol_factors.specs.Names.{sum_view}
 use Rattle.vol_factors.proofs.Summing.{Summing, both_small, goes_on, goes_over}
 use Rattle.vol_factors.proofs.names.sum_names.Goals as goal

@@ -1,4 +1,4 @@
-use Rattle.simm_kinds.specs.Order.{same_name}
+use Rattle.ir_delta.specs.SimmKinds.Order.{same_name}
 use Rattle.vol_factors.specs.Names.{sum_view}
 use Rattle.vol_factors.proofs.Summing.{Summing}
 use Rattle.vol_factors.proofs.names.sum_names.Given as goal

@@ -1,7 +1,7 @@
 use Rattle.std.proofs.Common.{◌∙◌, ◌*◌, ◌^◌, ◌≤◌, List, ℕ, map, sym, ap, subst, unsigned_abs}
 use Rattle.std.specs.Prelude.{sum_by}
-use Rattle.simm_rules.specs.Risks.{Amount}
-use Rattle.simm_rules.specs.Priced.{NameVolatility}
+use Rattle.ir_delta.specs.SimmRules.Risks.{Amount}
+use Rattle.ir_delta.specs.SimmRules.Priced.{NameVolatility}
 use Rattle.vol_factors.specs.Names.{nets_among, scaled_nets, sum_view}
 use Rattle.vol_factors.proofs.NamesTogether.{names}
 use Rattle.vol_factors.proofs.Readings.{within_most}

@@ -1,7 +1,7 @@
 use Rattle.std.proofs.Common.{◌≡◌, ◌*◌, ◌^◌, ◌≤◌, map, sym, subst, unsigned_abs, rules}
 use Rattle.std.specs.Prelude.{sum_by}
-use Rattle.simm_kinds.specs.Pair.{Pair}
-use Rattle.simm_rules.specs.Risks.{Amount}
+use Rattle.ir_delta.specs.SimmKinds.Pair.{Pair}
+use Rattle.ir_delta.specs.SimmRules.Risks.{Amount}
 use Rattle.vol_factors.specs.Pairs.{pair_nets_among, scaled_pairs, pair_view}
 use Rattle.vol_factors.proofs.PairsTogether.{pairs}
 use Rattle.vol_factors.proofs.Readings.{within_most}

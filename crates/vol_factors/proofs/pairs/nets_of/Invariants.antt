@@ -1,5 +1,5 @@
 use Rattle.std.proofs.Common.{map}
-use Rattle.simm_rules.specs.ForeignExchange.{as_pair_volatility}
+use Rattle.ir_delta.specs.SimmRules.ForeignExchange.{as_pair_volatility}
 use Rattle.vol_factors.specs.Pairs.{scaled_pair, pair_view}
 use Rattle.vol_factors.proofs.Readings.{Reading}
 use Rattle.vol_factors.proofs.pairs.nets_of.Given as goal

@@ -1,6 +1,6 @@
 use Rattle.std.proofs.Common.{◌≡◌, ◌^◌, ◌*◌, List, map, IfOk, subst}
-use Rattle.simm_kinds.specs.Pair.{Pair}
-use Rattle.simm_rules.specs.Risks.{Amount}
+use Rattle.ir_delta.specs.SimmKinds.Pair.{Pair}
+use Rattle.ir_delta.specs.SimmRules.Risks.{Amount}
 use Rattle.vol_factors.specs.Pairs.{pair_view}
 use Rattle.vol_factors.proofs.Lent.{pairs_small, pairs_summed}
 use Rattle.vol_factors.proofs.pairs.pair_sums.Goals as goal

@@ -1,5 +1,5 @@
 use Rattle.std.proofs.Common.{◌≡◌, ◌∙◌, ◌+◌, get_or, sym, subst, rules}
-use Rattle.simm_kinds.specs.Order.{same_pair}
+use Rattle.ir_delta.specs.SimmKinds.Order.{same_pair}
 use Rattle.vol_factors.specs.Pairs.{pair_view}
 use Rattle.vol_factors.proofs.PairsTogether.{pair_tests}
 use Rattle.vol_factors.proofs.Summing.{Summing, both_small, goes_on, goes_over}

@@ -1,4 +1,4 @@
-use Rattle.simm_kinds.specs.Order.{same_pair}
+use Rattle.ir_delta.specs.SimmKinds.Order.{same_pair}
 use Rattle.vol_factors.specs.Pairs.{pair_view}
 use Rattle.vol_factors.proofs.Summing.{Summing}
 use Rattle.vol_factors.proofs.pairs.sum_pairs.Given as goal

@@ -1,10 +1,10 @@
 use Rattle.std.proofs.Common.{◌∙◌, [], ◌∷◌, map, ℤ, ◌*ℤ◌, sym, ap, FitsSigned, rules}
 use Rattle.std.specs.Int.{w128, cast_signed, cast_unsigned}
 use Rattle.std.proofs.lemmas.List.{map-append}
-use Rattle.mh_units.proofs.Integers.{same128}
-use Rattle.simm_kinds.specs.declared.key.FactorKey.{FactorKey}
-use Rattle.simm_rules.specs.Risks.{RateVolatility, Amount}
-use Rattle.factor_book.specs.declared.holding.Holding.{Holding}
+use Rattle.ir_delta.proofs.MhUnits.Integers.{same128}
+use Rattle.ir_delta.specs.SimmKinds.declared.key.FactorKey.{FactorKey}
+use Rattle.ir_delta.specs.SimmRules.Risks.{RateVolatility, Amount}
+use Rattle.ir_delta.specs.FactorBook.declared.holding.Holding.{Holding}
 use Rattle.vol_factors.specs.declared.rates.VolatilitySum.{VolatilitySum}
 use Rattle.vol_factors.specs.Scale.{scale_by}
 use Rattle.vol_factors.specs.Rates.{as_volatility, rule_volatility, scaled_volatility, sum_view}

@@ -1,5 +1,5 @@
 use Rattle.std.proofs.Common.{◌≡◌, ◌∙◌, ◌*◌, ◌^◌, IfOk, map, refl, sym, ap, subst}
-use Rattle.factor_book.specs.Places.{factors_at}
+use Rattle.ir_delta.specs.FactorBook.Places.{factors_at}
 use Rattle.vol_factors.specs.Rates.{scaled_volatility, sum_view, volatilities_among}
 use Rattle.vol_factors.proofs.Lent.{volatilities_small, volatilities_scaled}
 use Rattle.vol_factors.proofs.rates.volatility_sums.Goals as goal

@@ -1,7 +1,7 @@
 use Rattle.std.proofs.Common.{◌≡◌, ◌+◌, ◌-◌, ◌∙◌, ap, sym, arith, FitsSigned, rules}
 use Rattle.std.specs.Int.{w64, w128, cast_signed, cast_unsigned}
-use Rattle.mh_units.proofs.Integers.{same64, same128}
-use Rattle.simm_rules.specs.Concentration.{cr}
+use Rattle.concentration.proofs.MhUnits.Integers.{same64, same128}
+use Rattle.concentration.specs.SimmRules.Concentration.{cr}
 use Rattle.weighted_bucket.specs.Group.{at, group_net}
 use Rattle.weighted_bucket.proofs.Groups.{factors_step}
 use Rattle.weighted_bucket.proofs.group.group_cr.Goals as goal

@@ -1,6 +1,6 @@
 use Rattle.std.proofs.Common.{◌∙◌, rules, FitsSigned}
 use Rattle.std.specs.Int.{w128}
-use Rattle.mh_units.proofs.Integers.{same128}
+use Rattle.concentration.proofs.MhUnits.Integers.{same128}
 use Rattle.weighted_bucket.proofs.Correlations.{pairs_of-shared}
 use Rattle.weighted_bucket.proofs.pairs.concentrated_pairs.Goals as goal
 

@@ -1,7 +1,7 @@
 use Rattle.std.proofs.Common.{◌≡◌, ◌∙◌, ap, sym, subst, pos, refl, ◌^◌, ◌*ℤ◌, FitsSigned, rules}
 use Rattle.std.specs.Int.{w128, w64, cast_signed, cast_unsigned}
-use Rattle.mh_units.specs.Rounding.{away}
-use Rattle.mh_units.proofs.Integers.{same128, same64}
+use Rattle.concentration.specs.MhUnits.Rounding.{away}
+use Rattle.concentration.proofs.MhUnits.Integers.{same128, same64}
 use Rattle.weighted_bucket.proofs.Passing.{factors_passed, product_passed, weight_net_fits, weighted_fits}
 use Rattle.weighted_bucket.proofs.weighed.weigh.Goals as goal
 

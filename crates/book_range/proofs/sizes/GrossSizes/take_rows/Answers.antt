@@ -1,7 +1,7 @@
 use Rattle.std.proofs.Common.{◌+ℤ◌, neg_ℤ, ◌∙◌, FitsSigned, ◌≤◌, ◌*◌, ◌^◌, Some, None, subst, sym, ap}
 use Rattle.std.specs.Int.{w128}
 use Rattle.std.proofs.lemmas.List.{take_all}
-use Rattle.mh_units.proofs.Integers.{unsigned_abs-neg}
+use Rattle.simm_params.proofs.MhUnits.Integers.{unsigned_abs-neg}
 use Rattle.book_range.specs.Sizes.{size_at, grown, weighed_at}
 use Rattle.book_range.proofs.Rated.{weights_low}
 use Rattle.book_range.proofs.Sizing.{Taken, taken_none, taken_more, one_taken, nothing_taken, negated, taken_fits, taken_in_range, rows_taken, row_in_range}

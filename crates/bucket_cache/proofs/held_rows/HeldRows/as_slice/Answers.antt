@@ -1,5 +1,5 @@
 use Rattle.std.proofs.Common.{length, sym, ap, ◌∙◌, arith}
-use Rattle.simm_kinds.specs.declared.row.TradeRows.{TradeRows}
+use Rattle.book_margin.specs.SimmKinds.declared.row.TradeRows.{TradeRows}
 use Rattle.bucket_cache.specs.RowsAt.{rows_at}
 use Rattle.bucket_cache.proofs.HeldRows.{rows_at-found}
 use Rattle.bucket_cache.proofs.held_rows.HeldRows.as_slice.Goals as goal

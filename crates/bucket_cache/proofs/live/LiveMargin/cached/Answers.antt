@@ -1,8 +1,8 @@
 use Rattle.std.proofs.Common.{◌≡◌, ◌∙◌, Some, IfSome, sym, ap, subst}
-use Rattle.simm_kinds.specs.Batch.{rows_of}
-use Rattle.factor_book.specs.Factors.{factors_of}
-use Rattle.factor_book.specs.declared.at.BucketAt.{BucketAt}
-use Rattle.kept_buckets.specs.Cached.{cached_in}
+use Rattle.book_margin.specs.SimmKinds.Batch.{rows_of}
+use Rattle.book_margin.specs.FactorBook.Factors.{factors_of}
+use Rattle.book_margin.specs.FactorBook.declared.at.BucketAt.{BucketAt}
+use Rattle.book_margin.specs.KeptBuckets.Cached.{cached_in}
 use Rattle.book_margin.specs.Right.{value_in}
 use Rattle.bucket_cache.specs.Entries.{trades_of}
 use Rattle.bucket_cache.specs.Live.{Live}

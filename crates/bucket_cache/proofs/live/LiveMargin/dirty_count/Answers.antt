@@ -1,7 +1,7 @@
 use Rattle.std.proofs.Common.{◌∙◌, length, ap, arith}
-use Rattle.simm_kinds.specs.Batch.{rows_of}
-use Rattle.factor_book.specs.Factors.{factors_of}
-use Rattle.kept_buckets.specs.Dirty.{dirty_in}
+use Rattle.book_margin.specs.SimmKinds.Batch.{rows_of}
+use Rattle.book_margin.specs.FactorBook.Factors.{factors_of}
+use Rattle.book_margin.specs.KeptBuckets.Dirty.{dirty_in}
 use Rattle.bucket_cache.specs.declared.sums.Sums.{Sums}
 use Rattle.bucket_cache.specs.Entries.{trades_of}
 use Rattle.bucket_cache.specs.Live.{Live}

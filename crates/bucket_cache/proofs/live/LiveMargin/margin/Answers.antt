@@ -1,8 +1,8 @@
 use Rattle.std.proofs.Common.{◌∙◌, ◌+◌, ◌≤◌, is_some, ap, sym, subst, arith}
-use Rattle.simm_kinds.specs.Batch.{rows_of}
-use Rattle.simm_rules.specs.Simm.{simm}
-use Rattle.factor_book.specs.Factors.{factors_of}
-use Rattle.kept_buckets.specs.Dirty.{steps_left}
+use Rattle.book_margin.specs.SimmKinds.Batch.{rows_of}
+use Rattle.book_margin.specs.SimmRules.Simm.{simm}
+use Rattle.book_margin.specs.FactorBook.Factors.{factors_of}
+use Rattle.book_margin.specs.KeptBuckets.Dirty.{steps_left}
 use Rattle.book_margin.specs.Right.{IsFresh, Renews}
 use Rattle.bucket_cache.specs.declared.sums.Sums.{Sums}
 use Rattle.bucket_cache.specs.Entries.{trades_of}

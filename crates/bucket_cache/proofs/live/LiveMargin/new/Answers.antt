@@ -1,7 +1,7 @@
 use Rattle.std.proofs.Common.{List, subst}
-use Rattle.simm_kinds.specs.declared.row.TradeRows.{TradeRows}
-use Rattle.simm_kinds.specs.Batch.{rows_of}
-use Rattle.factor_book.specs.Factors.{factors_of}
+use Rattle.book_margin.specs.SimmKinds.declared.row.TradeRows.{TradeRows}
+use Rattle.book_margin.specs.SimmKinds.Batch.{rows_of}
+use Rattle.book_margin.specs.FactorBook.Factors.{factors_of}
 use Rattle.book_margin.specs.Right.{AreRight}
 use Rattle.bucket_cache.proofs.Standing.{no_values}
 use Rattle.bucket_cache.proofs.live.LiveMargin.new.Goals as goal

@@ -1,9 +1,9 @@
 use Rattle.std.proofs.Common.{◌≡◌, ◌∙◌, is_some, Some, Result, Ok, Err, OnErr, refl, ap, sym, subst}
-use Rattle.simm_kinds.specs.Batch.{rows_of}
-use Rattle.simm_rules.specs.declared.values.RangeFault.{RangeFault}
-use Rattle.simm_rules.specs.Range.{range}
-use Rattle.factor_book.specs.Factors.{factors_of}
-use Rattle.kept_buckets.specs.Touched.{Forgets, SameElsewhere}
+use Rattle.book_margin.specs.SimmKinds.Batch.{rows_of}
+use Rattle.book_margin.specs.SimmRules.declared.values.RangeFault.{RangeFault}
+use Rattle.book_margin.specs.SimmRules.Range.{range}
+use Rattle.book_margin.specs.FactorBook.Factors.{factors_of}
+use Rattle.book_margin.specs.KeptBuckets.Touched.{Forgets, SameElsewhere}
 use Rattle.bucket_cache.specs.declared.fault.SubmitFault.{SubmitFault}
 use Rattle.bucket_cache.specs.declared.fault.SubmitFault.TheVariants as submit
 use Rattle.bucket_cache.specs.Live.{Live, put_trades, rows_moved}

@@ -1,12 +1,12 @@
 use Rattle.std.proofs.Common.{◌≡◌, ◌∙◌, ℕ, List, is_some, Result, Ok, Err, OnErr, refl, ap, sym, subst}
 use Rattle.std.specs.List.{list_any}
 use denote.Bor.{Bor}
-use Rattle.simm_kinds.specs.Batch.{rows_of}
-use Rattle.simm_kinds.specs.declared.row.TradeRows.{TradeRows}
-use Rattle.simm_kinds.specs.Order.{same_name}
-use Rattle.simm_kinds.specs.Repeats.{repeats}
-use Rattle.factor_book.specs.Factors.{factors_of}
-use Rattle.kept_buckets.specs.Touched.{Forgets, SameElsewhere}
+use Rattle.book_margin.specs.SimmKinds.Batch.{rows_of}
+use Rattle.book_margin.specs.SimmKinds.declared.row.TradeRows.{TradeRows}
+use Rattle.book_margin.specs.SimmKinds.Order.{same_name}
+use Rattle.book_margin.specs.SimmKinds.Repeats.{repeats}
+use Rattle.book_margin.specs.FactorBook.Factors.{factors_of}
+use Rattle.book_margin.specs.KeptBuckets.Touched.{Forgets, SameElsewhere}
 use Rattle.bucket_cache.specs.Live.{Live, named, without}
 use Rattle.bucket_cache.specs.Entries.{trades_of, is_among, lent_names}
 use Rattle.bucket_cache.proofs.Keeping.{seen_still, held_still, held_without}

@@ -1,5 +1,5 @@
 use Rattle.std.proofs.Common.{◌∙◌, sym, ap, subst}
-use Rattle.simm_kinds.specs.Batch.{rows_of}
+use Rattle.book_margin.specs.SimmKinds.Batch.{rows_of}
 use Rattle.bucket_cache.specs.Live.{IsLive}
 use Rattle.bucket_cache.specs.Entries.{trades_of}
 use Rattle.bucket_cache.specs.Sums.{book_sums}

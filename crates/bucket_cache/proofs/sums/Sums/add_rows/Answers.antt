@@ -1,8 +1,8 @@
 use Rattle.std.proofs.Common.{[], sym, ap, ◌∙◌, ◌++◌, arith, append-nil}
 use Rattle.std.specs.List.{list_all}
 use Rattle.std.proofs.lemmas.List.{length-append}
-use Rattle.simm_kinds.specs.Batch.{is_in_range}
-use Rattle.factor_book.specs.Factors.{factors_of}
+use Rattle.book_margin.specs.SimmKinds.Batch.{is_in_range}
+use Rattle.book_margin.specs.FactorBook.Factors.{factors_of}
 use Rattle.bucket_cache.specs.declared.sums.Sums.{Sums}
 use Rattle.bucket_cache.proofs.Gaining.{each_pass, sums_are}
 use Rattle.bucket_cache.proofs.sums.Sums.add_rows.Goals as goal

@@ -1,6 +1,6 @@
 use Rattle.std.proofs.Common.{◌∙◌, ap, Some, None, FitsSigned, rules}
 use Rattle.std.specs.Int.{w128}
-use Rattle.mh_units.proofs.Integers.{same128}
+use Rattle.simm_params.proofs.MhUnits.Integers.{same128}
 use Rattle.class_combine.specs.Summed.{size_in}
 use Rattle.class_combine.proofs.Tables.{held_at}
 use Rattle.class_combine.proofs.notionals.Notionals.size.Goals as goal

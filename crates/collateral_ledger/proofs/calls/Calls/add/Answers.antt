@@ -1,5 +1,5 @@
 use Rattle.std.proofs.Common.{rules, ap, ◌∙◌, arith}
-use Rattle.mh_units.proofs.Integers.{same64}
+use Rattle.csa_terms.proofs.MhUnits.Integers.{same64}
 use Rattle.collateral_ledger.specs.Kept.{Open}
 use Rattle.collateral_ledger.proofs.Numbers.{appended, sum_small}
 use Rattle.collateral_ledger.proofs.Sums.{sum_fits}

@@ -1,5 +1,5 @@
 use Rattle.std.proofs.Common.{ap, ◌∙◌, refl, arith}
-use Rattle.mh_units.proofs.Integers.{same64}
+use Rattle.csa_terms.proofs.MhUnits.Integers.{same64}
 use Rattle.collateral_ledger.specs.Kept.{Rated}
 use Rattle.collateral_ledger.proofs.Entries.{pushed, sum_small}
 use Rattle.collateral_ledger.proofs.Sums.{sum_fits}

@@ -1,6 +1,6 @@
 use Rattle.std.proofs.Common.{ap, ◌∙◌, sym, is_some, arith}
 use Rattle.std.proofs.lemmas.Bool.{false≢true}
-use Rattle.mh_units.proofs.Integers.{same64}
+use Rattle.csa_terms.proofs.MhUnits.Integers.{same64}
 use Rattle.collateral_ledger.specs.Changes.{has_lot}
 use Rattle.collateral_ledger.proofs.Entries.{has_lot-lots_at, revalued, sum_small}
 use Rattle.collateral_ledger.proofs.Sums.{sum_fits}

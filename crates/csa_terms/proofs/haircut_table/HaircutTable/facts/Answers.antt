@@ -1,5 +1,5 @@
 use Rattle.std.proofs.lemmas.Map.Keys.{IsDistinct-from_sorted}
-use Rattle.simm_kinds.specs.Order.{name_cmp}
+use Rattle.toml_values.specs.SimmKinds.Order.{name_cmp}
 use Rattle.csa_terms.proofs.Tables.{classes-keys}
 use Rattle.csa_terms.proofs.haircut_table.HaircutTable.facts.Goals as goal
 

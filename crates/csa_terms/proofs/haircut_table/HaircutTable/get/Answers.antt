@@ -1,5 +1,5 @@
 use Rattle.std.proofs.Common.{◌∙◌, ap, option_map}
-use Rattle.mh_units.specs.declared.quantities.Rate4.{Rate4}
+use Rattle.toml_values.specs.MhUnits.declared.quantities.Rate4.{Rate4}
 use Rattle.csa_terms.specs.Terms.{haircut_in}
 use Rattle.csa_terms.proofs.Tables.{lookup-haircuts}
 use Rattle.csa_terms.proofs.haircut_table.HaircutTable.get.Goals as goal

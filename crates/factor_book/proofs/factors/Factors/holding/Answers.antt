@@ -1,7 +1,7 @@
 use Rattle.std.proofs.Common.{◌≡◌, ◌∙◌, sym, ap, Some, None}
 use Rattle.std.specs.Map.{lookup}
 use Rattle.std.specs.BTreeMap.{is_at}
-use Rattle.simm_kinds.specs.Order.{same_key}
+use Rattle.simm_rules.specs.SimmKinds.Order.{same_key}
 use Rattle.factor_book.specs.Place.{place_of, place_cmp}
 use Rattle.factor_book.specs.Filing.{found_in}
 use Rattle.factor_book.proofs.Standing.{found_place}

@@ -1,8 +1,8 @@
 use Rattle.std.proofs.Common.{◌∙◌, ap, FitsSigned, rules}
 use Rattle.std.specs.Int.{w128}
 use Rattle.std.specs.Map.{lookup}
-use Rattle.mh_units.proofs.Integers.{same128}
-use Rattle.simm_kinds.specs.Order.{same_key}
+use Rattle.simm_rules.proofs.MhUnits.Integers.{same128}
+use Rattle.simm_rules.specs.SimmKinds.Order.{same_key}
 use Rattle.simm_rules.specs.Net.{sensitivities}
 use Rattle.factor_book.specs.Holdings.{net_in}
 use Rattle.factor_book.proofs.Held.{lookup-factors, net_in-come_to}

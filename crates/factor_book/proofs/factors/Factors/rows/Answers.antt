@@ -1,6 +1,6 @@
 use Rattle.std.proofs.Common.{◌∙◌, ap}
 use Rattle.std.specs.Map.{lookup}
-use Rattle.simm_kinds.specs.Order.{same_key}
+use Rattle.simm_rules.specs.SimmKinds.Order.{same_key}
 use Rattle.simm_rules.specs.Net.{sensitivities}
 use Rattle.factor_book.specs.Holdings.{rows_in}
 use Rattle.factor_book.proofs.Held.{lookup-factors, rows_in-come_to}

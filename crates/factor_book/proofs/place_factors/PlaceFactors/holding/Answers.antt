@@ -1,6 +1,6 @@
 use Rattle.std.proofs.Common.{◌∙◌, ap}
 use Rattle.std.specs.Map.{lookup}
-use Rattle.simm_kinds.specs.Order.{same_key}
+use Rattle.simm_rules.specs.SimmKinds.Order.{same_key}
 use Rattle.factor_book.proofs.Keys.{lookup_key}
 use Rattle.factor_book.proofs.place_factors.PlaceFactors.holding.Goals as goal
 

@@ -1,8 +1,8 @@
 use Rattle.std.proofs.Common.{subst, List}
 use Rattle.std.specs.List.Sorted.{IsStrictlySortedBy}
 use Rattle.std.specs.Map.{keys_of}
-use Rattle.simm_kinds.specs.declared.key.FactorKey.{FactorKey}
-use Rattle.simm_kinds.specs.Order.{key_cmp}
+use Rattle.simm_rules.specs.SimmKinds.declared.key.FactorKey.{FactorKey}
+use Rattle.simm_rules.specs.SimmKinds.Order.{key_cmp}
 use Rattle.factor_book.specs.declared.holding.Holding.{Holding}
 use Rattle.factor_book.proofs.Keys.{ordered_keys}
 use Rattle.factor_book.proofs.place_factors.PlaceFactors.iter.Goals as goal

@@ -1,7 +1,7 @@
 use Rattle.std.proofs.Common.{◌≡◌, ◌∙◌, sym, ap, subst, refl, Some, None, Option, IsSome, IsSomeAnd}
 use Rattle.std.specs.Prelude.{is_none}
 use Rattle.std.specs.Map.{lookup}
-use Rattle.simm_kinds.specs.Order.{same_key}
+use Rattle.simm_rules.specs.SimmKinds.Order.{same_key}
 use Rattle.factor_book.specs.declared.holding.Holding.{Holding}
 use Rattle.factor_book.specs.Holdings.{CanShrink, shrunk}
 use Rattle.factor_book.proofs.Keys.{lookup_key, written_key, over_key, ordered_keys}

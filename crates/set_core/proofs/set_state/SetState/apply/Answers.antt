@@ -1,8 +1,8 @@
 use Rattle.std.proofs.Common.{rules, ◌≡◌, refl, sym, ap, ◌∙◌, subst, ◌+◌, List, ◌++◌, ◌∷◌, [], false}
 use Rattle.held_cell.specs.Entries.{entry}
 use Rattle.set_core.specs.Kept.{IsKept}
-use Rattle.simm_kinds.specs.declared.row.TradeRows.{TradeRows}
-use Rattle.simm_kinds.specs.Batch.{rows_of}
+use Rattle.collateral_ledger.specs.SimmKinds.declared.row.TradeRows.{TradeRows}
+use Rattle.collateral_ledger.specs.SimmKinds.Batch.{rows_of}
 use Rattle.bucket_cache.specs.Cached.{touches, is_cached}
 use Rattle.collateral_ledger.specs.Holdings.{Holdings}
 use Rattle.set_core.specs.Cached.{rows_moved_by, is_kept, AreCached}

@@ -1,6 +1,6 @@
 use Rattle.std.proofs.Common.{[], refl, sym, subst}
-use Rattle.simm_rules.specs.Params.{Params}
-use Rattle.csa_terms.specs.Terms.{Agreement}
+use Rattle.bucket_cache.specs.SimmRules.Params.{Params}
+use Rattle.collateral_ledger.specs.CsaTerms.Terms.{Agreement}
 use Rattle.collateral_ledger.specs.Holdings.{Holdings}
 use Rattle.set_core.specs.Kept.{IsKept}
 use Rattle.set_core.specs.Cached.{AreCached}

@@ -1,4 +1,4 @@
-use Rattle.simm_kinds.specs.Order.{same_bucket}
+use Rattle.simm_rules.specs.SimmKinds.Order.{same_bucket}
 use Rattle.simm_params.specs.ClassView.{priced_view}
 use Rattle.simm_params.specs.ListedBuckets.{priced_bucket_view}
 use Rattle.simm_params.specs.Weighed.{IsWeighedPriced}
