@@ -9,3 +9,4 @@ pub mod Answers
 pub mod Written
 pub mod Scans
 pub mod Fronts
+pub mod Unique

@@ -33,7 +33,7 @@ nearest_scaled places n behind power false =
     let top : n * 10 ^ (places + power) ≡ n * 10 ^ power * 10 ^ places = ap (λ k. n * k) (pow-add 10 places power) ∙ omega arith in
     nearest_of _ _ _ _ (ten_positive behind) top (omega arith)
 
-magnitude_nearest : (places : ℕ) (text : List ℕ) → IsNearest (written_top text * 10 ^ places) (written_bottom text) (magnitude places text)
+pub magnitude_nearest : (places : ℕ) (text : List ℕ) → IsNearest (written_top text * 10 ^ places) (written_bottom text) (magnitude places text)
 unfolding magnitude written_top written_bottom
 magnitude_nearest places text =
     nearest_scaled places (number (whole text ++ fraction text)) (length (fraction text)) (number (exponent_digits text)) (is_minus (exponent text))
@@ -51,6 +51,7 @@ rounded_is places text =
 pub record Told {A : Type 0} (view : A → ℤ) (places most : ℕ) (text : List ℕ) (r : Result A NumeralFault) : Type 0 where
   pub answer : IsAnswer places most text r
   pub nearest : IfOk r (λ a. IsRounded places text (view a))
+  pub small : IfOk r (λ a. unsigned_abs (view a) ≤ most)
 
 told_is : (places most : ℕ) (text : List ℕ) → Told (λ n. n) places most text (number_of places most text)
 unfolding number_of
@@ -59,28 +60,36 @@ told_is places most text = at_empty (length text == 0) refl
     at_size : length text ≤ 64 → IsNumeral text → (t : Bool) → nat_lt most (magnitude places text) ≡ t → Told (λ n. n) places most text (cond t (Err faults.TooLarge) (Ok (signed text (magnitude places text))))
     at_size short good true e =
         let large : IsTooLarge places most text = record { size = magnitude places text; nearest = magnitude_nearest places text; large = ltb-true most (magnitude places text) e } in
-        record { answer = (short, good, large); nearest = tt }
-    at_size short good false e = record { answer = (short, good, apart_is text good); nearest = rounded_is places text }
+        record { answer = (short, good, large); nearest = tt; small = tt }
+    at_size short good false e = record {
+      answer = (short, good, apart_is text good);
+      nearest = rounded_is places text;
+      small = rw (size-with_sign (is_minus text) (magnitude places text)) (ltb-false most (magnitude places text) e);
+    }
 
     at_bytes : 0 < length text → length text ≤ 64 → (t : Bool) → is_numeral text ≡ t → Told (λ n. n) places most text (cond (not t) (Err (faults.BadByte (reach phases.Start text))) (cond (nat_lt most (magnitude places text)) (Err faults.TooLarge) (Ok (signed text (magnitude places text)))))
     at_bytes some short true e = at_size short (numeral_from text e) (nat_lt most (magnitude places text)) refl
-    at_bytes some short false e = record { answer = (some, short, no_numeral text e, reach_is_longest text); nearest = tt }
+    at_bytes some short false e = record { answer = (some, short, no_numeral text e, reach_is_longest text); nearest = tt; small = tt }
 
     at_length : 0 < length text → (t : Bool) → nat_lt 64 (length text) ≡ t → Told (λ n. n) places most text (cond t (Err faults.TooLong) (cond (not (is_numeral text)) (Err (faults.BadByte (reach phases.Start text))) (cond (nat_lt most (magnitude places text)) (Err faults.TooLarge) (Ok (signed text (magnitude places text))))))
-    at_length some true e = record { answer = ltb-true 64 (length text) e; nearest = tt }
+    at_length some true e = record { answer = ltb-true 64 (length text) e; nearest = tt; small = tt }
     at_length some false e = at_bytes some (ltb-false 64 (length text) e) (is_numeral text) refl
 
     at_empty : (t : Bool) → (length text == 0) ≡ t → Told (λ n. n) places most text (cond t (Err faults.Empty) (cond (nat_lt 64 (length text)) (Err faults.TooLong) (cond (not (is_numeral text)) (Err (faults.BadByte (reach phases.Start text))) (cond (nat_lt most (magnitude places text)) (Err faults.TooLarge) (Ok (signed text (magnitude places text)))))))
-    at_empty true e = record { answer = nil_of text (eqb-true (length text) 0 e); nearest = tt }
+    at_empty true e = record { answer = nil_of text (eqb-true (length text) 0 e); nearest = tt; small = tt }
     at_empty false e = at_length (let apart : length text ≢ 0 = eqb-false (length text) 0 e in omega arith) (nat_lt 64 (length text)) refl
 
 -- the same of an answer that is made of it
 told_mapped : {A : Type 0} (make : ℤ → A) (view : A → ℤ) → ((n : ℤ) → view (make n) ≡ n) → (places most : ℕ) (text : List ℕ) (r : Result ℤ NumeralFault) → Told (λ n. n) places most text r → Told view places most text (result_map_both make (λ e. e) r)
-told_mapped make view same places most text (Ok n) t = record { answer = t.answer; nearest = subst (IsRounded places text) (sym (same n)) t.nearest }
-told_mapped make view same places most text (Err faults.Empty) t = record { answer = t.answer; nearest = tt }
-told_mapped make view same places most text (Err faults.TooLong) t = record { answer = t.answer; nearest = tt }
-told_mapped make view same places most text (Err (faults.BadByte place)) t = record { answer = t.answer; nearest = tt }
-told_mapped make view same places most text (Err faults.TooLarge) t = record { answer = t.answer; nearest = tt }
+told_mapped make view same places most text (Ok n) t = record {
+  answer = t.answer;
+  nearest = subst (IsRounded places text) (sym (same n)) t.nearest;
+  small = subst (λ k. unsigned_abs k ≤ most) (sym (same n)) t.small;
+}
+told_mapped make view same places most text (Err faults.Empty) t = record { answer = t.answer; nearest = tt; small = tt }
+told_mapped make view same places most text (Err faults.TooLong) t = record { answer = t.answer; nearest = tt; small = tt }
+told_mapped make view same places most text (Err (faults.BadByte place)) t = record { answer = t.answer; nearest = tt; small = tt }
+told_mapped make view same places most text (Err faults.TooLarge) t = record { answer = t.answer; nearest = tt; small = tt }
 
 pub cents_told : (text : List ℕ) (r : Result Cents NumeralFault) → r ≡ cents_of text → Told (λ c. c.0) 2 (10 ^ 15) text r
 unfolding cents_of

@@ -1,5 +1,5 @@
 -- The value of a numeral, and what reading one answers.
-use Rattle.std.specs.Prelude.{◌≡◌, ◌⊎◌, ℕ, ◌+◌, ◌-◌, ◌*◌, ◌/◌, ◌^◌, ◌<◌, ◌≤◌, Bool, false, not, ◌&&◌, ◌||◌, ◌==◌, nat_lt, nat_le, if◌then◌else◌, List, [], ◌∷◌, ◌++◌, length, drop, take_while, ℤ, pos, neg_ℤ, unsigned_abs, Option, Some, None, Result, Ok, Err}
+use Rattle.std.specs.Prelude.{◌≡◌, ◌⊎◌, ℕ, ◌+◌, ◌-◌, ◌*◌, ◌/◌, ◌^◌, ◌<◌, ◌≤◌, Bool, false, not, ◌&&◌, ◌||◌, ◌==◌, nat_lt, nat_le, if◌then◌else◌, List, [], ◌∷◌, ◌++◌, length, drop, take_while, ℤ, pos, neg_ℤ, unsigned_abs, Option, Some, None, MatchOption, Result, Ok, Err, IfOk}
 use Rattle.std.specs.List.{prefix_len}
 use Rattle.std.specs.Result.{result_map_both}
 use Rattle.std.specs.Char.{is_ascii_digit}
@@ -192,3 +192,12 @@ IsAnswer places most text (Err faults.Empty) = text ≡ []
 IsAnswer places most text (Err faults.TooLong) = 64 < length text
 IsAnswer places most text (Err (faults.BadByte place)) = (0 < length text) × (length text ≤ 64) × (¬ IsNumeral text) × IsLongestFront text place
 IsAnswer places most text (Err faults.TooLarge) = (length text ≤ 64) × IsNumeral text × IsTooLarge places most text
+
+-- What is read of a text by the written grammar, as a number that is seen so: the first fault that holds, or the number nearest
+-- to the written one, at most most in size.
+abbrev pub IsReading : {A : Type 0} → (A → ℤ) → ℕ → ℕ → List ℕ → Result A NumeralFault → Type 0
+IsReading view places most text r = IsAnswer places most text r × IfOk r (λ a. IsRounded places text (view a) × (unsigned_abs (view a) ≤ most))
+
+-- the same of a number that is read exactly
+abbrev pub IsFixedReading : ℕ → List ℕ → Option ℤ → Type 0
+IsFixedReading places text r = MatchOption r (¬ IsFixed places text) (λ n. IsFixed places text × IsExact places text n)

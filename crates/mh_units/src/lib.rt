@@ -3,6 +3,7 @@
 
 mod bytes;
 mod cut;
+mod laws;
 mod money;
 mod numeral;
 mod parts;
@@ -13,6 +14,7 @@ mod value;
 
 pub use bytes::{Bytes, Text};
 pub use cut::cut_at;
+pub use laws::{numerals_are_scanned, readings_are_written};
 pub use money::{push_cents, write_cents};
 pub use numeral::{NumeralFault, read_cents, read_fixed, read_rate4};
 pub use quantities::{Cents, Corr6, Rate4};
