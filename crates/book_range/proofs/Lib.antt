@@ -12,7 +12,6 @@ pub mod Factored
 pub mod Placed
 pub mod Grosses
 pub mod Counted
-pub mod Pairs
 pub mod Sizing
 pub mod Rated
 pub mod Crowded

@@ -8,6 +8,7 @@ use Rattle.simm_params.specs.SimmKinds.declared.bucket.Bucket.{Bucket}
 use Rattle.simm_params.specs.SimmKinds.declared.bucket.Bucket.TheVariants as bucket
 use Rattle.simm_params.specs.SimmKinds.declared.factor.Factor.{Factor}
 use Rattle.simm_params.specs.SimmKinds.declared.factor.Factor.TheVariants as factor
+use Rattle.simm_params.specs.SimmKinds.Factors.{listed_id}
 use Rattle.simm_params.specs.SimmRules.Params.{Params}
 use Rattle.simm_params.specs.SimmRules.Risks.{Curve, Inflation, Basis, Qualifying, Non_qualifying, Equities, Commodities}
 use Rattle.simm_params.specs.SimmRules.Rates.{rate_weight}
@@ -40,13 +41,6 @@ own_weight p (factor.FxVol pair t) = fx_sigma p pair
 abbrev pub weight_in : Params → Weighing → Factor → ℤ
 weight_in p (weighing.Alike w) f = w.0
 weight_in p weighing.Own f = own_weight p f
-
--- the bucket of files that an id is of
-abbrev pub listed_id : BucketId → Option Bucket
-listed_id (id.Number n) = Some (bucket.Number n)
-listed_id id.Residual = Some bucket.Residual
-listed_id (id.Currency c) = None
-listed_id id.Single = None
 
 -- that of the place of a bucket, and 0 at another place
 abbrev pub bucket_weight : (Bucket → ℤ) → BucketId → ℤ

@@ -1,12 +1,12 @@
 //! What the amounts to a factor weigh in gross sizes.
 ghost use Rattle.std.specs.Prelude.{◌≡◌, ◌^◌, ◌≤◌, unsigned_abs};
-ghost use Rattle.simm_params.specs.SimmRules.ForeignExchange.{fx_weight, fx_sigma};
+ghost use Rattle.simm_params.specs.SimmRules.ForeignExchange.{fx_weight};
 ghost use Rattle.simm_params.specs.ClassKinds.{credit_class, priced_class};
 ghost use Rattle.book_range.specs.Weights.{credit_weight, credit_volatility, price_weight, price_volatility};
-ghost use Rattle.book_range.specs.Weighing.{own_weight, listed_id, bucket_weight};
+ghost use Rattle.book_range.specs.Weighing.{own_weight, bucket_weight};
 
 use simm_params::mh_units::Rate4;
-use simm_params::simm_kinds::{Bucket, BucketId, Currency, CurrencyPair, Factor};
+use simm_params::simm_kinds::{BucketId, Currency, Factor};
 use simm_params::{CreditKind, Params, PricedKind};
 
 /// A weight of 1.
@@ -29,7 +29,7 @@ pub fn own_weight(params: &Params, factor: &Factor) -> Rate4
         Factor::Inflation { .. } => params.inflation_weight(),
         Factor::XccyBasis { .. } => params.basis_weight(),
         Factor::Fx { currency } => currency_weight(params, currency),
-        Factor::FxVol { pair, .. } => pair_volatility(params, pair),
+        Factor::FxVol { pair, .. } => params.pair_volatility(*pair),
         Factor::IrVol { .. }
         | Factor::InflationVol { .. }
         | Factor::CreditQ { .. }
@@ -49,7 +49,7 @@ pub fn credit_weight(params: &Params, kind: CreditKind, id: BucketId) -> Rate4
     ensures value { result.0 ≡ bucket_weight (credit_weight params.now (credit_class kind)) id }
     ensures bound { unsigned_abs result.0 ≤ 10 ^ 8 }
 {
-    let Some(bucket) = bucket_of(id) else {
+    let Some(bucket) = id.listed() else {
         return NOTHING;
     };
     match params.credit_bucket(kind, bucket) {
@@ -63,7 +63,7 @@ pub fn credit_volatility(params: &Params, kind: CreditKind, id: BucketId) -> Rat
     ensures value { result.0 ≡ bucket_weight (credit_volatility params.now (credit_class kind)) id }
     ensures bound { unsigned_abs result.0 ≤ 10 ^ 8 }
 {
-    let Some(bucket) = bucket_of(id) else {
+    let Some(bucket) = id.listed() else {
         return NOTHING;
     };
     match params.credit_bucket(kind, bucket) {
@@ -77,7 +77,7 @@ pub fn price_weight(params: &Params, kind: PricedKind, id: BucketId) -> Rate4
     ensures value { result.0 ≡ bucket_weight (price_weight params.now (priced_class kind)) id }
     ensures bound { unsigned_abs result.0 ≤ 10 ^ 8 }
 {
-    let Some(bucket) = bucket_of(id) else {
+    let Some(bucket) = id.listed() else {
         return NOTHING;
     };
     match params.priced_bucket(kind, bucket) {
@@ -91,23 +91,12 @@ pub fn price_volatility(params: &Params, kind: PricedKind, id: BucketId) -> Rate
     ensures value { result.0 ≡ bucket_weight (price_volatility params.now (priced_class kind)) id }
     ensures bound { unsigned_abs result.0 ≤ 10 ^ 8 }
 {
-    let Some(bucket) = bucket_of(id) else {
+    let Some(bucket) = id.listed() else {
         return NOTHING;
     };
     match params.priced_bucket(kind, bucket) {
         Some(listed) => listed.sigma,
         None => NOTHING,
-    }
-}
-
-// The bucket of files that an id is of.
-fn bucket_of(id: BucketId) -> Option<Bucket>
-    ensures { result ≡ listed_id id }
-{
-    match id {
-        BucketId::Number(number) => Some(Bucket::Number(number)),
-        BucketId::Residual => Some(Bucket::Residual),
-        BucketId::Currency(_) | BucketId::Single => None,
     }
 }
 
@@ -120,14 +109,4 @@ fn currency_weight(params: &Params, currency: &Currency) -> Rate4
         return NOTHING;
     }
     params.fx_weight(params.volatility_category(currency))
-}
-
-fn pair_volatility(params: &Params, pair: &CurrencyPair) -> Rate4
-    ensures value { result.0 ≡ fx_sigma params.now pair.now }
-    ensures bound { unsigned_abs result.0 ≤ 10 ^ 8 }
-{
-    let pair = *pair;
-    let first = params.volatility_category(&pair.first());
-    let second = params.volatility_category(&pair.second());
-    params.fx_sigma(first, second)
 }

@@ -12,7 +12,7 @@ use Rattle.ir_delta.specs.SimmKinds.declared.bucket.Bucket.{Bucket}
 use Rattle.ir_delta.specs.SimmKinds.declared.bucket.Bucket.TheVariants as bucket
 use Rattle.ir_delta.specs.SimmKinds.declared.key.FactorKey.{FactorKey}
 use Rattle.ir_delta.specs.SimmKinds.declared.row.CrifRow.{CrifRow}
-use Rattle.ir_delta.specs.SimmKinds.Factors.{bucket_id_of}
+use Rattle.ir_delta.specs.SimmKinds.Factors.{bucket_id_of, listed_id}
 use Rattle.ir_delta.specs.SimmKinds.Order.{bucket_id_cmp, same_bucket_id}
 use Rattle.ir_delta.specs.SimmRules.Params.{Params, CreditBucket, PricedBucket}
 use Rattle.ir_delta.specs.SimmRules.Net.{Sensitivity}
@@ -30,7 +30,6 @@ use Rattle.ir_delta.specs.FactorBook.Places.{factors_at}
 use Rattle.book_range.specs.Bounded.{IsBounded}
 use Rattle.name_delta.specs.Combine.{parts_in, combined_by_class, IsListed, HasBucket, AreSized, AreParts}
 use Rattle.name_delta.specs.Delta.{credit_delta, priced_delta, delta_value, IsCreditReady, IsPricedReady, IsReady, IsCreditSized, IsPricedSized, IsDeltaSized}
-use Rattle.name_delta.specs.Ids.{listed_id}
 use Rattle.name_delta.specs.Names.{names_place, names_in}
 use Rattle.name_delta.specs.Points.{points_place, points_in, issuer_nets}
 use Rattle.name_delta.specs.Values.{nets_in, nets}

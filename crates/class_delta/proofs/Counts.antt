@@ -28,7 +28,7 @@ use Rattle.ir_delta.proofs.Lent.{rate_place}
 use Rattle.name_delta.specs.Base.{base_place, indices_of}
 use Rattle.name_delta.specs.Currencies.{currency_place, currencies_in}
 use Rattle.name_delta.specs.Delta.{point_count, name_count, count_by_class}
-use Rattle.name_delta.specs.Ids.{listed_id}
+use Rattle.ir_delta.specs.SimmKinds.Factors.{listed_id}
 use Rattle.name_delta.specs.Names.{names_place, names_in, priced_risk_class}
 use Rattle.name_delta.specs.Points.{points_place, points_in, credit_risk_class}
 use Rattle.name_delta.specs.Values.{nets_in}

@@ -15,6 +15,7 @@ pub mod Named
 pub mod OneBucket
 pub mod Lent
 pub use Rattle.ir_delta.proofs.MhUnits as MhUnits
+pub use Rattle.ir_delta.proofs.SimmParams as SimmParams
 pub use Rattle.ir_delta.proofs.FactorBook as FactorBook
 pub use Rattle.ir_delta.proofs as IrDelta
 pub use Rattle.name_delta.proofs as NameDelta

@@ -23,7 +23,7 @@ use Rattle.ir_delta.specs.Range.{IsPart}
 use Rattle.name_delta.specs.Base.{indices_of, index_weight}
 use Rattle.name_delta.specs.Currencies.{currencies_in}
 use Rattle.name_delta.specs.Delta.{credit_delta, priced_delta, fx_delta, IsCreditSized, IsPricedSized}
-use Rattle.name_delta.specs.Ids.{listed_id}
+use Rattle.ir_delta.specs.SimmKinds.Factors.{listed_id}
 use Rattle.name_delta.specs.Values.{nets_in, IsSized}
 use Rattle.class_delta.specs.Buckets.{delta_buckets, is_single}
 use Rattle.class_delta.specs.Values.{IsValuedBy, AreValuedBy}

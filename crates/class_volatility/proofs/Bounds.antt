@@ -41,7 +41,7 @@ use Rattle.vega_margin.specs.VolFactors.Rates.{as_volatility, alone_of}
 use Rattle.vega_margin.proofs.VolFactors.NamesTogether.{nets_are as name_nets_are}
 use Rattle.vega_margin.proofs.VolFactors.PairsTogether.{nets_are as pair_nets_are}
 use Rattle.vega_margin.proofs.VolFactors.RateNets.{nets_are as rate_nets_are}
-use Rattle.vega_margin.proofs.VolFactors.Sigmas.{sigma_low}
+use Rattle.class_delta.proofs.SimmParams.Sigmas.{sigma_low}
 use Rattle.vega_margin.proofs.VolFactors.VolatilePoints.{points_nets}
 use Rattle.vega_margin.specs.Combine.{IsRateClass}
 use Rattle.vega_margin.proofs.Bounded.{nets_bounded}

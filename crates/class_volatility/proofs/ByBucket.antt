@@ -20,7 +20,7 @@ use Rattle.class_delta.specs.FactorBook.declared.at.BucketAt.{BucketAt}
 use Rattle.class_delta.specs.FactorBook.declared.holding.Holding.{Holding}
 use Rattle.class_delta.specs.FactorBook.declared.place.Place.{Place}
 use Rattle.class_delta.specs.FactorBook.Places.{factors_at}
-use Rattle.class_delta.specs.NameDelta.Ids.{listed_id}
+use Rattle.class_delta.specs.SimmKinds.Factors.{listed_id}
 use Rattle.class_delta.specs.NameDelta.Names.{priced_risk_class}
 use Rattle.class_delta.specs.NameDelta.Points.{credit_risk_class}
 use Rattle.vega_margin.specs.VolFactors.Buckets.{VolatileBucket, Currency_bucket, Credit_bucket, Priced_bucket, Pairs_bucket, currency_bucket_at, credit_bucket_at, priced_bucket_at, pairs_bucket_at, volatile_by_class, volatile_bucket, count_at, count_in, factor_count}

@@ -29,7 +29,7 @@ use Rattle.class_delta.specs.BookRange.Bounded.{IsBounded}
 use Rattle.class_delta.specs.IrDelta.Parts.{margin_over as over_currencies}
 use Rattle.class_delta.specs.IrDelta.Parts.{AreParts as AreRateParts}
 use Rattle.class_delta.specs.NameDelta.Combine.{parts_in, IsListed, IsNamed, HasBucket, AreSized, AreParts as AreNamedParts}
-use Rattle.class_delta.specs.NameDelta.Ids.{listed_id}
+use Rattle.class_delta.specs.SimmKinds.Factors.{listed_id}
 use Rattle.class_delta.specs.NameDelta.Names.{priced_risk_class}
 use Rattle.class_delta.specs.NameDelta.Points.{credit_risk_class}
 use Rattle.class_delta.specs.NameDelta.Values.{nets_in, IsInRange}

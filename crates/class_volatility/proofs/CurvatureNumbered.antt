@@ -26,7 +26,7 @@ use Rattle.class_delta.specs.FactorBook.Factors.{factors_of}
 use Rattle.class_delta.specs.BookRange.Bounded.{IsBounded}
 use Rattle.class_delta.proofs.IrDelta.Sums.{total_by-pos}
 use Rattle.class_delta.specs.NameDelta.Combine.{parts_in, IsListed}
-use Rattle.class_delta.specs.NameDelta.Ids.{listed_id}
+use Rattle.class_delta.specs.SimmKinds.Factors.{listed_id}
 use Rattle.class_delta.specs.NameDelta.Names.{priced_risk_class}
 use Rattle.class_delta.specs.NameDelta.Points.{credit_risk_class}
 use Rattle.class_delta.specs.NameDelta.Values.{nets_in, IsInRange}

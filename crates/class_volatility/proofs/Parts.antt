@@ -5,10 +5,9 @@ use Rattle.class_delta.specs.SimmKinds.declared.kinds.BucketId.{BucketId}
 use Rattle.class_delta.specs.SimmKinds.declared.kinds.BucketId.TheVariants as id
 use Rattle.class_delta.specs.SimmKinds.declared.bucket.Bucket.{Bucket}
 use Rattle.class_delta.specs.SimmKinds.declared.bucket.Bucket.TheVariants as bucket
-use Rattle.class_delta.specs.SimmKinds.Factors.{bucket_id_of}
+use Rattle.class_delta.specs.SimmKinds.Factors.{bucket_id_of, listed_id}
 use Rattle.class_delta.specs.SimmRules.Admits.{lists}
 use Rattle.class_delta.specs.NameDelta.Combine.{IsListed}
-use Rattle.class_delta.specs.NameDelta.Ids.{listed_id}
 
 pub some_and : {X : Type 0} (P Q : X → Type 0) → ((x : X) → P x → Q x) → (o : Option X) → IsSomeAnd o P → IsSomeAnd o Q
 some_and P Q f None h = absurd h

@@ -24,7 +24,7 @@ use Rattle.class_delta.specs.FactorBook.Factors.{factors_of}
 use Rattle.class_delta.specs.BookRange.Bounded.{IsBounded}
 use Rattle.class_delta.specs.IrDelta.Parts.{IsCurrency}
 use Rattle.class_delta.specs.NameDelta.Combine.{IsListed}
-use Rattle.class_delta.specs.NameDelta.Ids.{listed_id}
+use Rattle.class_delta.specs.SimmKinds.Factors.{listed_id}
 use Rattle.class_delta.specs.NameDelta.Values.{nets_in, IsInRange}
 use Rattle.class_delta.proofs.NameDelta.Shrinking.{SizesAreNetted, filter_shrinks}
 use Rattle.vega_margin.specs.VolFactors.Buckets.{currency_bucket_at, credit_bucket_at, priced_bucket_at, pairs_bucket_at}

@@ -27,7 +27,7 @@ use Rattle.vol_factors.specs.Ranges.{ArePairsInRange}
 use Rattle.vol_factors.proofs.OverTenors.{maps_agree, keys_ascend}
 use Rattle.vol_factors.proofs.PairsTogether.{pairs, pairs_total}
 use Rattle.vol_factors.proofs.TotalSizes.{keys_fewer, each_size, totals_weighed}
-use Rattle.vol_factors.proofs.Sigmas.{sigma_low}
+use Rattle.vol_factors.proofs.SimmParams.Sigmas.{sigma_low}
 use Rattle.curvature_margin.specs.Risk.{curved_by, pair_curved_by, AreNear, IsCurved}
 use Rattle.curvature_margin.specs.Values.{IsSized}
 use Rattle.curvature_margin.proofs.Risks.{with_risk, risk_is, unconcentrated, risks_count, risks_near, risks_in_range, few_within, sizes_within, sized_within}

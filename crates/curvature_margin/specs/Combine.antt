@@ -21,7 +21,7 @@ use Rattle.vol_factors.specs.SimmRules.Credit.{listed_credit}
 use Rattle.vol_factors.specs.SimmRules.Priced.{listed_priced}
 use Rattle.vol_factors.specs.SimmRules.Curvature.{curvature_part, curvature_over}
 use Rattle.vol_factors.specs.IrDelta.Parts.{parts_of, IsCurrency}
-use Rattle.vol_factors.specs.NameDelta.Ids.{listed_id}
+use Rattle.vol_factors.specs.SimmKinds.Factors.{listed_id}
 use Rattle.vol_factors.specs.NameDelta.Combine.{parts_in, IsListed}
 
 -- ---- interest rates: one part over all currencies

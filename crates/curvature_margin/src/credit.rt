@@ -14,7 +14,7 @@ use crate::risk::{UNIT, curved_bucket, volatility_in};
 use std::alloc::{AllocError, Global};
 use std::sync::ledger::Ledger;
 use vol_factors::factor_book::Factors;
-use vol_factors::name_delta::{IssuerRho, group_points, in_millionths};
+use vol_factors::name_delta::{IssuerRho, group_points};
 use vol_factors::pair_sum::Steps;
 use vol_factors::simm_params::{CreditBucket, Params};
 use vol_factors::simm_rules::BucketMargin;
@@ -65,8 +65,8 @@ fn points_value<L: Ledger>(
     let grouped = grouped.as_slice();
     let rho = IssuerRho {
         grouped,
-        same: in_millionths(bucket.same),
-        rho: in_millionths(bucket.terms.rho),
+        same: bucket.same.in_millionths(),
+        rho: bucket.terms.rho.in_millionths(),
     };
     curved_bucket(alloc, volatility_in(&bucket.terms, UNIT), sums, &rho, steps)
 }

@@ -10,13 +10,13 @@ use crate::risk::{curve, value_of_risks};
 use std::alloc::{AllocError, Global};
 use std::sync::ledger::Ledger;
 use vol_factors::factor_book::Factors;
-use vol_factors::name_delta::{EvenRho, in_millionths};
+use vol_factors::name_delta::EvenRho;
 use vol_factors::pair_sum::Steps;
 use vol_factors::simm_kinds::ProductClass;
 use vol_factors::simm_params::Params;
 use vol_factors::simm_rules::BucketMargin;
 use vol_factors::weighted_bucket::Weighed;
-use vol_factors::{PairSum, TenorScale, pair_sums, pair_volatility};
+use vol_factors::{PairSum, TenorScale, pair_sums};
 
 /// The curvature value of the one bucket of a product class's pairs, whose factors are those of a book in range. Its `n` pairs take
 /// at most `n * n` steps. Want of memory is the only error.
@@ -37,7 +37,7 @@ pub fn pair_bucket<L: Ledger>(
     let risks = curve_pairs(alloc, params, pairs.as_slice())?;
     let rho = EvenRho {
         count: risks.len(),
-        rho: in_millionths(params.fx_vol_rho()),
+        rho: params.fx_vol_rho().in_millionths(),
     };
     Ok(value_of_risks(risks.as_slice(), &rho, steps))
 }
@@ -53,7 +53,7 @@ fn curve_pairs(
 {
     let mut risks = Vec::with_capacity(alloc, pairs.len())?;
     for pair in pairs {
-        risks.push(curve(pair_volatility(params, pair.pair), pair.sum))?;
+        risks.push(curve(params.pair_volatility(pair.pair), pair.sum))?;
     }
     Ok(risks)
 }

@@ -6,7 +6,6 @@ ghost use Rattle.curvature_margin.specs.Listed.{gamma_in, squared_at};
 use crate::listed::ListedClass;
 use vol_factors::concentration::combine;
 use vol_factors::mh_units::Corr6;
-use vol_factors::name_delta::in_millionths;
 use vol_factors::pair_sum::Correlation;
 use vol_factors::simm_params::Params;
 
@@ -42,10 +41,10 @@ impl Correlation for SquaredGamma<'_> {
         if i == j {
             return Corr6::ONE;
         }
-        let gamma = in_millionths(
-            self.class
-                .gamma(self.params, self.places[i], self.places[j]),
-        );
+        let gamma = self
+            .class
+            .gamma(self.params, self.places[i], self.places[j])
+            .in_millionths();
         combine(gamma, gamma)
     }
 }

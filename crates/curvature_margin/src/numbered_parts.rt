@@ -3,7 +3,7 @@ ghost use Rattle.std.specs.Prelude.{◌≡◌, ◌+◌, ◌*◌, IfOk, pos, ◌�
 ghost use Rattle.std.specs.List.{AllByRecursion};
 ghost use Rattle.vol_factors.specs.SimmRules.Across.{numbered as numbered_of, residual as residual_of};
 ghost use Rattle.vol_factors.specs.SimmRules.Curvature.{curvature_over};
-ghost use Rattle.vol_factors.specs.NameDelta.Ids.{listed_id};
+ghost use Rattle.vol_factors.specs.SimmKinds.Factors.{listed_id};
 ghost use Rattle.vol_factors.specs.NameDelta.Combine.{parts_in, margins_of, places_of, number_place, IsListed};
 ghost use Rattle.curvature_margin.specs.Listed.{listed_in, gamma_in};
 ghost use Rattle.curvature_margin.specs.Numbered.{is_residual_id, numbered_part, residual_part, numbered_bound, residual_bound};

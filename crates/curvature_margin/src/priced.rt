@@ -14,7 +14,7 @@ use crate::risk::{curved_bucket, volatility_in};
 use std::alloc::{AllocError, Global};
 use std::sync::ledger::Ledger;
 use vol_factors::factor_book::Factors;
-use vol_factors::name_delta::{EvenRho, in_millionths};
+use vol_factors::name_delta::EvenRho;
 use vol_factors::pair_sum::Steps;
 use vol_factors::simm_params::{Params, PricedBucket};
 use vol_factors::simm_rules::BucketMargin;
@@ -61,7 +61,7 @@ fn names_value<L: Ledger>(
     let sums = sums.as_slice();
     let rho = EvenRho {
         count: sums.len(),
-        rho: in_millionths(bucket.terms.rho),
+        rho: bucket.terms.rho.in_millionths(),
     };
     curved_bucket(
         alloc,

@@ -11,7 +11,6 @@ use crate::part::{margin_over, part_over};
 use std::alloc::{AllocError, Global};
 use vol_factors::concentration::combine;
 use vol_factors::mh_units::{Cents, Corr6, Rate4, div_up};
-use vol_factors::name_delta::in_millionths;
 use vol_factors::pair_sum::outer_root;
 use vol_factors::simm_kinds::BucketId;
 use vol_factors::simm_params::Params;
@@ -59,7 +58,7 @@ fn gamma_across(params: &Params) -> Corr6
     ensures value { result.0 ≡ gamma_across params.now }
     ensures size { unsigned_abs result.0 ≤ 1000000 }
 {
-    let gamma = in_millionths(params.rate_gamma());
+    let gamma = params.rate_gamma().in_millionths();
     combine(gamma, gamma)
 }
 

@@ -16,6 +16,7 @@ pub mod Ranges
 pub mod Standing
 pub use Rattle.simm_params.proofs.MhUnits as MhUnits
 pub use Rattle.simm_params.proofs.SimmKinds as SimmKinds
+pub use Rattle.simm_params.proofs as SimmParams
 pub use Rattle.factor_book.proofs as FactorBook
 pub use Rattle.weighted_bucket.proofs.PairSums as PairSums
 pub use Rattle.weighted_bucket.proofs as WeightedBucket

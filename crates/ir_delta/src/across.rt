@@ -5,7 +5,6 @@ ghost use Rattle.weighted_bucket.specs.PairSums.WithItself.{with_itself-one};
 ghost use Rattle.ir_delta.specs.Gamma.{gamma_apart, gamma_at};
 ghost use Rattle.ir_delta.specs.Parts.{AreParts, margin_over};
 
-use crate::millionths::in_millionths;
 use simm_params::Params;
 use simm_params::mh_units::{Cents, Corr6};
 use simm_params::simm_kinds::BucketId;
@@ -64,7 +63,7 @@ pub fn combine(
     ensures not_negative { IfOk result (λ m. pos 0 ≤ℤ m.0) }
     ensures size { IfOk result (λ m. m.0 ≤ℤ pos (sum_by (λ b. unsigned_abs (b.1).k) parts.now)) }
 {
-    let gamma = in_millionths(params.rate_gamma());
+    let gamma = params.rate_gamma().in_millionths();
     let values = values_of(alloc, parts)?;
     let buckets = values.as_slice();
     let correlation = CurrencyGamma { gamma, buckets };

@@ -5,7 +5,6 @@
 mod across;
 mod currency_bucket;
 mod laws;
-mod millionths;
 mod nets;
 mod rate;
 mod rho;

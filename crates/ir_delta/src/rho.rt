@@ -2,7 +2,6 @@
 ghost use Rattle.std.specs.Prelude.{◌≡◌, ◌≤◌, ℕ, length, unsigned_abs};
 ghost use Rattle.ir_delta.specs.Rho.{rho_at, rho_of};
 
-use crate::millionths::in_millionths;
 use crate::rate::Rate;
 use simm_params::Params;
 use simm_params::mh_units::Corr6;
@@ -44,14 +43,14 @@ fn correlation(params: &Params, a: Rate, b: Rate) -> Corr6
 {
     match (a, b) {
         (Rate::Curve { tenor: t, sub: s }, Rate::Curve { tenor: u, sub: v }) => combine(
-            in_millionths(params.tenor_rho(t, u)),
-            in_millionths(params.sub_rho(s, v)),
+            params.tenor_rho(t, u).in_millionths(),
+            params.sub_rho(s, v).in_millionths(),
         ),
         (Rate::Inflation, Rate::Inflation) | (Rate::Basis, Rate::Basis) => Corr6::ONE,
         (Rate::Curve { .. }, Rate::Inflation) | (Rate::Inflation, Rate::Curve { .. }) => {
-            in_millionths(params.inflation_rho())
+            params.inflation_rho().in_millionths()
         }
         (Rate::Curve { .. } | Rate::Inflation, Rate::Basis)
-        | (Rate::Basis, Rate::Curve { .. } | Rate::Inflation) => in_millionths(params.basis_rho()),
+        | (Rate::Basis, Rate::Curve { .. } | Rate::Inflation) => params.basis_rho().in_millionths(),
     }
 }

@@ -21,7 +21,7 @@ use Rattle.simm_params.specs.SimmRules.Priced.{priced_params, listed_priced}
 use Rattle.simm_params.specs.ClassKinds.{credit_class, priced_class}
 use Rattle.name_delta.specs.declared.named.NamedClass.{NamedClass}
 use Rattle.name_delta.specs.declared.named.NamedClass.TheVariants as named
-use Rattle.name_delta.specs.Ids.{listed_id}
+use Rattle.simm_params.specs.SimmKinds.Factors.{listed_id}
 
 -- ---- what the file says of a class that has buckets
 

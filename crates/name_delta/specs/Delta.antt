@@ -18,7 +18,7 @@ use Rattle.factor_book.specs.declared.at.BucketAt.{BucketAt}
 use Rattle.factor_book.specs.declared.holding.Holding.{Holding}
 use Rattle.simm_params.specs.ListedBuckets.{credit_bucket_of, priced_bucket_of}
 use Rattle.name_delta.specs.Currencies.{currencies_in}
-use Rattle.name_delta.specs.Ids.{listed_id}
+use Rattle.simm_params.specs.SimmKinds.Factors.{listed_id}
 use Rattle.name_delta.specs.Names.{names_in}
 use Rattle.name_delta.specs.Points.{points_in}
 use Rattle.name_delta.specs.Values.{IsInRange, IsSized}

@@ -4,6 +4,5 @@ pub mod Alone
 pub mod Currencies
 pub mod Names
 pub mod Points
-pub mod Ids
 pub mod Delta
 pub mod Combine

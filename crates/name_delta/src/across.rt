@@ -5,7 +5,7 @@ ghost use Rattle.simm_params.specs.SimmKinds.declared.kinds.BucketId.TheVariants
 ghost use Rattle.simm_params.specs.SimmKinds.Order.{bucket_id_cmp};
 ghost use Rattle.simm_params.specs.SimmRules.Across.{numbered};
 ghost use Rattle.simm_params.specs.SimmRules.Sums.{total_by};
-ghost use Rattle.name_delta.specs.Ids.{listed_id};
+ghost use Rattle.simm_params.specs.SimmKinds.Factors.{listed_id};
 ghost use Rattle.name_delta.specs.Combine.{listed_in, parts_in, margins_of, places_of, part_in, number_place, residual_k, named_margin, combined_by_class, IsListed, AreSized, AreParts};
 
 use crate::gamma::GammaTable;

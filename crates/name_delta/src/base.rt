@@ -6,7 +6,6 @@ ghost use Rattle.name_delta.specs.Base.{base_place, indices_of, index_weight, we
 ghost use Rattle.name_delta.specs.Values.{nets, nets_at, IsInRange, IsSized, IsSmall};
 
 use crate::even::EvenRho;
-use crate::six::in_millionths;
 use factor_book::{BookSide, Factors, Place, PlaceFactors};
 use simm_params::Params;
 use simm_params::mh_units::{Corr6, Rate4, div_away};
@@ -36,7 +35,7 @@ pub fn base_corr<L: Ledger>(
     let weighed = weigh_indices(alloc, params.base_weight(), factors, product)?;
     let rho = EvenRho {
         count: weighed.len(),
-        rho: in_millionths(params.base_rho()),
+        rho: params.base_rho().in_millionths(),
     };
     Ok(bucket_margin(weighed.as_slice(), &rho, Scaling::Plain, Corr6::ONE, steps))
 }

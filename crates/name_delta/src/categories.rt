@@ -2,7 +2,6 @@ ghost use Rattle.std.specs.Prelude.{◌≡◌, ◌≤◌, length, unsigned_abs};
 ghost use Rattle.simm_params.specs.declared.category.VolatilityCategory.{VolatilityCategory as Category};
 ghost use Rattle.name_delta.specs.Currencies.{rho_at, rho_of};
 
-use crate::six::in_millionths;
 use simm_params::mh_units::Corr6;
 use simm_params::{Params, VolatilityCategory};
 use weighted_bucket::Rho;
@@ -32,9 +31,8 @@ impl Rho for CategoryRho<'_> {
     }
 
     fn rho(&self, row: usize, column: usize) -> Corr6 {
-        in_millionths(
-            self.params
-                .fx_rho(self.categories[row], self.categories[column]),
-        )
+        self.params
+            .fx_rho(self.categories[row], self.categories[column])
+            .in_millionths()
     }
 }

@@ -10,10 +10,8 @@ ghost use Rattle.name_delta.specs.Alone.{AreTerms};
 ghost use Rattle.name_delta.specs.Points.{points_in, points_place, weighed_in, CanWeigh};
 ghost use Rattle.name_delta.specs.Values.{IsInRange, IsSized, IsSmall};
 
-use crate::ids::bucket_id;
 use crate::issuers::IssuerRho;
 use crate::points::group_points;
-use crate::six::in_millionths;
 use factor_book::{BookSide, Factors, Place};
 use simm_params::mh_units::{Corr6, Rate4};
 use simm_params::simm_kinds::{Bucket, ProductClass, RiskClass};
@@ -81,8 +79,8 @@ fn points_value<L: Ledger>(
     let weighed = weigh_points(alloc, terms.weight, grouped.as_slice())?;
     let rho = IssuerRho {
         grouped: grouped.as_slice(),
-        same: in_millionths(bucket.same),
-        rho: in_millionths(terms.rho),
+        same: bucket.same.in_millionths(),
+        rho: terms.rho.in_millionths(),
     };
     Ok(bucket_margin(
         weighed.as_slice(),
@@ -103,7 +101,7 @@ fn place_of(at: CreditAt) -> Place
             CreditKind::NonQualifying => RiskClass::CreditNonQ,
         },
         side: BookSide::Delta,
-        bucket: bucket_id(&at.bucket),
+        bucket: at.bucket.id(),
     }
 }
 

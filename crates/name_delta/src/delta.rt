@@ -1,11 +1,10 @@
 ghost use Rattle.std.specs.Prelude.{◌≡◌, ◌+◌, ◌*◌, ◌≤◌, Some, IfOk};
 ghost use Rattle.simm_params.specs.ClassKinds.{credit_class, priced_class};
-ghost use Rattle.name_delta.specs.Ids.{listed_id};
+ghost use Rattle.simm_params.specs.SimmKinds.Factors.{listed_id};
 ghost use Rattle.name_delta.specs.Delta.{credit_delta, priced_delta, delta_value, IsCreditReady, IsPricedReady, IsReady, IsCreditSized, IsPricedSized, IsDeltaSized, point_count, name_count, factor_count};
 
 use crate::credit::{CreditAt, credit_bucket};
 use crate::fx::fx_bucket;
-use crate::ids::listed_bucket;
 use crate::priced::{PricedAt, priced_bucket};
 use factor_book::{BucketAt, Factors};
 use simm_params::simm_kinds::RiskClass;
@@ -60,7 +59,7 @@ fn credit<L: Ledger>(
     ensures sizes { IfOk result (IsCreditSized params.now (credit_class kind) (listed_id at.bucket) at.product factors.now) }
     ensures steps { let n = point_count (credit_class kind) (listed_id at.bucket) at.product factors.now in steps.new ≤ steps.old + n * n }
 {
-    let Some(bucket) = listed_bucket(&at.bucket) else {
+    let Some(bucket) = at.bucket.listed() else {
         unreachable!()
     };
     let at = CreditAt {
@@ -84,7 +83,7 @@ fn priced<L: Ledger>(
     ensures sizes { IfOk result (IsPricedSized params.now (priced_class kind) (listed_id at.bucket) at.product factors.now) }
     ensures steps { let n = name_count (priced_class kind) (listed_id at.bucket) at.product factors.now in steps.new ≤ steps.old + n * n }
 {
-    let Some(bucket) = listed_bucket(&at.bucket) else {
+    let Some(bucket) = at.bucket.listed() else {
         unreachable!()
     };
     let at = PricedAt {

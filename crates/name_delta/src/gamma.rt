@@ -3,7 +3,6 @@ ghost use Rattle.weighted_bucket.specs.PairSums.WithItself.{with_itself, with_it
 ghost use Rattle.name_delta.specs.Combine.{gamma_in, gamma_at};
 
 use crate::named::NamedClass;
-use crate::six::in_millionths;
 use simm_params::Params;
 use simm_params::mh_units::Corr6;
 use weighted_bucket::pair_sum::Correlation;
@@ -40,9 +39,8 @@ impl Correlation for GammaTable<'_> {
         if i == j {
             return Corr6::ONE;
         }
-        in_millionths(
-            self.class
-                .gamma(self.params, self.places[i], self.places[j]),
-        )
+        self.class
+            .gamma(self.params, self.places[i], self.places[j])
+            .in_millionths()
     }
 }

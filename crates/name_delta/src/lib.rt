@@ -13,22 +13,18 @@ mod delta;
 mod even;
 mod fx;
 mod gamma;
-mod ids;
 mod issuers;
 mod laws;
 mod named;
 mod points;
 mod priced;
-mod six;
 
 pub use across::combine;
 pub use base::base_corr;
 pub use delta::bucket;
 pub use even::EvenRho;
-pub use ids::{bucket_id, listed_bucket};
 pub use issuers::IssuerRho;
 pub use laws::{
     empty_buckets_add_nothing, listed_buckets_are_found, nets_are_no_larger, products_are_netted,
 };
 pub use points::group_points;
-pub use six::in_millionths;

@@ -12,8 +12,6 @@ ghost use Rattle.name_delta.specs.Values.{nets_at, IsInRange, IsSized, IsSmall};
 
 use crate::alone::weigh_each_alone;
 use crate::even::EvenRho;
-use crate::ids::bucket_id;
-use crate::six::in_millionths;
 use factor_book::{BookSide, Factors, Place};
 use simm_params::mh_units::{Corr6, Rate4};
 use simm_params::simm_kinds::{Bucket, ProductClass, RiskClass};
@@ -81,7 +79,7 @@ fn names_value<L: Ledger>(
     let weighed = weigh_names(alloc, terms.weight, terms.thresholds.delta, factors, &place)?;
     let rho = EvenRho {
         count: weighed.len(),
-        rho: in_millionths(terms.rho),
+        rho: terms.rho.in_millionths(),
     };
     Ok(bucket_margin(
         weighed.as_slice(),
@@ -102,7 +100,7 @@ fn place_of(at: PricedAt) -> Place
             PricedKind::Commodities => RiskClass::Commodity,
         },
         side: BookSide::Delta,
-        bucket: bucket_id(&at.bucket),
+        bucket: at.bucket.id(),
     }
 }
 

@@ -1,4 +1,5 @@
 -- What a risk factor is a factor of: its risk type, class, side and bucket.
+use Rattle.std.specs.Prelude.{Option, Some, None}
 use Rattle.simm_kinds.specs.declared.kinds.RiskType.{RiskType}
 use Rattle.simm_kinds.specs.declared.kinds.RiskType.TheVariants as kind
 use Rattle.simm_kinds.specs.declared.kinds.RiskClass.{RiskClass}
@@ -72,6 +73,13 @@ side_of (factor.FxVol p t) = side.Volatility
 abbrev pub bucket_id_of : Bucket → BucketId
 bucket_id_of (bucket.Number n) = id.Number n
 bucket_id_of bucket.Residual = id.Residual
+
+-- the bucket of an id, among those that files list; interest rates have a bucket for each currency, and others a single one
+abbrev pub listed_id : BucketId → Option Bucket
+listed_id (id.Number n) = Some (bucket.Number n)
+listed_id id.Residual = Some bucket.Residual
+listed_id (id.Currency currency) = None
+listed_id id.Single = None
 
 -- the bucket that sensitivities to a factor are summed in (delta margin: the buckets of each risk class): an interest rate's
 -- is its currency, and exchange rates and base correlations have one

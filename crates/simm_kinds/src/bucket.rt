@@ -1,9 +1,10 @@
 //! The buckets of credit, equity and commodity.
 ghost use Rattle.std.specs.Prelude.{◌≡◌};
 ghost use Rattle.simm_kinds.specs.Bucket.{bucket_named};
+ghost use Rattle.simm_kinds.specs.Factors.{bucket_id_of};
 
-use crate::BucketNumber;
 use crate::words::is_word;
+use crate::{BucketId, BucketNumber};
 
 /// The bucket of an issuer or an index: one of the numbered ones, or the residual one, which comes last.
 #[derive(Clone, Copy, PartialEq, Eq, PartialOrd, Ord)]
@@ -24,6 +25,16 @@ impl Bucket {
             Some(Bucket::Residual)
         } else {
             BucketNumber::read(text).map(Bucket::Number)
+        }
+    }
+
+    /// Its id among the buckets of all classes.
+    pub fn id(self) -> BucketId
+        ensures { result ≡ bucket_id_of self }
+    {
+        match self {
+            Bucket::Number(number) => BucketId::Number(number),
+            Bucket::Residual => BucketId::Residual,
         }
     }
 }

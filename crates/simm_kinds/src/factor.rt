@@ -184,7 +184,7 @@ impl Factor {
             | Factor::CreditNonQ { bucket, .. }
             | Factor::CreditVolNonQ { bucket, .. }
             | Factor::Equity { bucket, .. }
-            | Factor::EquityVol { bucket, .. } => bucket_id(*bucket),
+            | Factor::EquityVol { bucket, .. } => bucket.id(),
             Factor::Commodity { bucket, .. } | Factor::CommodityVol { bucket, .. } => {
                 BucketId::Number(*bucket)
             }
@@ -301,14 +301,5 @@ impl Factor {
                 tenor: *tenor,
             },
         })
-    }
-}
-
-fn bucket_id(bucket: Bucket) -> BucketId
-    ensures { result ≡ bucket_id_of bucket }
-{
-    match bucket {
-        Bucket::Number(number) => BucketId::Number(number),
-        Bucket::Residual => BucketId::Residual,
     }
 }

@@ -1,10 +1,11 @@
 //! The kinds of the standard: product classes, risk classes, risk types, tenors, sub-curves, buckets; and their words.
 ghost use Rattle.std.specs.Prelude.{◌≡◌};
+ghost use Rattle.simm_kinds.specs.Factors.{listed_id};
 ghost use Rattle.simm_kinds.specs.Kinds.{product_word, class_word, kind_word, sub_word, product_named, class_named, kind_named, sub_named};
 ghost use Rattle.simm_kinds.specs.Tenors.{tenor_word, tenor_named};
 
 use crate::words::{Worded, first_worded, is_word};
-use crate::{BucketNumber, Currency};
+use crate::{Bucket, BucketNumber, Currency};
 
 /// The product class of a trade. Margins of different product classes never net.
 #[derive(Clone, Copy, Debug, PartialEq, Eq, PartialOrd, Ord)]
@@ -430,4 +431,17 @@ pub enum BucketId {
     Currency(Currency),
     /// The one bucket of exchange rates, and of base correlations.
     Single,
+}
+
+impl BucketId {
+    /// The bucket of this id, if it is one of those that files list.
+    pub fn listed(self) -> Option<Bucket>
+        ensures { result ≡ listed_id self }
+    {
+        match self {
+            BucketId::Number(number) => Some(Bucket::Number(number)),
+            BucketId::Residual => Some(Bucket::Residual),
+            BucketId::Currency(_) | BucketId::Single => None,
+        }
+    }
 }

@@ -11,6 +11,7 @@ mod WeighedRates
 mod WeighedPairs
 mod WeighedBuckets
 pub mod ClassLists
+pub mod Sigmas
 pub use Rattle.simm_rules.proofs.MhUnits as MhUnits
 pub use Rattle.simm_rules.proofs.SimmKinds as SimmKinds
 pub use Rattle.toml_values.proofs as TomlValues

@@ -5,7 +5,7 @@ mod rates;
 mod rows;
 
 ghost use Rattle.std.specs.Prelude.{◌≡◌, List, ℕ, IfOk, ◌≤◌, unsigned_abs};
-ghost use Rattle.simm_rules.specs.ForeignExchange.{is_own_currency, fx_weight as weight_of, fx_threshold as threshold_of};
+ghost use Rattle.simm_rules.specs.ForeignExchange.{is_own_currency, fx_sigma, fx_weight as weight_of, fx_threshold as threshold_of};
 ghost use Rattle.simm_rules.specs.Simm.{psi};
 ghost use Rattle.simm_params.specs.Ranges.{weights, lambda_bases, sigmas, IsWithin};
 ghost use Rattle.simm_params.specs.Categories.{volatility, concentration, category_weight, category_rho, category_threshold};
@@ -16,7 +16,7 @@ ghost use Rattle.simm_params.specs.TablesView.{tables_view};
 use crate::category::{ConcentrationCategory, VolatilityCategory};
 use crate::tables::Tables;
 use simm_rules::mh_units::{Corr6, Rate4};
-use simm_rules::simm_kinds::{Currency, RiskClass};
+use simm_rules::simm_kinds::{Currency, CurrencyPair, RiskClass};
 use std::alloc::{AllocError, Global};
 use std::marker::Model;
 use std::sync::Arc;
@@ -166,6 +166,16 @@ impl Params {
         ensures range { IsWithin sigmas result.0 }
     {
         self.tables.fx.sigma(a, b)
+    }
+
+    /// The volatility of a pair by the volatility categories of both currencies, in ten-thousandths.
+    pub fn pair_volatility(&self, pair: CurrencyPair) -> Rate4
+        ensures value { result.0 ≡ fx_sigma self.now pair }
+        ensures range { IsWithin sigmas result.0 }
+    {
+        let first = self.volatility_category(&pair.first());
+        let second = self.volatility_category(&pair.second());
+        self.fx_sigma(first, second)
     }
 
     /// The threshold of a concentration category, in cents.

@@ -17,7 +17,7 @@ use Rattle.vol_factors.specs.WeightedBucket.Bucket.{bucket_value}
 use Rattle.vol_factors.specs.NameDelta.Points.{weighed_in}
 use Rattle.vol_factors.specs.Ranges.{ArePairsInRange}
 use Rattle.vol_factors.proofs.PairsTogether.{pairs}
-use Rattle.vol_factors.proofs.Sigmas.{sigma_low}
+use Rattle.vol_factors.proofs.SimmParams.Sigmas.{sigma_low}
 use Rattle.vega_margin.specs.Groups.{CanWeigh, IsValueOf}
 use Rattle.vega_margin.specs.Singles.{AreGrouped, pair_nets}
 use Rattle.vega_margin.specs.Values.{IsSized}

@@ -14,7 +14,7 @@ use crate::weighing::concentrated_bucket;
 use std::alloc::{AllocError, Global};
 use std::sync::ledger::Ledger;
 use vol_factors::factor_book::Factors;
-use vol_factors::name_delta::{IssuerRho, in_millionths};
+use vol_factors::name_delta::IssuerRho;
 use vol_factors::pair_sum::Steps;
 use vol_factors::simm_params::{CreditBucket, Params};
 use vol_factors::simm_rules::BucketMargin;
@@ -62,8 +62,8 @@ fn points_value<L: Ledger>(
     let grouped = grouped.as_slice();
     let rho = IssuerRho {
         grouped,
-        same: in_millionths(bucket.same),
-        rho: in_millionths(bucket.terms.rho),
+        same: bucket.same.in_millionths(),
+        rho: bucket.terms.rho.in_millionths(),
     };
     concentrated_bucket(alloc, bucket.terms.vrw, grouped, &rho, steps)
 }

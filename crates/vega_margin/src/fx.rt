@@ -13,13 +13,13 @@ use crate::weighing::concentrated_bucket;
 use std::alloc::{AllocError, Global};
 use std::sync::ledger::Ledger;
 use vol_factors::factor_book::Factors;
-use vol_factors::name_delta::{EvenRho, in_millionths};
+use vol_factors::name_delta::EvenRho;
 use vol_factors::pair_sum::Steps;
 use vol_factors::simm_kinds::{CurrencyPair, ProductClass};
 use vol_factors::simm_params::Params;
 use vol_factors::simm_rules::BucketMargin;
 use vol_factors::weighted_bucket::Grouped;
-use vol_factors::{PairSum, TenorScale, pair_sums, pair_volatility};
+use vol_factors::{PairSum, TenorScale, pair_sums};
 
 /// The vega value of the one bucket of a product class's pairs, whose `k` is the vega margin of foreign exchange. The factors are
 /// those of a book in range. `n` pairs take at most `n * n` steps. Want of memory is the only error.
@@ -41,7 +41,7 @@ pub fn pair_bucket<L: Ledger>(
     let grouped = grouped.as_slice();
     let rho = EvenRho {
         count: grouped.len(),
-        rho: in_millionths(params.fx_vol_rho()),
+        rho: params.fx_vol_rho().in_millionths(),
     };
     concentrated_bucket(alloc, params.fx_vrw(), grouped, &rho, steps)
 }
@@ -76,7 +76,7 @@ fn group_pair(params: &Params, place: usize, sum: PairSum) -> Grouped
     requires { unsigned_abs sum.sum ≤ 2 * 10 ^ 20 }
     ensures { result ≡ own_group params.now.fx.hvr (fx_sigma params.now) (fx_vega_threshold params.now) place (pair_view sum) }
 {
-    let sigma = pair_volatility(params, sum.pair);
+    let sigma = params.pair_volatility(sum.pair);
     let risk = vega_risk(params.fx_hvr(), sigma, sum.sum);
     single_group(place, risk, threshold(params, sum.pair))
 }

@@ -18,7 +18,7 @@ use std::alloc::{AllocError, Global};
 use std::sync::ledger::Ledger;
 use vol_factors::factor_book::Factors;
 use vol_factors::mh_units::Rate4;
-use vol_factors::name_delta::{EvenRho, in_millionths};
+use vol_factors::name_delta::EvenRho;
 use vol_factors::pair_sum::Steps;
 use vol_factors::simm_params::{Params, PricedBucket};
 use vol_factors::simm_rules::BucketMargin;
@@ -75,7 +75,7 @@ fn names_value<L: Ledger>(
     let grouped = grouped.as_slice();
     let rho = EvenRho {
         count: grouped.len(),
-        rho: in_millionths(bucket.terms.rho),
+        rho: bucket.terms.rho.in_millionths(),
     };
     concentrated_bucket(alloc, bucket.terms.vrw, grouped, &rho, steps)
 }

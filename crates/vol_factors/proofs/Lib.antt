@@ -12,10 +12,10 @@ pub mod Readings
 pub mod Gathered
 pub mod TotalSizes
 pub mod InRange
-pub mod Sigmas
 pub mod Lent
 pub mod Currencies
 pub use Rattle.ir_delta.proofs.MhUnits as MhUnits
+pub use Rattle.ir_delta.proofs.SimmParams as SimmParams
 pub use Rattle.ir_delta.proofs.FactorBook as FactorBook
 pub use Rattle.ir_delta.proofs.PairSums as PairSums
 pub use Rattle.ir_delta.proofs as IrDelta

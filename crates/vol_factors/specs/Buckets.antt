@@ -14,7 +14,7 @@ use Rattle.ir_delta.specs.SimmRules.ForeignExchange.{pairs_of}
 use Rattle.ir_delta.specs.SimmParams.ClassKinds.{credit_class, priced_class}
 use Rattle.ir_delta.specs.FactorBook.declared.at.BucketAt.{BucketAt}
 use Rattle.ir_delta.specs.FactorBook.declared.holding.Holding.{Holding}
-use Rattle.name_delta.specs.Ids.{listed_id}
+use Rattle.ir_delta.specs.SimmKinds.Factors.{listed_id}
 use Rattle.vol_factors.specs.declared.buckets.VolatileAt.{VolatileAt}
 use Rattle.vol_factors.specs.declared.buckets.VolatileAt.TheVariants as volatile
 use Rattle.vol_factors.specs.Places.{volatilities_of, points_of, name_volatilities, pair_volatilities}

@@ -1,14 +1,13 @@
 //! The buckets that have volatilities, by what stands in them.
 ghost use Rattle.std.specs.Prelude.{◌≡◌, option_map};
 ghost use Rattle.ir_delta.specs.SimmParams.ClassKinds.{credit_class, priced_class};
-ghost use Rattle.name_delta.specs.Ids.{listed_id};
+ghost use Rattle.ir_delta.specs.SimmKinds.Factors.{listed_id};
 ghost use Rattle.vol_factors.specs.Buckets.{bucket_view, credit_bucket_at, currency_bucket_at, pairs_bucket_at, priced_bucket_at, volatile_bucket};
 
 use crate::places::{CreditAt, CurrencyAt, PricedAt};
 use ir_delta::factor_book::BucketAt;
 use ir_delta::simm_kinds::{BucketId, ProductClass, RiskClass};
 use ir_delta::simm_params::{CreditKind, PricedKind};
-use name_delta::listed_bucket;
 
 /// A bucket that has volatilities, by the kind of its class.
 #[derive(Clone, Copy)]
@@ -54,7 +53,7 @@ fn of_currency(at: BucketAt) -> Option<VolatileAt>
 fn of_credit(at: BucketAt, kind: CreditKind) -> Option<VolatileAt>
     ensures { option_map bucket_view result ≡ credit_bucket_at (credit_class kind) (listed_id at.bucket) at.product }
 {
-    let bucket = listed_bucket(&at.bucket)?;
+    let bucket = at.bucket.listed()?;
     Some(VolatileAt::Credit(CreditAt {
         product: at.product,
         kind,
@@ -65,7 +64,7 @@ fn of_credit(at: BucketAt, kind: CreditKind) -> Option<VolatileAt>
 fn of_names(at: BucketAt, kind: PricedKind) -> Option<VolatileAt>
     ensures { option_map bucket_view result ≡ priced_bucket_at (priced_class kind) (listed_id at.bucket) at.product }
 {
-    let bucket = listed_bucket(&at.bucket)?;
+    let bucket = at.bucket.listed()?;
     Some(VolatileAt::Priced(PricedAt {
         product: at.product,
         kind,

@@ -4,7 +4,6 @@
 #![tactic(auto)]
 
 mod buckets;
-mod categories;
 mod credit;
 mod laws;
 mod names;
@@ -16,7 +15,6 @@ mod tenor_scale;
 mod volatility;
 
 pub use buckets::VolatileAt;
-pub use categories::pair_volatility;
 pub use credit::{point_groups, point_sums};
 pub use laws::currencies_add_up;
 pub use names::{NameSum, name_sums};

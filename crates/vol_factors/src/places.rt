@@ -6,7 +6,6 @@ ghost use Rattle.vol_factors.specs.Places.{currency_place, points_place, names_p
 use ir_delta::factor_book::{BookSide, Place};
 use ir_delta::simm_kinds::{Bucket, BucketId, Currency, ProductClass, RiskClass};
 use ir_delta::simm_params::{CreditKind, PricedKind};
-use name_delta::bucket_id;
 
 /// The bucket of a currency in a product class.
 #[derive(Clone, Copy)]
@@ -65,7 +64,7 @@ impl CreditAt {
                 CreditKind::NonQualifying => RiskClass::CreditNonQ,
             },
             side: BookSide::Volatility,
-            bucket: bucket_id(&self.bucket),
+            bucket: self.bucket.id(),
         }
     }
 }
@@ -82,7 +81,7 @@ impl PricedAt {
                 PricedKind::Commodities => RiskClass::Commodity,
             },
             side: BookSide::Volatility,
-            bucket: bucket_id(&self.bucket),
+            bucket: self.bucket.id(),
         }
     }
 }

@@ -7,7 +7,6 @@ use crate::volatility::Volatility;
 use ir_delta::mh_units::Corr6;
 use ir_delta::simm_params::Params;
 use ir_delta::weighted_bucket::Rho;
-use name_delta::in_millionths;
 
 /// The parameters' correlations of the volatilities of one currency, by their places.
 #[derive(Drop)]
@@ -46,11 +45,12 @@ impl Rho for VolatilityRho<'_> {
 fn correlation(params: &Params, a: Volatility, b: Volatility) -> Corr6
     ensures { result.0 ≡ rho_of params.now a b }
 {
-    in_millionths(match (a, b) {
+    let rate = match (a, b) {
         (Volatility::Rates { tenor: t }, Volatility::Rates { tenor: u })
         | (Volatility::Inflation { tenor: t }, Volatility::Inflation { tenor: u }) =>
             params.tenor_rho(t, u),
         (Volatility::Rates { .. }, Volatility::Inflation { .. })
         | (Volatility::Inflation { .. }, Volatility::Rates { .. }) => params.inflation_rho(),
-    })
+    };
+    rate.in_millionths()
 }

@@ -15,7 +15,7 @@ use Rattle.vol_factors.specs.NameDelta.Values.{nets_in}
 use Rattle.vol_factors.proofs.NameDelta.Shrinking.{SizesAreNetted, nets_shrink, filter_shrinks}
 use Rattle.vol_factors.specs.Places.{volatilities_of}
 use Rattle.vol_factors.specs.Ranges.{alone}
-use Rattle.vol_factors.proofs.Sigmas.{sigma_low}
+use Rattle.vol_factors.proofs.SimmParams.Sigmas.{sigma_low}
 use Rattle.vega_margin.proofs.laws.nets_are_no_larger.Goals as goal
 
 -- 1 is not negative

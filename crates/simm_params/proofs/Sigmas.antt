@@ -1,13 +1,13 @@
 -- What the volatility categories of a pair's currencies say of its volatility.
 use Rattle.std.proofs.Common.{◌≡◌, ℕ, Bool, true, false, ◌&&◌, ◌||◌, if◌then◌else◌, List, pos, ◌≤ℤ◌, refl, ap, ◌∙◌}
-use Rattle.ir_delta.specs.SimmKinds.Pair.{Pair}
-use Rattle.ir_delta.specs.SimmRules.Params.{Params}
-use Rattle.ir_delta.specs.SimmRules.ForeignExchange.{is_high, fx_sigma}
-use Rattle.ir_delta.specs.SimmParams.declared.category.VolatilityCategory.{VolatilityCategory}
-use Rattle.ir_delta.specs.SimmParams.declared.category.VolatilityCategory.TheVariants.{Regular, High}
-use Rattle.ir_delta.specs.SimmParams.Categories.{volatility}
-use Rattle.ir_delta.specs.SimmParams.Facts.{IsParams}
-use Rattle.ir_delta.specs.SimmParams.FxLookups.{pair_sigma}
+use Rattle.simm_rules.specs.SimmKinds.Pair.{Pair}
+use Rattle.simm_rules.specs.Params.{Params}
+use Rattle.simm_rules.specs.ForeignExchange.{is_high, fx_sigma}
+use Rattle.simm_params.specs.declared.category.VolatilityCategory.{VolatilityCategory}
+use Rattle.simm_params.specs.declared.category.VolatilityCategory.TheVariants.{Regular, High}
+use Rattle.simm_params.specs.Categories.{volatility}
+use Rattle.simm_params.specs.Facts.{IsParams}
+use Rattle.simm_params.specs.FxLookups.{pair_sigma}
 
 by_category : (p : Params) (s t : Bool) → pair_sigma p.fx (if s then High else Regular) (if t then High else Regular) ≡ (if s && t then p.fx.high_sigma else (if s || t then p.fx.mixed_sigma else p.fx.regular_sigma))
 by_category p true true = refl
