@@ -12,9 +12,9 @@ use Rattle.crif_reader.specs.declared.fault.CrifFault.{CrifFault}
 use Rattle.crif_reader.specs.Grammar.{Crif, crif_of}
 use Rattle.csa_terms.specs.Grammar.{terms_of}
 use Rattle.csa_terms.specs.Terms.{Agreement}
-use Rattle.margin_text.specs.CrifLine.{crif_fault}
-use Rattle.margin_text.specs.ParamsLine.{params_fault}
-use Rattle.margin_text.specs.TermsLine.{terms_fault}
+use Rattle.fault_text.specs.CrifLine.{crif_fault}
+use Rattle.fault_text.specs.ParamsLine.{params_fault}
+use Rattle.fault_text.specs.TermsLine.{terms_fault}
 use Rattle.command_files.specs.declared.fault.FileFault.{FileFault}
 use Rattle.command_files.specs.declared.fault.FileFault.TheVariants as why
 use Rattle.command_files.specs.Files.{Deeds, NoValue}
@@ -64,10 +64,10 @@ params_taken bytes p known line refused = at (params_read bytes) known refused
     at (Err e) known refused = cc
 
 -- bytes that give a batch are not refused
-pub trades_taken : (bytes : List ℕ) (trades : List TradeRows) → GivesTrades bytes trades → (line : List ℕ) → RefusesTrades bytes line → ⊥
-trades_taken bytes trades known line refused = at (crif_of bytes) known refused
+pub trades_taken : (word bytes : List ℕ) (trades : List TradeRows) → GivesTrades bytes trades → (line : List ℕ) → RefusesTrades word bytes line → ⊥
+trades_taken word bytes trades known line refused = at (crif_of bytes) known refused
   where
-    at : (read : Result Crif CrifFault) → IsOkAnd read (λ crif. crif.trades ≡ trades) → IsErrAnd read (λ e. line ≡ crif_fault e) → ⊥
+    at : (read : Result Crif CrifFault) → IsOkAnd read (λ crif. crif.trades ≡ trades) → IsErrAnd read (λ e. line ≡ crif_fault word e) → ⊥
     at (Ok crif) known refused = absurd refused
     at (Err e) known refused = absurd known
 

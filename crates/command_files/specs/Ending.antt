@@ -17,6 +17,8 @@ status_of_refused input.Params = status.Params
 status_of_refused input.Crif = status.Terms
 status_of_refused input.Terms = status.Terms
 status_of_refused input.Feed = status.Feed
+status_of_refused input.Candidate = status.Terms
+status_of_refused input.Audit = status.Terms
 
 -- the status of each fault
 abbrev pub status_of : Fault → Status
@@ -25,7 +27,7 @@ status_of (fault.OfFile file name why.Unread) = status.Read
 status_of (fault.OfFile file name why.Long) = status_of_refused file
 status_of (fault.OfFile file name (why.Refused line)) = status_of_refused file
 status_of (fault.OfFile file name why.Memory) = status.Memory
-status_of (fault.OfBatch line) = status.Terms
+status_of (fault.Refused line) = status.Terms
 status_of fault.Memory = status.Memory
 
 -- the one line that is printed at each fault; for want of memory none
@@ -35,7 +37,7 @@ line_of (fault.OfFile file name why.Unread) = read_fault name.now
 line_of (fault.OfFile file name why.Long) = long_fault name.now
 line_of (fault.OfFile file name (why.Refused line)) = line
 line_of (fault.OfFile file name why.Memory) = []
-line_of (fault.OfBatch line) = line
+line_of (fault.Refused line) = line
 line_of fault.Memory = []
 
 -- a fault came, with its cause in this command, its status and its line

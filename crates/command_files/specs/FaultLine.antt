@@ -1,6 +1,6 @@
 -- The text of a fault's line.
 use Rattle.std.specs.Prelude.{ℕ, List, ◌++◌}
-use Rattle.margin_text.specs.Fields.{last_field}
+use Rattle.fault_text.specs.Fields.{last_field}
 use Rattle.command_files.specs.declared.fault_line.FaultLine.{FaultLine}
 use Rattle.command_files.specs.declared.fault_line.FaultLine.TheVariants.{Whole, Named}
 

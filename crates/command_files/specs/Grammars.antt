@@ -6,9 +6,9 @@ use Rattle.params_file.specs.Grammar.{params_of, params_read}
 use Rattle.crif_reader.specs.Grammar.{crif_of}
 use Rattle.csa_terms.specs.Grammar.{terms_of}
 use Rattle.csa_terms.specs.Terms.{Agreement}
-use Rattle.margin_text.specs.ParamsLine.{params_fault}
-use Rattle.margin_text.specs.TermsLine.{terms_fault}
-use Rattle.margin_text.specs.CrifLine.{crif_fault}
+use Rattle.fault_text.specs.ParamsLine.{params_fault}
+use Rattle.fault_text.specs.TermsLine.{terms_fault}
+use Rattle.fault_text.specs.CrifLine.{crif_fault}
 
 abbrev pub GivesParams : List ℕ → Params → Type 0
 GivesParams bytes p = params_of bytes ≡ Some p
@@ -20,8 +20,9 @@ RefusesParams bytes line = IsErrAnd (params_read bytes) (λ e. line ≡ params_f
 abbrev pub GivesTrades : List ℕ → List TradeRows → Type 0
 GivesTrades bytes trades = IsOkAnd (crif_of bytes) (λ crif. crif.trades ≡ trades)
 
-abbrev pub RefusesTrades : List ℕ → List ℕ → Type 0
-RefusesTrades bytes line = IsErrAnd (crif_of bytes) (λ e. line ≡ crif_fault e)
+-- a CRIF file that the word names
+abbrev pub RefusesTrades : List ℕ → List ℕ → List ℕ → Type 0
+RefusesTrades word bytes line = IsErrAnd (crif_of bytes) (λ e. line ≡ crif_fault word e)
 
 abbrev pub GivesTerms : List ℕ → List Agreement → Type 0
 GivesTerms bytes agreements = terms_of bytes ≡ Ok agreements

@@ -1,6 +1,6 @@
 -- The one line that is printed where a command ends with a fault.
 use Rattle.std.specs.Prelude.{ℕ, List, ◌++◌, codes}
-use Rattle.margin_text.specs.Fields.{last_field}
+use Rattle.fault_text.specs.Fields.{last_field}
 
 abbrev pub words_fault : List ℕ
 words_fault = codes "FAULT\tWORDS\n"

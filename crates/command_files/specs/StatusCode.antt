@@ -14,3 +14,4 @@ status_code status.Read = 7
 status_code status.Write = 8
 status_code status.Memory = 9
 status_code status.Desk = 10
+status_code status.Wrong = 11

@@ -16,6 +16,10 @@ pub enum InputFile {
     Terms,
     /// A feed.
     Feed,
+    /// The CRIF file of a batch that is tried on a book.
+    Candidate,
+    /// The journals of a run with their replies, to be verified.
+    Audit,
 }
 
 impl InputFile {
@@ -28,7 +32,9 @@ impl InputFile {
     {
         match self {
             InputFile::Params => Status::Params,
-            InputFile::Crif | InputFile::Terms => Status::Terms,
+            InputFile::Crif | InputFile::Terms | InputFile::Candidate | InputFile::Audit => {
+                Status::Terms
+            }
             InputFile::Feed => Status::Feed,
         }
     }
@@ -101,8 +107,8 @@ pub enum Fault<'a> {
         /// Why it gave nothing.
         why: FileFault,
     },
-    /// The batch is refused, with the line that tells why.
-    OfBatch(Text),
+    /// What the files say together is refused, as a batch under the parameters is, with the line that tells why.
+    Refused(Text),
     /// Memory ran out after the files were read.
     Memory,
 }
@@ -123,7 +129,7 @@ impl Fault<'_> {
                 FileFault::Long | FileFault::Refused(_) => file.status_of_refused(),
                 FileFault::Memory => Status::Memory,
             },
-            Fault::OfBatch(_) => Status::Terms,
+            Fault::Refused(_) => Status::Terms,
             Fault::Memory => Status::Memory,
         }
     }
@@ -140,7 +146,7 @@ impl Fault<'_> {
                 FileFault::Refused(line) => FaultLine::Whole(line.as_slice()),
                 FileFault::Memory => FaultLine::Whole(b""),
             },
-            Fault::OfBatch(line) => FaultLine::Whole(line.as_slice()),
+            Fault::Refused(line) => FaultLine::Whole(line.as_slice()),
             Fault::Memory => FaultLine::Whole(b""),
         }
     }

@@ -1,5 +1,5 @@
 ghost use Rattle.std.specs.Prelude.{◌≡◌, ◌≤◌, ◌++◌};
-ghost use Rattle.margin_text.specs.Fields.{last_field};
+ghost use Rattle.fault_text.specs.Fields.{last_field};
 ghost use Rattle.command_files.specs.FaultLine.{line_text};
 ghost use Rattle.command_files.specs.Printed.{GotLine};
 ghost use Rattle.command_files.specs.Ending.{status_of, line_of};

@@ -10,7 +10,8 @@ pub enum Status {
     Words,
     /// The parameter file is too long, or its grammar refuses it.
     Params,
-    /// The terms file or the CRIF file is too long, or refused by its grammar, or the batch for a row's bucket or its range.
+    /// A file that is neither the parameter file nor a feed is too long, or refused by its grammar, or what the files say
+    /// together is refused: a batch for a row's bucket or its range.
     Terms,
     /// A file isn't there or can't be opened.
     Find,
@@ -24,6 +25,8 @@ pub enum Status {
     Memory,
     /// A desk failed, and may not have been told all calls. All text is out.
     Desk,
+    /// A reply in an audit file isn't the right one.
+    Wrong,
 }
 
 impl Status {
@@ -42,6 +45,7 @@ impl Status {
             Status::Write => 8,
             Status::Memory => 9,
             Status::Desk => 10,
+            Status::Wrong => 11,
         }
     }
 }

@@ -6,7 +6,7 @@ use crate::fault::FileFault;
 use crate::file::read_file;
 use crif_reader::read_batch;
 use csa_terms::{Terms, read_terms};
-use margin_text::{crif_line, params_line, terms_line};
+use fault_text::{crif_line, params_line, terms_line};
 use mh_io::Folder;
 use params_file::read_params;
 use simm_kinds::Batch;
@@ -34,7 +34,8 @@ pub fn read_param_file<F: Folder>(
     }
 }
 
-/// Reads the CRIF file of this name, and hands it back to the folder. Records that the grammar passes over are not told.
+/// Reads the CRIF file of this name, and hands it back to the folder. Records that the grammar passes over are not told. The
+/// word names the file in the line of its fault.
 ///
 /// # Errors
 ///
@@ -42,15 +43,16 @@ pub fn read_param_file<F: Folder>(
 pub fn read_crif_file<F: Folder>(
     alloc: Global,
     folder: &mut F,
+    word: &[u8],
     name: &str,
 ) -> Result<Batch, FileFault>
     ensures counts { KeepsCounts (F.seen folder.old) (F.seen folder.new) }
-    ensures ends { ValueEnds GivesTrades RefusesTrades (F.seen folder.old) (F.seen folder.new) name.now result }
+    ensures ends { ValueEnds GivesTrades (RefusesTrades word.now) (F.seen folder.old) (F.seen folder.new) name.now result }
 {
     let bytes = read_file(alloc, folder, name)?;
     match read_batch(alloc, bytes.as_slice()) {
         Ok(read) => Ok(read.batch),
-        Err(fault) => Err(FileFault::Refused(crif_line(alloc, &fault)?)),
+        Err(fault) => Err(FileFault::Refused(crif_line(alloc, word, &fault)?)),
     }
 }
 

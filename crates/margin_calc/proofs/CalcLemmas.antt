@@ -45,7 +45,7 @@ range_refused at found f admitted is = ap (λ o. if_admitted o found) admitted �
 
 pub refused_cause : (old new : FolderSeen) (params_name crif_name : List ℕ) (p : Params) (trades : List TradeRows) (why : Refusal) (f : Fault) → HasBoth params_name crif_name old new p trades → if_admitted (first_unadmitted p trades) (range p (rows_of trades)) ≡ reply.Refused why → TellsRefusal why f → CalcCause params_name crif_name old new f
 refused_cause old new params_name crif_name p trades why (fault.OfFile file name f) both refused tells = absurd tells
-refused_cause old new params_name crif_name p trades why (fault.OfBatch line) both refused tells =
+refused_cause old new params_name crif_name p trades why (fault.Refused line) both refused tells =
     record { p = p; trades = trades; why = why; both = both; refused = refused; tells = tells }
 refused_cause old new params_name crif_name p trades why fault.Memory both refused tells = record { p = p; trades = trades; both = both }
 

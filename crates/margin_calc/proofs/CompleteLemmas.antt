@@ -1,5 +1,5 @@
 -- A calculation for which all is well succeeds, or finds no memory.
-use Rattle.std.proofs.Common.{◌≡◌, ℕ, List, Some, Result, Ok, Err, IsOkAnd, ap, sym, refl, subst, inl, inr, ◌∙◌}
+use Rattle.std.proofs.Common.{◌≡◌, ℕ, List, Some, Result, Ok, Err, IsOkAnd, codes, ap, sym, refl, subst, inl, inr, ◌∙◌}
 use Rattle.mh_io.specs.Faults.{Rises}
 use Rattle.mh_io.specs.Sink.{SinkSeen}
 use Rattle.mh_io.specs.Folder.{FolderSeen}
@@ -56,12 +56,11 @@ only_memory pn cn old new out_old out_new w (fault.OfFile input.Crif name f) h =
     let fails = h.1 in
     let before = with_reading no_deeds pn fails.param_bytes fails.param_faults in
     ap (λ e. status_of (fault.OfFile input.Crif name e))
-    (only_memory_for old new before cn w.crif_bytes RefusesTrades w.t f w.told w.has_crif w.crif_fits
-    (trades_taken w.crif_bytes w.trades w.crif_read)
+    (only_memory_for old new before cn w.crif_bytes (RefusesTrades (codes "CRIF")) w.t f w.told w.has_crif w.crif_fits
+    (trades_taken (codes "CRIF") w.crif_bytes w.trades w.crif_read)
     w.finds_stood w.reads_stood fails.failed)
-only_memory pn cn old new out_old out_new w (fault.OfFile input.Terms name f) h = absurd h
-only_memory pn cn old new out_old out_new w (fault.OfFile input.Feed name f) h = absurd h
-only_memory pn cn old new out_old out_new w (fault.OfBatch line) h =
+only_memory pn cn old new out_old out_new w (fault.OfFile _ name f) h = absurd h
+only_memory pn cn old new out_old out_new w (fault.Refused line) h =
     let b = h.both in
     let p_is : h.p ≡ w.p = same_params pn cn old new out_old out_new w b.param_bytes h.p (b.params).whole (b.params).values in
     let trades_are : h.trades ≡ w.trades = same_trades pn cn old new out_old out_new w b.crif_bytes h.trades b.whole b.values in
@@ -78,13 +77,7 @@ printed_well : (b : Breakdown) (old new : SinkSeen) (s : Status) → (Rises old.
 printed_well b old new status.Done stood h = tt
 printed_well b old new status.Memory stood h = tt
 printed_well b old new status.Write stood h = absurd (stood h.rose)
-printed_well b old new status.Words stood h = absurd h
-printed_well b old new status.Params stood h = absurd h
-printed_well b old new status.Terms stood h = absurd h
-printed_well b old new status.Find stood h = absurd h
-printed_well b old new status.Read stood h = absurd h
-printed_well b old new status.Feed stood h = absurd h
-printed_well b old new status.Desk stood h = absurd h
+printed_well b old new _ stood h = absurd h
 
 -- no other status than Done and Memory comes
 pub ends_well : (pn cn : List ℕ) (old new : FolderSeen) (out_old out_new : SinkSeen) (s : Status) → CalcEnds pn cn old new out_old out_new s → IsWell pn cn old new out_old out_new → EndsWell s

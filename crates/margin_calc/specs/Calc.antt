@@ -1,5 +1,5 @@
 -- What a margin calculation does: for each status what happened, and what was printed.
-use Rattle.std.specs.Prelude.{ℕ, ◌≡◌, List, None, ◌⊎◌, Result, Ok, Err}
+use Rattle.std.specs.Prelude.{ℕ, ◌≡◌, List, None, ◌⊎◌, Result, Ok, Err, codes}
 use Rattle.mh_io.specs.Folder.{FolderSeen}
 use Rattle.mh_io.specs.Sink.{SinkSeen}
 use Rattle.simm_kinds.specs.declared.row.TradeRows.{TradeRows}
@@ -58,7 +58,7 @@ pub record IsRefused (params_name crif_name : List ℕ) (old new : FolderSeen) (
 -- the fault that a refusal comes to: its line, or want of memory
 abbrev pub TellsRefusal : Refusal → Fault → Type 0
 TellsRefusal why (fault.OfFile file name f) = ⊥
-TellsRefusal why (fault.OfBatch line) = line ≡ refusal_fault why
+TellsRefusal why (fault.Refused line) = line ≡ refusal_fault why
 TellsRefusal why fault.Memory = Unit {0}
 
 -- what a batch comes to under the parameters: its margin, a refusal, or no memory
@@ -72,15 +72,14 @@ pub record IsStarved (params_name crif_name : List ℕ) (old new : FolderSeen) :
   pub trades : List TradeRows
   pub both : HasBoth params_name crif_name old new p trades
 
--- what happened at each fault of a calculation, which has no terms and no feed
+-- what happened at each fault of a calculation, which has no other file
 abbrev pub CalcCause : List ℕ → List ℕ → FolderSeen → FolderSeen → Fault → Type 0
 CalcCause params_name crif_name old new (fault.OfFile input.Params name f) =
     (name.now ≡ params_name) × NoValue old new no_deeds params_name RefusesParams f
 CalcCause params_name crif_name old new (fault.OfFile input.Crif name f) =
-    (name.now ≡ crif_name) × FailsAfterParams params_name crif_name RefusesTrades old new f
-CalcCause params_name crif_name old new (fault.OfFile input.Terms name f) = ⊥
-CalcCause params_name crif_name old new (fault.OfFile input.Feed name f) = ⊥
-CalcCause params_name crif_name old new (fault.OfBatch line) = IsRefused params_name crif_name old new line
+    (name.now ≡ crif_name) × FailsAfterParams params_name crif_name (RefusesTrades (codes "CRIF")) old new f
+CalcCause params_name crif_name old new (fault.OfFile _ name f) = ⊥
+CalcCause params_name crif_name old new (fault.Refused line) = IsRefused params_name crif_name old new line
 CalcCause params_name crif_name old new fault.Memory = IsStarved params_name crif_name old new
 
 -- what working out a margin does: the margin, or why there is none

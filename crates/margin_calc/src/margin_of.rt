@@ -17,7 +17,7 @@ fn refused<'a>(alloc: Global, refusal: Refusal) -> Fault<'a>
     ensures { TellsRefusal refusal result }
 {
     match refusal_line(alloc, refusal) {
-        Ok(line) => Fault::OfBatch(line),
+        Ok(line) => Fault::Refused(line),
         Err(_) => Fault::Memory,
     }
 }
@@ -58,7 +58,7 @@ pub(crate) fn margin_of_files<'a, F: Folder>(
             why,
         }),
     };
-    let batch = match read_crif_file(alloc, folder, crif) {
+    let batch = match read_crif_file(alloc, folder, b"CRIF", crif) {
         Ok(batch) => batch,
         Err(why) => return Err(Fault::OfFile {
             file: InputFile::Crif,

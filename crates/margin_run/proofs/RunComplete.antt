@@ -116,8 +116,8 @@ module _ {B : Type 0} {pn tn : List ℕ} {fns : List (List ℕ)} {old new : Fold
   only_memory (fault.OfFile input.Feed name why.Long) h = absurd (h.fails).missing
   only_memory (fault.OfFile input.Feed name (why.Refused line)) h = absurd (h.fails).missing
   only_memory (fault.OfFile input.Feed name why.Memory) h = refl
-  only_memory (fault.OfFile input.Crif name f) h = absurd h
-  only_memory (fault.OfBatch line) h = absurd h
+  only_memory (fault.OfFile _ name f) h = absurd h
+  only_memory (fault.Refused line) h = absurd h
   only_memory fault.Memory h = refl
 
   -- no feed is left before its end
@@ -145,10 +145,7 @@ module _ {B : Type 0} {pn tn : List ℕ} {fns : List (List ℕ)} {old new : Fold
       let one = h.2 in
       let told = one.told in
       absurd (none_failed (notices sets) d told.published told.outcomes told.publishes w.desks_stay one.o one.there one.failed)
-  leaves_well sets reports status.Words run h = absurd h
-  leaves_well sets reports status.Params run h = absurd h
-  leaves_well sets reports status.Terms run h = absurd h
-  leaves_well sets reports status.Find run h = absurd h
+  leaves_well sets reports _ run h = absurd h
 
   -- no other status than Done and Memory comes
   pub run_ends_well : (s : Status) → RunEnds pn tn fns old new out_old out_new d s → EndsWell s

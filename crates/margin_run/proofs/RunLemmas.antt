@@ -104,11 +104,9 @@ has_run old mid new pn tn fns p agreements started sets reports inputs begun apa
 
 -- no feed was run
 pub no_run : (old mid new : FolderSeen) (pn tn : List ℕ) (fns : List (List ℕ)) (p : Params) (agreements : List Agreement) (f : Fault) → HasInputs pn tn old mid p agreements → FeedsFail fns mid new f → RunCause pn tn fns old new f
-no_run old mid new pn tn fns p agreements (fault.OfFile input.Params name f) inputs fails = absurd fails
-no_run old mid new pn tn fns p agreements (fault.OfFile input.Crif name f) inputs fails = absurd fails
-no_run old mid new pn tn fns p agreements (fault.OfFile input.Terms name f) inputs fails = absurd fails
 no_run old mid new pn tn fns p agreements (fault.OfFile input.Feed name f) inputs fails = record { p = p; agreements = agreements; mid = mid; inputs = inputs; fails = fails }
-no_run old mid new pn tn fns p agreements (fault.OfBatch line) inputs fails = absurd fails
+no_run old mid new pn tn fns p agreements (fault.OfFile _ name f) inputs fails = absurd fails
+no_run old mid new pn tn fns p agreements (fault.Refused line) inputs fails = absurd fails
 no_run old mid new pn tn fns p agreements fault.Memory inputs fails = record { p = p; agreements = agreements; mid = mid; inputs = inputs; fails = fails }
 
 pub failed_run : (old new : FolderSeen) (pn tn : List ℕ) (fns : List (List ℕ)) (f : Fault) (result : Result Outcome Fault) → IsErrAnd result (λ e. e ≡ f) → RunCause pn tn fns old new f → RunFilesEnd pn tn fns old new result

@@ -70,7 +70,7 @@ pub record FeedsStarve (words : List (List ℕ)) (old new : FolderSeen) : Type 0
 abbrev pub FeedsFail : List (List ℕ) → FolderSeen → FolderSeen → Fault → Type 0
 FeedsFail words old new (fault.OfFile input.Feed name f) = FeedMissing words old new name.now f
 FeedsFail words old new (fault.OfFile _ name f) = ⊥
-FeedsFail words old new (fault.OfBatch line) = ⊥
+FeedsFail words old new (fault.Refused line) = ⊥
 FeedsFail words old new fault.Memory = FeedsStarve words old new
 
 -- ---- feeds that were run

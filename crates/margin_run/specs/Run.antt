@@ -81,15 +81,15 @@ pub record RunFails (params_name terms_name : List ℕ) (feed_names : List (List
   pub inputs : HasInputs params_name terms_name old mid p agreements
   pub fails : FeedsFail feed_names mid new f
 
--- what happened at each fault of a run, which has no CRIF file and no batch
+-- what happened at each fault of a run, which has no other file and no batch
 abbrev pub RunCause : List ℕ → List ℕ → List (List ℕ) → FolderSeen → FolderSeen → Fault → Type 0
 RunCause params_name terms_name feed_names old new (fault.OfFile input.Params name f) =
     (name.now ≡ params_name) × NoValue old new no_deeds params_name RefusesParams f
 RunCause params_name terms_name feed_names old new (fault.OfFile input.Terms name f) =
     (name.now ≡ terms_name) × FailsAfterParams params_name terms_name RefusesTerms old new f
 RunCause params_name terms_name feed_names old new (fault.OfFile input.Feed name f) = RunFails params_name terms_name feed_names old new (fault.OfFile input.Feed name f)
-RunCause params_name terms_name feed_names old new (fault.OfFile input.Crif name f) = ⊥
-RunCause params_name terms_name feed_names old new (fault.OfBatch line) = ⊥
+RunCause params_name terms_name feed_names old new (fault.OfFile _ name f) = ⊥
+RunCause params_name terms_name feed_names old new (fault.Refused line) = ⊥
 RunCause params_name terms_name feed_names old new fault.Memory = RunFails params_name terms_name feed_names old new fault.Memory
 
 -- ---- the ends of a run, by its status

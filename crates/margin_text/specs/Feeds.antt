@@ -7,8 +7,8 @@ use Rattle.feed_gate.specs.declared.report.FeedEnd.{FeedEnd}
 use Rattle.feed_gate.specs.declared.report.FeedEnd.TheVariants as end
 use Rattle.feed_gate.specs.Numbers.{refused_number}
 use Rattle.crif_reader.specs.Faults.{crif_fault_number}
-use Rattle.margin_text.specs.Fields.{field, last_field, numbered_line}
-use Rattle.margin_text.specs.CrifLine.{crif_fields}
+use Rattle.fault_text.specs.Fields.{field, last_field, numbered_line}
+use Rattle.fault_text.specs.CrifLine.{crif_fields}
 
 abbrev pub if_named : Option (List ℕ) → List ℕ
 if_named None = []

@@ -13,7 +13,7 @@ use Rattle.set_core.specs.declared.event.Event.TheVariants as event
 use Rattle.set_core.specs.declared.reply.Reply.{Reply}
 use Rattle.set_core.specs.declared.reply.Reply.TheVariants as reply
 use Rattle.set_core.specs.Text.{reply_text}
-use Rattle.margin_text.specs.Fields.{field, last_field}
+use Rattle.fault_text.specs.Fields.{field, last_field}
 use Rattle.margin_text.specs.Margins.{part_lines}
 use Rattle.margin_text.specs.Rows.{trade_lines}
 

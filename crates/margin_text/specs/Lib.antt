@@ -1,9 +1,5 @@
-pub mod Fields
 pub mod Margins
 pub mod Rows
 pub mod Journal
-pub mod ParamsLine
-pub mod TermsLine
-pub mod CrifLine
 pub mod Feeds
 pub mod RefusalLine

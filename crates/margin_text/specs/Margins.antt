@@ -9,7 +9,7 @@ use Rattle.simm_rules.specs.declared.values.ProductMargin.{ProductMargin}
 use Rattle.simm_rules.specs.declared.values.Breakdown.{Breakdown}
 use Rattle.simm_rules.specs.Parts.{class_part, product_part}
 use Rattle.simm_rules.specs.Simm.{products, classes}
-use Rattle.margin_text.specs.Fields.{field, last_field, is_zero, amount_line}
+use Rattle.fault_text.specs.Fields.{field, last_field, is_zero, amount_line}
 
 abbrev pub class_fields : ProductClass → RiskClass → List ℕ
 class_fields product class = field (codes "CLASS") ++ field (product_word product) ++ field (class_word class)

@@ -17,7 +17,7 @@ use Rattle.simm_kinds.specs.Kinds.{product_word, kind_word, sub_word}
 use Rattle.simm_kinds.specs.Tenors.{tenor_word, tenor_at}
 use Rattle.simm_kinds.specs.Bucket.{bucket_text}
 use Rattle.simm_kinds.specs.Factors.{kind_of}
-use Rattle.margin_text.specs.Fields.{field, last_field}
+use Rattle.fault_text.specs.Fields.{field, last_field}
 
 -- qualifier, bucket, tenor, sub-curve, second label
 abbrev pub parts : List ℕ → List ℕ → List ℕ → List ℕ → List ℕ → List ℕ

@@ -2,10 +2,10 @@ ghost use Rattle.std.specs.Prelude.{◌≡◌, ◌++◌, OnOk, IfOk};
 ghost use Rattle.std.specs.List.{flat_map};
 ghost use Rattle.simm_rules.specs.Parts.{product_part};
 ghost use Rattle.simm_rules.specs.Simm.{products, classes};
-ghost use Rattle.margin_text.specs.Fields.{field, amount_line};
+ghost use Rattle.fault_text.specs.Fields.{field, amount_line};
 ghost use Rattle.margin_text.specs.Margins.{class_line, product_lines, part_lines, margin_text};
 
-use crate::pieces::{push_field, push_last_amount};
+use fault_text::{push_field, push_last_amount};
 use mh_units::Text;
 use simm_kinds::{ProductClass, RiskClass};
 use simm_rules::{Breakdown, ProductMargin};

@@ -4,8 +4,8 @@ ghost use Rattle.margin_text.specs.Journal.{event_lines, reply_lines, entry_line
 
 use crate::breakdown_lines::push_parts;
 use crate::event_fields::push_event;
-use crate::pieces::{push_field, push_number};
 use crate::trade_lines::push_trades;
+use fault_text::{push_field, push_number};
 use mh_units::Text;
 use set_core::{Entry, Event, Reply, push_reply};
 use std::alloc::AllocError;

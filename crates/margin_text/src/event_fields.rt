@@ -2,11 +2,11 @@
 ghost use Rattle.std.specs.Prelude.{◌≡◌, ◌++◌, OnOk, length, codes, decimal};
 ghost use Rattle.std.specs.List.{flat_map};
 ghost use Rattle.set_core.specs.declared.event.Event.TheVariants as events;
-ghost use Rattle.margin_text.specs.Fields.{field};
+ghost use Rattle.fault_text.specs.Fields.{field};
 ghost use Rattle.margin_text.specs.Journal.{currency_word, event_fields};
 
-use crate::pieces::{push_amount, push_field, push_number};
 use csa_terms::{LotCurrency, Moment, push_moment};
+use fault_text::{push_amount, push_field, push_number};
 use mh_units::Text;
 use set_core::Event;
 use simm_kinds::Name;

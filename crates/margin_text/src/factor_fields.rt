@@ -2,10 +2,10 @@
 ghost use Rattle.std.specs.Prelude.{◌≡◌, ◌++◌, [], OnOk, decimal};
 ghost use Rattle.simm_kinds.specs.Bucket.{bucket_text};
 ghost use Rattle.simm_kinds.specs.Tenors.{tenor_word, tenor_at};
-ghost use Rattle.margin_text.specs.Fields.{field};
+ghost use Rattle.fault_text.specs.Fields.{field};
 ghost use Rattle.margin_text.specs.Rows.{parts, factor_fields};
 
-use crate::pieces::{push_field, push_number};
+use fault_text::{push_field, push_number};
 use mh_units::Text;
 use simm_kinds::{Bucket, BucketNumber, CreditTenor, Currency, CurrencyPair, Factor};
 use std::alloc::AllocError;

@@ -1,14 +1,13 @@
 ghost use Rattle.std.specs.Prelude.{◌≡◌, ◌++◌, OnOk, codes, decimal, map};
 ghost use Rattle.std.specs.List.{flat_map};
 ghost use Rattle.crif_reader.specs.Faults.{crif_fault_number};
-ghost use Rattle.margin_text.specs.Fields.{field, last_field, numbered_line};
-ghost use Rattle.margin_text.specs.CrifLine.{crif_fields};
+ghost use Rattle.fault_text.specs.Fields.{field, last_field, numbered_line};
+ghost use Rattle.fault_text.specs.CrifLine.{crif_fields};
 ghost use Rattle.margin_text.specs.Feeds.{name_at, refused_fields, refused_line, end_field, feed_line, feed_text};
 
-use crate::crif_fields::push_crif_fields;
-use crate::pieces::{push_field, push_last, push_last_number, push_number};
 use crif_reader::CrifFault;
 use csa_terms::SetTerms;
+use fault_text::{push_crif_fields, push_field, push_last, push_last_number, push_number};
 use feed_gate::{FeedEnd, FeedReport, RefusedMessage};
 use mh_units::Text;
 use std::alloc::AllocError;

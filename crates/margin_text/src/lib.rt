@@ -1,19 +1,16 @@
-//! Printed text: the lines of a margin, of a set's journal, of a feed's report and of the fault of a refused file or
-//! batch.
+//! Printed text: the lines of a margin, of a set's journal, of a feed's report and of a refused batch.
 #![tactic(auto)]
 
 mod breakdown_lines;
-mod crif_fields;
 mod entry_lines;
 mod event_fields;
 mod factor_fields;
-mod fault_lines;
 mod feed_lines;
-mod pieces;
+mod refused_batch;
 mod set_journal;
 mod trade_lines;
 
 pub use breakdown_lines::margin_lines;
-pub use fault_lines::{crif_line, params_line, refusal_line, terms_line};
 pub use feed_lines::push_report;
+pub use refused_batch::refusal_line;
 pub use set_journal::{journal_text, push_journal};

@@ -2,7 +2,7 @@ ghost use Rattle.std.specs.Prelude.{◌≡◌, ◌++◌, OnOk, IfOk};
 ghost use Rattle.margin_text.specs.Journal.{numbered_lines, journal_text};
 
 use crate::entry_lines::push_entry;
-use crate::pieces::{push_field, push_last_number};
+use fault_text::{push_field, push_last_number};
 use mh_units::Text;
 use set_core::SetState;
 use simm_kinds::Name;

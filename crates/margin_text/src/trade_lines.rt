@@ -4,7 +4,7 @@ ghost use Rattle.std.specs.List.{flat_map};
 ghost use Rattle.margin_text.specs.Rows.{row_line, row_start, trade_lines};
 
 use crate::factor_fields::{push_factor, push_parts};
-use crate::pieces::{push_field, push_last_amount, push_last_number};
+use fault_text::{push_field, push_last_amount, push_last_number};
 use mh_units::Text;
 use simm_kinds::{CrifRow, ProductClass, RiskType, TradeRows};
 use std::alloc::AllocError;

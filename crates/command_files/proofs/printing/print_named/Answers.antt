@@ -1,6 +1,6 @@
 use Rattle.std.proofs.Common.{[], ◌∷◌, ◌++◌, ◌∙◌, sym, subst}
 use Rattle.mh_io.specs.Sink.{SinkSeen}
-use Rattle.margin_text.specs.Fields.{last_field}
+use Rattle.fault_text.specs.Fields.{last_field}
 use Rattle.command_files.specs.Printed.{GotLine}
 use Rattle.command_files.proofs.PrintLemmas.{put_failed, put_went, got_line_after}
 use Rattle.command_files.proofs.printing.print_named.Goals as goal

@@ -5,7 +5,7 @@ use Rattle.std.specs.List.{flat_map}
 use Rattle.std.specs.Prelude.{codes}
 use Rattle.simm_rules.specs.Parts.{product_part}
 use Rattle.simm_rules.specs.Simm.{products}
-use Rattle.margin_text.specs.Fields.{field, amount_line}
+use Rattle.fault_text.specs.Fields.{field, amount_line}
 use Rattle.margin_text.specs.Margins.{part_lines, product_lines}
 use Rattle.margin_text.proofs.MarginLemmas.{pieces}
 use Rattle.margin_text.proofs.breakdown_lines.push_parts.Goals as goal

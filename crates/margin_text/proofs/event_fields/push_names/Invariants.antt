@@ -1,6 +1,6 @@
 use Rattle.std.proofs.Common.{◌≡◌, ◌++◌, drop}
 use Rattle.std.specs.List.{flat_map}
-use Rattle.margin_text.specs.Fields.{field}
+use Rattle.fault_text.specs.Fields.{field}
 use Rattle.margin_text.proofs.event_fields.push_names.Given as goal
 
 -- the text so far and what is left to add are the whole

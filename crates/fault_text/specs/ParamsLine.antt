@@ -4,7 +4,7 @@ use Rattle.std.specs.Fmt.{signed_decimal}
 use Rattle.params_file.specs.declared.fault.ParamFault.{ParamFault}
 use Rattle.params_file.specs.declared.fault.ParamFault.TheVariants as params
 use Rattle.params_file.specs.Faults.{param_fault_number}
-use Rattle.margin_text.specs.Fields.{field, last_field, fault_line}
+use Rattle.fault_text.specs.Fields.{field, last_field, fault_line}
 
 -- a fault's number, its path, and the value there, or a threshold behind its weight
 abbrev pub params_fields : ℕ → ParamFault → List ℕ

@@ -1,6 +1,6 @@
 //! The fields of a CRIF file's fault, up to the end of a line.
 ghost use Rattle.std.specs.Prelude.{◌≡◌, ◌++◌, OnOk};
-ghost use Rattle.margin_text.specs.CrifLine.{row_fields, crif_fields};
+ghost use Rattle.fault_text.specs.CrifLine.{row_fields, crif_fields};
 
 use crate::pieces::{push_field, push_last, push_last_number, push_number};
 use crif_reader::{CrifFault, RowFault};
@@ -25,11 +25,7 @@ fn push_row_fields(text: &mut Text, code: u8, fault: RowFault) -> Result<(), All
 }
 
 /// Adds the number of a file's fault and what stands behind it.
-pub(crate) fn push_crif_fields(
-    text: &mut Text,
-    code: u8,
-    fault: CrifFault,
-) -> Result<(), AllocError>
+pub fn push_crif_fields(text: &mut Text, code: u8, fault: CrifFault) -> Result<(), AllocError>
     ensures { OnOk result (text.new ≡ text.old ++ crif_fields code fault) }
 {
     match fault {

@@ -4,7 +4,7 @@ use Rattle.std.specs.Fmt.{signed_decimal}
 use Rattle.csa_terms.specs.declared.fault.TermsFault.{TermsFault}
 use Rattle.csa_terms.specs.declared.fault.TermsFault.TheVariants as terms
 use Rattle.csa_terms.specs.Faults.{terms_fault_number}
-use Rattle.margin_text.specs.Fields.{field, last_field, fault_line}
+use Rattle.fault_text.specs.Fields.{field, last_field, fault_line}
 
 -- a fault's number, and its path, value, name or count
 abbrev pub terms_fields : ℕ → TermsFault → List ℕ

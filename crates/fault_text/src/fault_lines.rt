@@ -1,14 +1,13 @@
-//! The line of a refused file's first fault, and of a refused batch.
+//! The line of a refused file's first fault.
 ghost use Rattle.std.specs.Prelude.{◌≡◌, ◌≢◌, ◌++◌, codes, decimal, IfOk, OnOk};
 ghost use Rattle.std.specs.Fmt.{signed_decimal};
 ghost use Rattle.params_file.specs.declared.fault.ParamFault.TheVariants as params;
 ghost use Rattle.csa_terms.specs.declared.fault.TermsFault.TheVariants as terms;
 ghost use Rattle.crif_reader.specs.declared.fault.CrifFault.TheVariants as crif;
-ghost use Rattle.margin_text.specs.Fields.{field, last_field};
-ghost use Rattle.margin_text.specs.ParamsLine.{params_fields, params_fault};
-ghost use Rattle.margin_text.specs.TermsLine.{terms_fields, terms_fault};
-ghost use Rattle.margin_text.specs.CrifLine.{crif_fault};
-ghost use Rattle.margin_text.specs.RefusalLine.{refusal_fault};
+ghost use Rattle.fault_text.specs.Fields.{field, last_field};
+ghost use Rattle.fault_text.specs.ParamsLine.{params_fields, params_fault};
+ghost use Rattle.fault_text.specs.TermsLine.{terms_fields, terms_fault};
+ghost use Rattle.fault_text.specs.CrifLine.{crif_fault};
 
 use crate::crif_fields::push_crif_fields;
 use crate::pieces::{push_field, push_last, push_last_number, push_number};
@@ -16,7 +15,6 @@ use crif_reader::CrifFault;
 use csa_terms::TermsFault;
 use mh_units::Text;
 use params_file::ParamFault;
-use set_core::{Refusal, Reply, push_reply};
 use std::alloc::{AllocError, Global};
 
 /// The line of a parameter file's fault.
@@ -53,40 +51,29 @@ pub fn terms_line(alloc: Global, fault: &TermsFault) -> Result<Text, AllocError>
     Ok(line)
 }
 
-/// The line of a CRIF file's fault.
+/// The line of a fault of a CRIF file, which the word names: a command may have two of them.
 ///
 /// # Errors
 ///
 /// For want of memory, of the file's reader too.
-pub fn crif_line(alloc: Global, fault: &CrifFault) -> Result<Text, AllocError>
-    ensures line { IfOk result (λ line. line ≡ crif_fault fault.now) }
+pub fn crif_line(alloc: Global, word: &[u8], fault: &CrifFault) -> Result<Text, AllocError>
+    ensures line { IfOk result (λ line. line ≡ crif_fault word.now fault.now) }
     ensures refused { OnOk result (fault.now ≢ crif.Memory) }
 {
     let Some(number) = fault.number() else {
         return Err(AllocError);
     };
-    let mut line = begun_line(alloc, b"CRIF")?;
+    let mut line = begun_line(alloc, word)?;
     push_crif_fields(&mut line, number, *fault)?;
     Ok(line)
 }
 
-/// The line of a batch that is refused.
+/// The first fields of a fault's line, of the file that the word names.
 ///
 /// # Errors
 ///
 /// For want of memory.
-pub fn refusal_line(alloc: Global, refusal: Refusal) -> Result<Text, AllocError>
-    ensures { IfOk result (λ line. line ≡ refusal_fault refusal) }
-{
-    let mut line = Text::new(alloc);
-    push_field(&mut line, b"FAULT")?;
-    push_reply(&mut line, &Reply::Refused(refusal))?;
-    line.push(b'\n')?;
-    Ok(line)
-}
-
-/// The first fields of a fault's line, of the file that the word names.
-fn begun_line(alloc: Global, word: &[u8]) -> Result<Text, AllocError>
+pub fn begun_line(alloc: Global, word: &[u8]) -> Result<Text, AllocError>
     ensures { IfOk result (λ line. line ≡ field (codes "FAULT") ++ field word.now) }
 {
     let mut line = Text::new(alloc);

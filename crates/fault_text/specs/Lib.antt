@@ -1,0 +1,4 @@
+pub mod Fields
+pub mod ParamsLine
+pub mod TermsLine
+pub mod CrifLine
