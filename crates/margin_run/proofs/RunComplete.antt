@@ -19,7 +19,7 @@ use Rattle.command_files.specs.declared.fault.FileFault.TheVariants as why
 use Rattle.command_files.specs.declared.fault.Fault.{Fault}
 use Rattle.command_files.specs.declared.fault.Fault.TheVariants as fault
 use Rattle.command_files.specs.Files.{Deeds, no_deeds, with_reading, told_after}
-use Rattle.margin_run.specs.FeedFiles.{IsFed, AllFed}
+use Rattle.margin_run.specs.Fed.{IsFed, AllFed}
 use Rattle.command_files.specs.Grammars.{RefusesParams, RefusesTerms}
 use Rattle.command_files.specs.Ending.{status_of}
 use Rattle.margin_run.specs.Notices.{notices}

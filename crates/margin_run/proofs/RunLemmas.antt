@@ -19,7 +19,8 @@ use Rattle.command_files.specs.declared.fault.InputFile.TheVariants as input
 use Rattle.command_files.specs.declared.fault.Fault.{Fault}
 use Rattle.command_files.specs.declared.fault.Fault.TheVariants as fault
 use Rattle.command_files.specs.Files.{no_deeds, with_reading, IsRead}
-use Rattle.margin_run.specs.FeedFiles.{FeedsFail, AreFed}
+use Rattle.feed_files.specs.Unrun.{FeedsFail}
+use Rattle.margin_run.specs.Fed.{AreFed}
 use Rattle.margin_run.specs.Run.{HasInputs, HasRun, RunCause}
 use Rattle.margin_run.specs.RunStages.{RunFilesEnd}
 use Rattle.command_files.proofs.FileLemmas.{did_more}

@@ -1,6 +1,6 @@
 pub mod Notices
 pub mod Desks
 pub mod Complete
-pub mod FeedFiles
+pub mod Fed
 pub mod Run
 pub mod RunStages

@@ -18,7 +18,8 @@ use Rattle.command_files.specs.declared.fault.InputFile.TheVariants as input
 use Rattle.command_files.specs.declared.fault.Fault.{Fault}
 use Rattle.command_files.specs.declared.fault.Fault.TheVariants as fault
 use Rattle.command_files.specs.Files.{no_deeds, with_reading, Did, IsWhole, NoValue}
-use Rattle.margin_run.specs.FeedFiles.{FeedsFail, AreFed}
+use Rattle.feed_files.specs.Unrun.{FeedsFail}
+use Rattle.margin_run.specs.Fed.{AreFed}
 use Rattle.command_files.specs.Grammars.{RefusesParams, RefusesTerms}
 use Rattle.margin_run.specs.Notices.{notices}
 use Rattle.margin_run.specs.Desks.{Desks, AreUntold, AreTold, AllAreTold, OneFailed, OneWanted}

@@ -7,13 +7,14 @@ use Rattle.feed_gate.specs.declared.report.FeedEnd.{FeedEnd}
 use Rattle.call_desk.specs.declared.publishing.Published.{Published}
 use Rattle.command_files.specs.declared.status.Status.{Status}
 use Rattle.command_files.specs.declared.status.Status.TheVariants as status
-use Rattle.margin_run.specs.declared.feed_files.FeedsRun.{FeedsRun}
+use Rattle.margin_run.specs.declared.feeds_run.FeedsRun.{FeedsRun}
 use Rattle.margin_run.specs.declared.run_files.Inputs.{Inputs}
 use Rattle.margin_run.specs.declared.run_files.Outcome.{Outcome}
 use Rattle.command_files.specs.declared.fault.Fault.{Fault}
 use Rattle.margin_run.specs.declared.run_printing.Printed.{Printed}
 use Rattle.margin_run.specs.declared.run_printing.Printed.TheVariants as printed
-use Rattle.margin_run.specs.FeedFiles.{FeedsFail, AreFed}
+use Rattle.feed_files.specs.Unrun.{FeedsFail}
+use Rattle.margin_run.specs.Fed.{AreFed}
 use Rattle.command_files.specs.Printed.{Got, GotFront}
 use Rattle.margin_run.specs.Run.{HasInputs, HasRun, RunCause, status_of_end}
 

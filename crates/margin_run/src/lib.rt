@@ -2,7 +2,7 @@
 //! what became of the feeds are printed, and desks are told the calls that were made; or one fault line is printed.
 #![tactic(auto)]
 
-mod feed_files;
+mod feeds_run;
 mod run_ending;
 mod run_files;
 mod run_printing;

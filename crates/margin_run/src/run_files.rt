@@ -6,7 +6,7 @@ ghost use Rattle.command_files.specs.Files.{KeepsCounts};
 ghost use Rattle.set_core.specs.Set.{start};
 ghost use Rattle.margin_run.specs.RunStages.{InputsEnd, RunFilesEnd};
 
-use crate::feed_files::{FeedsRun, run_feed_files};
+use crate::feeds_run::{FeedsRun, run_feed_files};
 use command_files::{Fault, InputFile, read_param_file, read_terms_file};
 use csa_terms::{SetTerms, Terms};
 use feed_gate::{FeedReport, Gate};

@@ -3,9 +3,10 @@ use Rattle.std.specs.String.{string_bytes}
 use Rattle.std.proofs.lemmas.List.{map-append, map_more}
 use Rattle.mh_io.specs.Folder.{FolderSeen, Finds}
 use Rattle.command_files.specs.Files.{FindEnds}
-use Rattle.margin_run.specs.FeedFiles.{FindsAll, handed_back}
-use Rattle.margin_run.proofs.FeedLemmas.{split_words, found_more, missing_after}
-use Rattle.margin_run.proofs.feed_files.find_feeds.Goals as goal
+use Rattle.feed_files.specs.Sources.{FindsAll}
+use Rattle.feed_files.specs.Unrun.{handed_back}
+use Rattle.feed_files.proofs.SourceLemmas.{split_words, found_more, missing_after}
+use Rattle.feed_files.proofs.sources.find_feeds.Goals as goal
 
 pub returns-in-Err-clause-fails : goal.returns-in-Err-clause-fails
 returns-in-Err-clause-fails g c =

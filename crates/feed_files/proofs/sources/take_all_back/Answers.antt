@@ -1,8 +1,8 @@
 use Rattle.std.proofs.Common.{arith, [], ◌∷◌, ◌++◌, map, append_assoc, sym, ap, ◌∙◌, subst}
 use Rattle.std.proofs.lemmas.List.{map-append}
-use Rattle.margin_run.specs.FeedFiles.{TakesAllBack}
-use Rattle.margin_run.proofs.FeedLemmas.{back_more}
-use Rattle.margin_run.proofs.feed_files.take_all_back.Goals as goal
+use Rattle.feed_files.specs.Sources.{TakesAllBack}
+use Rattle.feed_files.proofs.SourceLemmas.{back_more}
+use Rattle.feed_files.proofs.sources.take_all_back.Goals as goal
 
 pub loop-source-preserved : goal.loop-source-preserved
 loop-source-preserved g c =

@@ -1,7 +1,7 @@
 use Rattle.std.proofs.Common.{◌≡◌, ◌≤◌, List, ◌++◌, map}
 use Rattle.std.specs.VecDeque.{deque_len}
-use Rattle.margin_run.specs.FeedFiles.{TakesAllBack}
-use Rattle.margin_run.proofs.feed_files.take_all_back.Given as goal
+use Rattle.feed_files.specs.Sources.{TakesAllBack}
+use Rattle.feed_files.proofs.sources.take_all_back.Given as goal
 
 -- the sources so far came back
 abbrev pub invariant-loop-source : goal.invariant-loop-source

@@ -1,8 +1,8 @@
 use Rattle.std.proofs.Common.{◌≡◌, ◌≤◌, map, take, length}
 use Rattle.std.specs.String.{string_bytes}
 use Rattle.std.specs.Vec.{vec_len, vec_capacity}
-use Rattle.margin_run.specs.FeedFiles.{FindsAll}
-use Rattle.margin_run.proofs.feed_files.find_feeds.Given as goal
+use Rattle.feed_files.specs.Sources.{FindsAll}
+use Rattle.feed_files.proofs.sources.find_feeds.Given as goal
 
 -- the feeds so far were found
 abbrev pub invariant-loop-name : goal.invariant-loop-name

@@ -3,9 +3,10 @@ use Rattle.std.specs.String.{string_bytes}
 use Rattle.std.proofs.lemmas.List.{length-map}
 use Rattle.mh_io.specs.Folder.{FolderSeen}
 use Rattle.feed_gate.proofs.Zips.{zip_length}
-use Rattle.margin_run.specs.FeedFiles.{IsFresh, TakesAllBack}
-use Rattle.margin_run.proofs.FeedLemmas.{as_many, back_untouched, are_fed}
-use Rattle.margin_run.proofs.feed_files.run_feed_files.Goals as goal
+use Rattle.feed_files.specs.Sources.{IsFresh, TakesAllBack}
+use Rattle.feed_files.proofs.SourceLemmas.{back_untouched}
+use Rattle.margin_run.proofs.FeedLemmas.{as_many, are_fed}
+use Rattle.margin_run.proofs.feeds_run.run_feed_files.Goals as goal
 
 pub run_on_sets-requires-clause-feeds : goal.run_on_sets-requires-clause-feeds
 run_on_sets-requires-clause-feeds g c lifetimes live =
