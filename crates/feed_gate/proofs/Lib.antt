@@ -5,6 +5,7 @@ pub mod OneSet
 pub mod EachSet
 pub mod ManyFeeds
 pub mod Zips
+pub mod Starting
 pub mod Shares
 pub mod Closings
 pub mod Sources

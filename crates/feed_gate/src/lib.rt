@@ -14,9 +14,11 @@ mod report;
 mod set_call;
 mod sets_run;
 mod share;
+mod start;
 
 pub use gate::{Gate, NoGate};
 pub use job::FeedJob;
 pub use jobs::run_feeds;
 pub use report::{FeedEnd, FeedReport, RefusedMessage};
 pub use sets_run::{SetsRun, run_on_sets};
+pub use start::make_sets;

@@ -1,15 +1,12 @@
 -- The stages of a run, one after the other.
-use Rattle.std.proofs.Common.{◌≡◌, ℕ, ◌≤◌, arith, All, List, [], ◌∷◌, map, length, take, zero, suc, false, Result, Ok, Err, IsErrAnd, Some, refl, sym, ap, ◌∙◌, subst, ⊎_elim}
-use Rattle.std.specs.List.{AllByRecursion, AllZip, IsDistinct}
-use Rattle.std.proofs.lemmas.Bool.{cases_lt}
-use Rattle.std.proofs.lemmas.List.{length-map, length-take-le, take_all}
-use Rattle.std.proofs.lemmas.List.Elements.{All-nil, All-cons}
+use Rattle.std.proofs.Common.{◌≡◌, ℕ, ◌≤◌, arith, List, [], ◌∷◌, map, length, Result, Ok, Err, IsErrAnd, Some, refl, sym, ap, ◌∙◌, subst}
+use Rattle.std.specs.List.{AllZip}
+use Rattle.std.proofs.lemmas.List.{length-map}
 use Rattle.mh_io.specs.Folder.{FolderSeen}
-use Rattle.simm_kinds.specs.Order.{same_name}
 use Rattle.simm_rules.specs.Params.{Params}
 use Rattle.params_file.specs.Grammar.{params_of}
 use Rattle.csa_terms.specs.Grammar.{terms_of}
-use Rattle.csa_terms.specs.Terms.{Agreement, AreTerms}
+use Rattle.csa_terms.specs.Terms.{Agreement}
 use Rattle.set_core.specs.Set.{Set, start}
 use Rattle.feed_gate.specs.declared.report.FeedReport.{FeedReport}
 use Rattle.feed_gate.specs.Sets.{AreApart}
@@ -43,49 +40,10 @@ inputs_read old mid new pn tn p agreements first second finds reads = record {
 
 -- ---- the sets
 
-same_terms : (p : Params) (agreements : List Agreement) → map (λ s. s.terms.name) (map (start p) agreements) ≡ map (λ t. t.name) agreements
-same_terms p [] = refl
-same_terms p (t ∷ ts) = ap (λ ns. t.name ∷ ns) (same_terms p ts)
-
-distinct_front : (i : ℕ) (n : List ℕ) (agreements : List Agreement) → AllByRecursion (λ m. same_name n m ≡ false) (map (λ t. t.name) agreements) → AllByRecursion (λ m. same_name n m ≡ false) (map (λ t. t.name) (take i agreements))
-distinct_front zero n agreements h = tt
-distinct_front (suc i) n [] h = tt
-distinct_front (suc i) n (t ∷ ts) h = (h.0, distinct_front i n ts h.1)
-
-front_distinct : (i : ℕ) (agreements : List Agreement) → IsDistinct same_name (map (λ t. t.name) agreements) → IsDistinct same_name (map (λ t. t.name) (take i agreements))
-unfolding IsDistinct
-front_distinct zero agreements h = tt
-front_distinct (suc i) [] h = tt
-front_distinct (suc i) (t ∷ ts) h = (distinct_front i t.name ts h.0, front_distinct i ts h.1)
-
-pub apart_start : (p : Params) (agreements : List Agreement) → AreTerms agreements → AreApart (map (start p) agreements)
-apart_start p agreements h = record {
-  few = omega (arith, h.few, length-map agreements (start p));
-  different = subst (IsDistinct same_name) (sym (same_terms p agreements)) h.different;
-}
-
-shorter : (i : ℕ) (agreements : List Agreement) → length (take i agreements) ≤ length agreements
-shorter i agreements = ⊎_elim
-    (λ lt. omega (arith, lt, length-take-le i agreements (omega (arith, lt))))
-    (λ ge. omega (arith, ap length (take_all i agreements (omega (arith, ge)))))
-    (cases_lt i (length agreements))
-
--- the sets of a front of the terms
-pub apart_part : (p : Params) (i : ℕ) (agreements : List Agreement) (sets : List Set) → AreTerms agreements → sets ≡ map (start p) (take i agreements) → AreApart sets
-apart_part p i agreements sets h e = subst AreApart (sym e) (record {
-  few = omega (arith, h.few, length-map (take i agreements) (start p), shorter i agreements);
-  different = subst (IsDistinct same_name) (sym (same_terms p (take i agreements))) (front_distinct i agreements h.different);
-})
-
 -- the sets of the terms have these terms
 start_terms : (p : Params) (agreements : List Agreement) → map (λ s. s.terms) (map (start p) agreements) ≡ agreements
 start_terms p [] = refl
 start_terms p (t ∷ ts) = ap (λ us. t ∷ us) (start_terms p ts)
-
--- the sets of the terms have no calls yet
-pub none_called : (p : Params) (agreements : List Agreement) → All (λ s. s.journal ≡ []) (map (start p) agreements)
-none_called p [] = All-nil (λ (s : Set). s.journal ≡ [])
-none_called p (t ∷ ts) = All-cons (λ (s : Set). s.journal ≡ []) (start p t) (map (start p) ts) refl (none_called p ts)
 
 -- sets that were run have the terms that they had
 run_terms : (n : ℕ) (old new : List Set) → AllZip (IsRun n) old new → map (λ s. s.terms) new ≡ map (λ s. s.terms) old

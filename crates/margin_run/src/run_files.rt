@@ -1,19 +1,17 @@
 //! The files of a run: parameters, terms, and the feeds that are run on its sets.
-ghost use Rattle.std.specs.Prelude.{◌≡◌, ◌≤◌, length, map, IfOk};
+ghost use Rattle.std.specs.Prelude.{◌≤◌, length, map};
 ghost use Rattle.std.specs.String.{string_bytes};
-ghost use Rattle.feed_gate.specs.Sets.{AreApart};
 ghost use Rattle.command_files.specs.Files.{KeepsCounts};
-ghost use Rattle.set_core.specs.Set.{start};
 ghost use Rattle.margin_run.specs.RunStages.{InputsEnd, RunFilesEnd};
 
 use crate::feeds_run::{FeedsRun, run_feed_files};
 use command_files::{Fault, InputFile, read_param_file, read_terms_file};
-use csa_terms::{SetTerms, Terms};
-use feed_gate::{FeedReport, Gate};
+use csa_terms::Terms;
+use feed_gate::{FeedReport, Gate, make_sets};
 use mh_io::Folder;
 use set_core::SetState;
 use simm_params::Params;
-use std::alloc::{AllocError, Global};
+use std::alloc::Global;
 use std::sync::Wait;
 use std::thread::Threads;
 
@@ -67,25 +65,6 @@ fn read_inputs<'a, F: Folder>(
             why,
         }),
     }
-}
-
-/// A set without calls.
-fn make_set(alloc: Global, params: &Params, agreement: &SetTerms) -> Result<SetState, AllocError>
-    ensures { IfOk result (λ set. set ≡ start params.now agreement.now) }
-{
-    SetState::new(alloc, params.share()?, agreement.copy(alloc)?)
-}
-
-/// A set for each of the terms, without calls.
-fn make_sets(alloc: Global, params: &Params, terms: &Terms) -> Result<Vec<SetState>, AllocError>
-    ensures sets { IfOk result (λ sets. sets.items ≡ map (start params.now) terms.now) }
-    ensures apart { IfOk result (λ sets. AreApart sets.items) }
-{
-    let mut sets = Vec::new(alloc);
-    for agreement in terms.sets() {
-        sets.push(make_set(alloc, params, agreement)?)?;
-    }
-    Ok(sets)
 }
 
 /// Reads both files, and runs the feeds on the sets of the terms.

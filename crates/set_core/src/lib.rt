@@ -27,6 +27,6 @@ pub use shared_margin::SharedMargin;
 
 // what the crates above reach through this one
 pub use bucket_cache;
-pub use bucket_cache::pair_sum;
+pub use bucket_cache::{pair_sum, simm_params};
 pub use collateral_ledger::csa_terms;
 pub use held_cell;

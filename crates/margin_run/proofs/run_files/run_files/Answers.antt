@@ -2,7 +2,8 @@ use Rattle.std.proofs.Common.{◌≡◌, [], refl, sym, subst, map, All}
 use Rattle.std.specs.String.{string_bytes}
 use Rattle.mh_io.specs.Folder.{FolderSeen}
 use Rattle.command_files.specs.declared.fault.Fault.TheVariants as fault
-use Rattle.margin_run.proofs.RunLemmas.{none_called, no_run, failed_run, has_run}
+use Rattle.feed_gate.proofs.Starting.{none_called}
+use Rattle.margin_run.proofs.RunLemmas.{no_run, failed_run, has_run}
 use Rattle.command_files.proofs.FileLemmas.{did_nothing}
 use Rattle.margin_run.proofs.run_files.run_files.Goals as goal
 

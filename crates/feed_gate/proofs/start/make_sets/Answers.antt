@@ -1,7 +1,7 @@
 use Rattle.std.proofs.Common.{◌∙◌, ap, map, take}
 use Rattle.set_core.specs.Set.{start}
-use Rattle.margin_run.proofs.RunLemmas.{apart_part}
-use Rattle.margin_run.proofs.run_files.make_sets.Goals as goal
+use Rattle.feed_gate.proofs.Starting.{apart_part}
+use Rattle.feed_gate.proofs.start.make_sets.Goals as goal
 
 pub returns-clause-apart : goal.returns-clause-apart
 returns-clause-apart c =
