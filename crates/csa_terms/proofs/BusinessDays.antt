@@ -7,7 +7,7 @@ use Rattle.std.proofs.lemmas.Bool.Decides.{Decides-int_eq}
 use Rattle.std.proofs.lemmas.Bool.{cases_lt}
 use Rattle.jiff_core.specs.Calendar.{weekday_number, days_from_civil}
 use Rattle.jiff_core.proofs.SignedLemmas.{signed_arith}
-use Rattle.jiff_core.proofs.MarchLemmas.{day_count-early, day_count-late}
+use Rattle.jiff_core.proofs.MarchLemmas.{day_count-late}
 use Rattle.toml_values.specs.MhUnits.Least.{first_from, IsLeast}
 use Rattle.toml_values.proofs.MhUnits.Least.{least_is}
 use Rattle.jiff_core.proofs.CalendarLemmas.{weekday_number-add, weekday_number_bound, days_from_civil-day_count}
@@ -237,9 +237,6 @@ first_is hs day count later few two due =
     omega arith
 
 -- ---- numbers of days
-
-pub first_day : days_from_civil (pos 1) 1 1 ≡ neg_ℤ (pos 719162)
-first_day = omega (arith, signed_arith, days_from_civil-day_count (pos 1) 1 1, day_count-early (pos 1) 10000 1 1 refl (omega arith) (omega arith) (omega arith))
 
 pub last_day : days_from_civil (pos 9000) 12 31 ≡ pos 2568019
 last_day = omega (arith, signed_arith, days_from_civil-day_count (pos 9000) 12 31, day_count-late (pos 9000) 19000 12 31 refl (omega arith) (omega arith) (omega arith))

@@ -10,7 +10,8 @@ use Rattle.toml.specs.View.{view, items_view}
 use Rattle.toml.specs.declared.value.Value.{Value}
 use Rattle.toml.proofs.Views.{items_view-drop}
 use Rattle.csa_terms.specs.declared.fault.TermsFault.{TermsFault}
-use Rattle.csa_terms.specs.Terms.{IsCalendarDay, AreHolidays}
+use Rattle.iso_dates.specs.Dates.{IsCalendarDay}
+use Rattle.csa_terms.specs.Terms.{AreHolidays}
 use Rattle.toml_values.specs.Answers.{◌>>=◌, Unless}
 use Rattle.toml_values.proofs.Places.{Unless-from}
 use Rattle.csa_terms.specs.Values.{date_of}

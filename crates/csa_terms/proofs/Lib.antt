@@ -1,6 +1,5 @@
 mod Tables
 mod BusinessDays
-mod Digits
 mod CalendarDays
 mod Loops
 mod Holidays

@@ -11,8 +11,8 @@ use Rattle.jiff_core.proofs.DateLemmas.{civil, epoch_day_range, epoch_day-lt, ep
 use Rattle.jiff_fmt.specs.Text.{date_text as text_of_date}
 use Rattle.toml_values.proofs.MhUnits.Least.{least_is, IsLeast_unique}
 use Rattle.csa_terms.specs.Moments.{has_date, year_of, months_before, date_text, text_in_year, text_in_month, day_text}
-use Rattle.csa_terms.proofs.BusinessDays.{first_day}
-use Rattle.csa_terms.proofs.CalendarDays.{cases_below, date_of, calendar-from, before_first}
+use Rattle.iso_dates.proofs.DateDays.{first_day, calendar-from, before_first}
+use Rattle.csa_terms.proofs.CalendarDays.{cases_below, date_of}
 
 le_from : (a b : ℤ) → int_le a b ≡ true → a ≤ℤ b
 le_from a b h = grind (arith, ints)

@@ -4,7 +4,6 @@ pub mod SetView
 pub mod Calendar
 pub mod Ranges
 pub mod Faults
-pub mod Dates
 pub mod Moments
 pub mod Values
 pub mod Grammar

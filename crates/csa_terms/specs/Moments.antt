@@ -5,7 +5,7 @@ use Rattle.jiff_core.specs.Calendar.{days_from_civil, days_in_month}
 use Rattle.jiff_fmt.specs.Text.{pad2, pad4}
 use Rattle.toml_values.specs.MhUnits.Least.{first_from}
 use Rattle.csa_terms.specs.Calendar.{Moment}
-use Rattle.csa_terms.specs.Dates.{◌>>=◌, date_in, minute_in}
+use Rattle.iso_dates.specs.Dates.{◌>>=◌, date_in, minute_in}
 
 -- YYYY-MM-DDTHH:MM
 unfoldable pub moment_of : List ℕ → Option Moment

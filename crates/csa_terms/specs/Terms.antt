@@ -1,11 +1,12 @@
 -- The terms of an agreement for collateral, by which a netting set's calls are reckoned.
 -- (ISDA 2016 Credit Support Annex for Initial Margin: threshold, minimum transfer amount, rounding, notification time,
 -- valuation percentages, FX haircut percentage, local business days.)
-use Rattle.std.specs.Prelude.{◌<◌, ◌≤◌, ℕ, List, [], ◌∷◌, length, map, Bool, Option, Some, None, ℤ, pos, neg_ℤ, ◌≤ℤ◌, if◌then◌else◌}
+use Rattle.std.specs.Prelude.{◌<◌, ◌≤◌, ℕ, List, [], ◌∷◌, length, map, Bool, Option, Some, None, ℤ, if◌then◌else◌}
 use Rattle.std.specs.Ordering.{int_eq}
 use Rattle.std.specs.List.{AllByRecursion, IsDistinct, list_any}
 use Rattle.toml_values.specs.SimmKinds.NameText.{IsName}
 use Rattle.toml_values.specs.SimmKinds.Order.{same_name}
+use Rattle.iso_dates.specs.Dates.{IsCalendarDay}
 use Rattle.csa_terms.specs.Ranges.{IsWithin, amounts, units, shares}
 
 -- a class of collateral and what is taken off its value, in ten-thousandths
@@ -57,11 +58,6 @@ IsRounding cents = IsWithin units cents
 -- a rate from 0 to 1
 abbrev pub IsShare : ℤ → Type 0
 IsShare rate = IsWithin shares rate
-
--- a day from 0001-01-01 to 9999-12-31
-pub record IsCalendarDay (day : ℤ) : Type 0 where
-  pub low : neg_ℤ (pos 719162) ≤ℤ day
-  pub high : day ≤ℤ pos 2932896
 
 -- at most 256 haircuts, each a share of the value, of different classes
 pub record AreHaircuts (haircuts : List Haircut) : Type 0 where

@@ -6,7 +6,7 @@ use Rattle.toml_values.specs.Values.{text_of}
 use Rattle.toml_values.specs.SimmKinds.NameText.{name_fault, is_full_name}
 use Rattle.csa_terms.specs.declared.fault.TermsFault.{TermsFault}
 use Rattle.csa_terms.specs.declared.fault.TermsFault.TheVariants.{BadDate, BadName}
-use Rattle.csa_terms.specs.Dates.{minute_in, date_in}
+use Rattle.iso_dates.specs.Dates.{minute_in, date_in}
 use Rattle.csa_terms.specs.Faults.{of_value}
 
 -- ---- names

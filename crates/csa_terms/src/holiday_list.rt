@@ -1,7 +1,8 @@
 ghost use Rattle.std.specs.Prelude.{◌≡◌, ◌<◌, [], length, IfOk, OnOk, OnErr};
 ghost use Rattle.std.specs.BTreeSet.{insert_key};
 ghost use Rattle.std.specs.Ordering.{int_cmp};
-ghost use Rattle.csa_terms.specs.Terms.{IsCalendarDay, AreHolidays, is_among};
+ghost use Rattle.iso_dates.specs.Dates.{IsCalendarDay};
+ghost use Rattle.csa_terms.specs.Terms.{AreHolidays, is_among};
 
 use std::alloc::{AllocError, Global};
 use std::collections::BTreeSet;

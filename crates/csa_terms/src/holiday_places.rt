@@ -1,7 +1,7 @@
 ghost use Rattle.std.specs.Prelude.{◌≡◌, ◌≤◌, [], Some, IfOk};
 ghost use Rattle.toml.specs.View.{view, items_view, table_view};
 ghost use Rattle.toml_values.specs.Values.{items_count};
-ghost use Rattle.csa_terms.specs.Terms.{IsCalendarDay};
+ghost use Rattle.iso_dates.specs.Dates.{IsCalendarDay};
 ghost use Rattle.csa_terms.specs.Faults.{Gives};
 ghost use Rattle.csa_terms.specs.Values.{date_of};
 ghost use Rattle.csa_terms.specs.Grammar.{holiday_path, holidays_from, holiday_list_of};

@@ -2,7 +2,6 @@
 //! day on which a call is due.
 #![tactic(auto)]
 
-mod date;
 mod due;
 mod fault;
 mod flow;

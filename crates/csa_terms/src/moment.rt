@@ -1,7 +1,7 @@
 ghost use Rattle.std.specs.Prelude.{◌≡◌, ◌<◌, nat_lt, if◌then◌else◌};
 ghost use Rattle.csa_terms.specs.Moments.{moment_of};
 
-use crate::date::{date_in, minute_in};
+use iso_dates::{date_in, minute_in};
 use std::marker::Model;
 
 /// The local time of a demand: a day, counted from 1970-01-01, and a minute of it, from 0 at midnight to 1,439.

@@ -1,12 +1,12 @@
 ghost use Rattle.std.specs.Prelude.{◌≡◌, ◌<◌, length, IfOk};
 ghost use Rattle.toml_values.specs.Paths.{path_of};
 ghost use Rattle.toml_values.specs.Values.{found};
-ghost use Rattle.csa_terms.specs.Terms.{IsCalendarDay};
+ghost use Rattle.iso_dates.specs.Dates.{IsCalendarDay};
 ghost use Rattle.csa_terms.specs.Faults.{Gives};
 ghost use Rattle.csa_terms.specs.Values.{name_of, set_name_of, minute_of, date_of};
 
-use crate::date::{date_in, minute_in};
 use crate::fault::TermsFault;
+use iso_dates::{date_in, minute_in};
 use std::alloc::Global;
 use toml::Value;
 use toml_values::simm_kinds::{Name, NameFault};

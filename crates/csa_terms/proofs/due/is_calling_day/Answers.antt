@@ -1,7 +1,8 @@
 use Rattle.std.proofs.Common.{◌↔◌, IsTrue, sym, subst, rules, neg_ℤ, pos}
 use Rattle.jiff.specs.Words.{IsBetween}
 use Rattle.csa_terms.specs.Calendar.{IsCallingDay}
-use Rattle.csa_terms.proofs.BusinessDays.{first_day, last_day}
+use Rattle.iso_dates.proofs.DateDays.{first_day}
+use Rattle.csa_terms.proofs.BusinessDays.{last_day}
 use Rattle.csa_terms.proofs.CalendarDays.{in_years}
 use Rattle.csa_terms.proofs.due.is_calling_day.Goals as goal
 

@@ -1,6 +1,6 @@
 use Rattle.std.proofs.Common.{rules, refl, arith}
-use Rattle.csa_terms.proofs.Digits.{no_number, a_digit, power_small, all_read}
-use Rattle.csa_terms.proofs.date.number.Goals as goal
+use Rattle.iso_dates.proofs.Digits.{no_number, a_digit, power_small, all_read}
+use Rattle.iso_dates.proofs.date.number.Goals as goal
 
 pub loop-digit-init : goal.loop-digit-init
 loop-digit-init c = record { value = refl; small = omega arith }

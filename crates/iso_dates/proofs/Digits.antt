@@ -1,10 +1,10 @@
 -- Numbers that digits write.
-use Rattle.std.proofs.Common.{◌≡◌, ℕ, zero, suc, ◌+◌, ◌-◌, ◌*◌, ◌^◌, ◌≤◌, ◌<◌, true, false, cond, Some, None, List, length, drop, slice_index_or, sym, ap, ◌∙◌, arith}
+use Rattle.std.proofs.Common.{◌≡◌, ℕ, zero, suc, ◌+◌, ◌-◌, ◌*◌, ◌^◌, ◌≤◌, ◌<◌, leb-true, nat_le, true, false, cond, Some, None, List, length, drop, slice_index_or, sym, ap, ◌∙◌, arith}
 use Rattle.std.specs.Char.{is_ascii_digit}
+use Rattle.std.proofs.lemmas.Bool.{and_parts}
 use Rattle.std.proofs.lemmas.List.{drop_all}
 use Rattle.std.proofs.Math.Seq.{drop-cons}
-use Rattle.toml_values.proofs.MhUnits.Digits.{is_digit_true}
-use Rattle.csa_terms.specs.Dates.{digits_from, number_in}
+use Rattle.iso_dates.specs.Dates.{digits_from, number_in}
 
 -- what is left of the text, behind the number so far, writes what the whole text writes
 pub record AreRead (text : List ℕ) (n i : ℕ) : Type 0 where
@@ -23,8 +23,9 @@ module _ (text : List ℕ) (n i : ℕ) (within : i < length text) (so_far : AreR
 
   pub a_digit : (x : ℕ) → x ≡ slice_index_or text i 0 - 48 → true ≡ is_ascii_digit (slice_index_or text i 0) → AreRead text (10 * n + x) (i + 1)
   a_digit x is e =
-      let digit = is_digit_true (slice_index_or text i 0) (sym e) in
-      let low = digit.low in let high = digit.high in
+      let b = slice_index_or text i 0 in
+      let two = and_parts (nat_le 48 b) (nat_le b 57) (sym e) in
+      let low = leb-true 48 b two.0 in let high = leb-true b 57 two.1 in
       let small = so_far.small in
       let one : i + 1 ≡ suc i = omega arith in
       record {

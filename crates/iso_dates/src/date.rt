@@ -1,8 +1,18 @@
 ghost use Rattle.std.specs.Prelude.{◌≡◌, ◌≤◌, ◌<◌, ◌^◌, length, IfSome};
-ghost use Rattle.csa_terms.specs.Terms.{IsCalendarDay};
-ghost use Rattle.csa_terms.specs.Dates.{number_in, minute_in, minute_of_day, day_of_date, date_in};
+ghost use Rattle.iso_dates.specs.Dates.{IsCalendarDay, IsInDigits, number_in, minute_in, minute_of_day, numbers_in, day_of_date, date_in};
 
 use jiff::civil::Date;
+
+/// The numbers of a text `YYYY-MM-DD`, whether or not the calendar has such a date.
+#[derive(Clone, Copy)]
+pub struct DateNumbers {
+    /// The year, four digits.
+    pub year: u16,
+    /// The month, two digits.
+    pub month: u16,
+    /// The day of the month, two digits.
+    pub day: u16,
+}
 
 /// The number that a text of at most four digits writes; None for another text.
 fn number(digits: &[u8]) -> Option<u16>
@@ -44,18 +54,32 @@ pub fn minute_in(text: &[u8]) -> Option<u16>
     minute_of_day(hour, minute)
 }
 
-/// The day of a date, counted from 1970-01-01; None where the calendar has no such date.
-fn day_of_date(year: u16, month: u16, day: u16) -> Option<i32>
-    requires year { year < 10000 }
-    requires month { month < 100 }
-    requires day { day < 100 }
-    ensures value { result ≡ day_of_date year month day }
-    ensures calendar { IfSome result IsCalendarDay }
+/// The numbers of a text `YYYY-MM-DD`; None where the text isn't of that form.
+#[tactic(auto, unfolding(crate::specs::Dates::numbers_in))]
+pub fn numbers_in(text: &[u8]) -> Option<DateNumbers>
+    ensures value { result ≡ numbers_in text.now }
+    ensures digits { IfSome result IsInDigits }
 {
-    if year == 0 {
+    if text.len() != 10 || text[4] != b'-' || text[7] != b'-' {
         return None;
     }
-    match Date::new(year as i16, month as i8, day as i8) {
+    Some(DateNumbers {
+        year: number(&text[0..4])?,
+        month: number(&text[5..7])?,
+        day: number(&text[8..10])?,
+    })
+}
+
+/// The day of a date, counted from 1970-01-01; None where the calendar has no such date, or its year is 0.
+pub fn day_of_date(date: DateNumbers) -> Option<i32>
+    requires { IsInDigits date }
+    ensures value { result ≡ day_of_date date.year date.month date.day }
+    ensures calendar { IfSome result IsCalendarDay }
+{
+    if date.year == 0 {
+        return None;
+    }
+    match Date::new(date.year as i16, date.month as i8, date.day as i8) {
         Ok(date) => Some(date.to_plain().to_unix_epoch_day()),
         Err(_) => None,
     }
@@ -67,11 +91,5 @@ pub fn date_in(text: &[u8]) -> Option<i32>
     ensures value { result ≡ date_in text.now }
     ensures calendar { IfSome result IsCalendarDay }
 {
-    if text.len() != 10 || text[4] != b'-' || text[7] != b'-' {
-        return None;
-    }
-    let year = number(&text[0..4])?;
-    let month = number(&text[5..7])?;
-    let day = number(&text[8..10])?;
-    day_of_date(year, month, day)
+    day_of_date(numbers_in(text)?)
 }
