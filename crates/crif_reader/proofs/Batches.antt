@@ -5,22 +5,22 @@ use Rattle.std.proofs.lemmas.Bool.{or_from, ne_eqb, eqb-false, le-ltb}
 use Rattle.std.proofs.lemmas.Grind.{flat_map-append}
 use Rattle.std.proofs.lemmas.List.{append-nil, map-append, nil_from_length}
 use Rattle.std.proofs.lemmas.List.Folds.{list_all-append}
-use Rattle.simm_kinds.specs.declared.row.CrifRow.{CrifRow}
-use Rattle.simm_kinds.specs.declared.row.TradeRows.{TradeRows}
-use Rattle.simm_kinds.specs.Batch.{IsBatch, rows_of, repeats, factor_names, multiplied, is_astray, is_misplaced, is_in_range}
-use Rattle.simm_kinds.specs.Order.{same_name, same_product}
+use Rattle.crif_records.specs.SimmKinds.declared.row.CrifRow.{CrifRow}
+use Rattle.crif_records.specs.SimmKinds.declared.row.TradeRows.{TradeRows}
+use Rattle.crif_records.specs.SimmKinds.Batch.{IsBatch, rows_of, repeats, factor_names, multiplied, is_astray, is_misplaced, is_in_range}
+use Rattle.crif_records.specs.SimmKinds.Order.{same_name, same_product}
 use Rattle.crif_reader.specs.declared.columns.Columns.{Columns}
 use Rattle.crif_reader.specs.declared.fault.CrifFault.TheVariants.{Row, TooManyRows, EmptyBatch}
 use Rattle.crif_reader.specs.declared.fault.RowFault.{RowFault}
 use Rattle.crif_reader.specs.declared.fault.RowFault.TheVariants.{DuplicateParam}
-use Rattle.crif_reader.specs.Reads.{◌>>=◌}
+use Rattle.crif_records.specs.Binds.{◌>>=◌}
 use Rattle.crif_reader.specs.Row.{Entry, row_of}
 use Rattle.crif_reader.specs.Repeated.{is_repeated, once, rows_in}
 use Rattle.crif_reader.specs.Trades.{gathered, trade_names}
 use Rattle.crif_reader.specs.Grammar.{Kept, Crif, none_kept, with_taken, at_record, kept_of, taken_of}
 use Rattle.crif_reader.specs.Grammar.{rows_of as file_rows_of}
 use Rattle.crif_reader.proofs.Gathered.{gathered-push, trade_in, repeats-trade_names}
-use Rattle.crif_reader.proofs.Binds.{bind_ok, same_ok, same_some, either, mapped_ok}
+use Rattle.crif_records.proofs.Binds.{bind_ok, same_ok, same_some, either, mapped_ok}
 use Rattle.crif_reader.proofs.Onces.{IsOnce, once_more}
 use Rattle.crif_reader.proofs.Placed.{IsGoodRow, IsGoodEntry, IsGoodTrade, IsOfParams, good-with_entry, count-with_entry, parts-with_entry, names_of_params, products_of_params}
 use Rattle.crif_reader.proofs.GoodRows.{good_row}

@@ -4,9 +4,9 @@ use Rattle.std.specs.List.{list_any}
 use Rattle.std.proofs.lemmas.Bool.{cases_Bool, or_parts, or_from, not-false}
 use Rattle.std.proofs.lemmas.List.{append-nil, append_assoc, map-append}
 use Rattle.std.proofs.lemmas.List.Elements.{filter-append}
-use Rattle.simm_kinds.specs.declared.row.TradeRows.{TradeRows}
-use Rattle.simm_kinds.specs.Batch.{repeats}
-use Rattle.simm_kinds.specs.Order.{same_name}
+use Rattle.crif_records.specs.SimmKinds.declared.row.TradeRows.{TradeRows}
+use Rattle.crif_records.specs.SimmKinds.Batch.{repeats}
+use Rattle.crif_records.specs.SimmKinds.Order.{same_name}
 use Rattle.crif_reader.specs.Row.{Entry}
 use Rattle.crif_reader.specs.Trades.{trade_names, rows_under, gathered}
 use Rattle.crif_reader.specs.Growth.{with_entry}

@@ -5,25 +5,25 @@ use Rattle.std.specs.Str.{is_utf8}
 use Rattle.std.proofs.lemmas.Str.{is_utf8-from_IsUtf8, IsUtf8-from_ascii}
 use Rattle.std.proofs.lemmas.Str.Ascii.{IsAscii-nil}
 use Rattle.std.proofs.lemmas.Bool.{and_parts, ltb-false, le-leb, not-true}
-use Rattle.simm_kinds.specs.MhUnits.declared.quantities.Cents.{Cents}
-use Rattle.simm_kinds.specs.MhUnits.declared.numeral.NumeralFault.{NumeralFault}
-use Rattle.simm_kinds.specs.MhUnits.declared.numeral.NumeralFault.TheVariants as faults
-use Rattle.simm_kinds.specs.MhUnits.declared.scan.Phase.TheVariants as phases
-use Rattle.simm_kinds.specs.MhUnits.Scan.{is_numeral, reach}
-use Rattle.simm_kinds.specs.MhUnits.Numeral.{cents_of, number_of, with_sign, signed, is_minus, magnitude}
-use Rattle.simm_kinds.specs.declared.kinds.RiskType.{RiskType}
-use Rattle.simm_kinds.specs.declared.kinds.RiskType.TheVariants as kind
-use Rattle.simm_kinds.specs.Batch.{is_amount}
-use Rattle.simm_kinds.specs.Kinds.{kind_named, product_named}
-use Rattle.simm_kinds.specs.Words.{is_word}
-use Rattle.simm_kinds.specs.NameText.{IsName, is_full_name, name_fault}
-use Rattle.simm_kinds.specs.declared.fault.NameFault.{NameFault}
+use Rattle.crif_records.specs.SimmKinds.MhUnits.declared.quantities.Cents.{Cents}
+use Rattle.crif_records.specs.SimmKinds.MhUnits.declared.numeral.NumeralFault.{NumeralFault}
+use Rattle.crif_records.specs.SimmKinds.MhUnits.declared.numeral.NumeralFault.TheVariants as faults
+use Rattle.crif_records.specs.SimmKinds.MhUnits.declared.scan.Phase.TheVariants as phases
+use Rattle.crif_records.specs.SimmKinds.MhUnits.Scan.{is_numeral, reach}
+use Rattle.crif_records.specs.SimmKinds.MhUnits.Numeral.{cents_of, number_of, with_sign, signed, is_minus, magnitude}
+use Rattle.crif_records.specs.SimmKinds.declared.kinds.RiskType.{RiskType}
+use Rattle.crif_records.specs.SimmKinds.declared.kinds.RiskType.TheVariants as kind
+use Rattle.crif_records.specs.SimmKinds.Batch.{is_amount}
+use Rattle.crif_records.specs.SimmKinds.Kinds.{kind_named, product_named}
+use Rattle.crif_records.specs.SimmKinds.Words.{is_word}
+use Rattle.crif_records.specs.SimmKinds.NameText.{IsName, is_full_name, name_fault}
+use Rattle.crif_records.specs.SimmKinds.declared.fault.NameFault.{NameFault}
 use Rattle.crif_reader.specs.declared.columns.Columns.{Columns}
 use Rattle.crif_reader.specs.declared.fault.RowFault.TheVariants as fault
 use Rattle.crif_reader.specs.Fields.{Texts, texts_of, are_text}
 use Rattle.crif_reader.specs.Factor.{factor_of, full_name_of, name_of}
 use Rattle.crif_reader.specs.Row.{Entry, row_of, text_row_of, model_of, typed_of, entry_of, sensitivity_of, notional_of, fixed_amount_of, notional_factor_of, multiplier_of, if_within, is_present_value, trade_of, product_of, amount_of, rate_of, amount_text}
-use Rattle.crif_reader.proofs.Binds.{bind_ok, same_ok, same_some, either, ok_if, mapped_ok}
+use Rattle.crif_records.proofs.Binds.{bind_ok, same_ok, same_some, either, ok_if, mapped_ok}
 use Rattle.crif_reader.proofs.Placed.{IsGoodEntry}
 
 -- ---- amounts

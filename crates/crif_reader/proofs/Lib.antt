@@ -1,19 +1,13 @@
 pub mod All
-pub mod RecordsLeft
-pub mod PlainReads
-pub mod PlainAscii
-pub mod Quotes
-pub mod Marks
 pub mod Places
 pub mod Gathered
-pub mod FieldsAt
-pub mod AsciiFields
+pub mod TextFields
 pub mod NotedRows
-pub mod Binds
 pub mod Onces
 pub mod Placed
 pub mod GoodRows
 pub mod Batches
 pub mod Runs
-pub use Rattle.simm_kinds.proofs.MhUnits as MhUnits
-pub use Rattle.simm_kinds.proofs as SimmKinds
+pub use Rattle.crif_records.proofs as CrifRecords
+pub use Rattle.crif_records.proofs.MhUnits as MhUnits
+pub use Rattle.crif_records.proofs.SimmKinds as SimmKinds

@@ -4,15 +4,15 @@ use Rattle.std.specs.List.{list_any, flat_map}
 use Rattle.std.proofs.lemmas.Grind.{flat_map-append}
 use Rattle.std.proofs.lemmas.List.Folds.{list_any-append}
 use Rattle.std.specs.BTreeSet.{contains}
-use Rattle.simm_kinds.specs.MhUnits.declared.quantities.Cents.{Cents}
-use Rattle.simm_kinds.specs.MhUnits.declared.quantities.Rate4.{Rate4}
-use Rattle.simm_kinds.specs.declared.key.FactorKey.{FactorKey}
-use Rattle.simm_kinds.specs.declared.kinds.ProductClass.{ProductClass}
-use Rattle.simm_kinds.specs.declared.kinds.ProductClass.TheVariants as product
-use Rattle.simm_kinds.specs.declared.row.CrifRow.{CrifRow}
-use Rattle.simm_kinds.specs.declared.row.CrifRow.TheVariants as row
-use Rattle.simm_kinds.specs.Batch.{factor_names, multiplied}
-use Rattle.simm_kinds.specs.Order.{name_cmp, same_name, same_product}
+use Rattle.crif_records.specs.SimmKinds.MhUnits.declared.quantities.Cents.{Cents}
+use Rattle.crif_records.specs.SimmKinds.MhUnits.declared.quantities.Rate4.{Rate4}
+use Rattle.crif_records.specs.SimmKinds.declared.key.FactorKey.{FactorKey}
+use Rattle.crif_records.specs.SimmKinds.declared.kinds.ProductClass.{ProductClass}
+use Rattle.crif_records.specs.SimmKinds.declared.kinds.ProductClass.TheVariants as product
+use Rattle.crif_records.specs.SimmKinds.declared.row.CrifRow.{CrifRow}
+use Rattle.crif_records.specs.SimmKinds.declared.row.CrifRow.TheVariants as row
+use Rattle.crif_records.specs.SimmKinds.Batch.{factor_names, multiplied}
+use Rattle.crif_records.specs.SimmKinds.Order.{name_cmp, same_name, same_product}
 use Rattle.crif_reader.specs.declared.params.Multipliers.{Multipliers}
 use Rattle.crif_reader.specs.declared.params.Params.{Params}
 use Rattle.crif_reader.specs.Noted.{has_multiplier, with_multiplier, IsNoted}

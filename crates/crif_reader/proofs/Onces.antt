@@ -6,11 +6,11 @@ use Rattle.std.proofs.lemmas.Bool.{or_from}
 use Rattle.std.proofs.lemmas.Cmp.{eq_by_cmp_equiv, nat_eq_equiv, nat_list_cmp_total}
 use Rattle.std.proofs.lemmas.Grind.{flat_map-append}
 use Rattle.std.proofs.lemmas.List.{append-nil}
-use Rattle.simm_kinds.specs.declared.row.CrifRow.{CrifRow}
-use Rattle.simm_kinds.specs.declared.row.CrifRow.TheVariants as row
-use Rattle.simm_kinds.specs.Batch.{repeats, factor_names, multiplied}
-use Rattle.simm_kinds.specs.Order.{product_place, same_name, same_product}
-use Rattle.simm_kinds.proofs.Repeated.{repeats_push}
+use Rattle.crif_records.specs.SimmKinds.declared.row.CrifRow.{CrifRow}
+use Rattle.crif_records.specs.SimmKinds.declared.row.CrifRow.TheVariants as row
+use Rattle.crif_records.specs.SimmKinds.Batch.{repeats, factor_names, multiplied}
+use Rattle.crif_records.specs.SimmKinds.Order.{product_place, same_name, same_product}
+use Rattle.crif_records.proofs.SimmKinds.Repeated.{repeats_push}
 use Rattle.crif_reader.specs.Repeated.{is_repeated}
 
 pub same_names : IsEquivalence same_name

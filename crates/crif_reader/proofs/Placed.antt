@@ -5,12 +5,12 @@ use Rattle.std.specs.List.{list_any, flat_map, AllByRecursion}
 use Rattle.std.proofs.lemmas.Bool.{cases_Bool, or_parts, eqb-true, ne_eqb}
 use Rattle.std.proofs.lemmas.Grind.{flat_map-append}
 use Rattle.std.proofs.lemmas.List.{append-nil, nil_from_length}
-use Rattle.simm_kinds.specs.declared.row.CrifRow.{CrifRow}
-use Rattle.simm_kinds.specs.declared.row.CrifRow.TheVariants as row
-use Rattle.simm_kinds.specs.declared.row.TradeRows.{TradeRows}
-use Rattle.simm_kinds.specs.Batch.{rows_of, repeats, factor_names, multiplied, is_astray, is_in_range, is_param}
-use Rattle.simm_kinds.specs.NameText.{IsName}
-use Rattle.simm_kinds.specs.Order.{same_name}
+use Rattle.crif_records.specs.SimmKinds.declared.row.CrifRow.{CrifRow}
+use Rattle.crif_records.specs.SimmKinds.declared.row.CrifRow.TheVariants as row
+use Rattle.crif_records.specs.SimmKinds.declared.row.TradeRows.{TradeRows}
+use Rattle.crif_records.specs.SimmKinds.Batch.{rows_of, repeats, factor_names, multiplied, is_astray, is_in_range, is_param}
+use Rattle.crif_records.specs.SimmKinds.NameText.{IsName}
+use Rattle.crif_records.specs.SimmKinds.Order.{same_name}
 use Rattle.crif_reader.specs.Row.{Entry}
 use Rattle.crif_reader.specs.Growth.{with_entry}
 use Rattle.crif_reader.proofs.All.{all_more}

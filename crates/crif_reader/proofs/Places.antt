@@ -9,9 +9,9 @@ use Rattle.std.proofs.lemmas.List.{append-nil}
 use Rattle.std.proofs.lemmas.Bool.{cases_Bool}
 use Rattle.std.proofs.lemmas.Slice.Eq.{bytes_eq-Decides}
 use Rattle.std.proofs.lemmas.Bool.Decides.{same_from_decides}
-use Rattle.simm_kinds.specs.declared.row.CrifRow.{CrifRow}
-use Rattle.simm_kinds.specs.declared.row.TradeRows.{TradeRows}
-use Rattle.simm_kinds.specs.Order.{same_name}
+use Rattle.crif_records.specs.SimmKinds.declared.row.CrifRow.{CrifRow}
+use Rattle.crif_records.specs.SimmKinds.declared.row.TradeRows.{TradeRows}
+use Rattle.crif_records.specs.SimmKinds.Order.{same_name}
 use Rattle.crif_reader.specs.declared.gather.Gathering.{Gathering}
 use Rattle.crif_reader.specs.Row.{Entry}
 use Rattle.crif_reader.specs.Growth.{with_entry, place_of, noted_at, is_newest, newest_of, grown, IsApart, IsIndex}

@@ -2,7 +2,7 @@
 use Rattle.std.proofs.Common.{◌≡◌, ◌≢◌, ◌==◌, ◌∷◌, [], ◌++◌, ℕ, ◌+◌, true, false, List, length, Option, Some, None, Result, Ok, Err, refl, ap, sym, ◌∙◌, arith, eq-eqb, length-append}
 use Rattle.std.proofs.lemmas.Bool.{ne_eqb}
 use Rattle.std.proofs.lemmas.List.{nil_from_length, map-append}
-use Rattle.simm_kinds.specs.declared.row.TradeRows.{TradeRows}
+use Rattle.crif_records.specs.SimmKinds.declared.row.TradeRows.{TradeRows}
 use Rattle.crif_reader.specs.declared.columns.Columns.{Columns}
 use Rattle.crif_reader.specs.declared.fault.CrifFault.{CrifFault}
 use Rattle.crif_reader.specs.declared.fault.CrifFault.TheVariants.{NoHeader, MissingColumn, Row, TooManyRows, EmptyBatch, Memory}
@@ -10,8 +10,9 @@ use Rattle.crif_reader.specs.declared.fault.RowFault.{RowFault}
 use Rattle.crif_reader.specs.declared.fault.RowFault.TheVariants.{DuplicateParam}
 use Rattle.crif_reader.specs.declared.params.Params.{Params}
 use Rattle.crif_reader.specs.Noted.{IsNoted}
-use Rattle.simm_kinds.specs.declared.row.CrifRow.{CrifRow}
-use Rattle.crif_reader.specs.Reads.{◌>>=◌, Fails}
+use Rattle.crif_records.specs.SimmKinds.declared.row.CrifRow.{CrifRow}
+use Rattle.crif_records.specs.Binds.{◌>>=◌}
+use Rattle.crif_reader.specs.Reads.{Fails}
 use Rattle.crif_reader.specs.Row.{Entry, row_of}
 use Rattle.crif_reader.specs.Repeated.{is_repeated, once, rows_in}
 use Rattle.crif_reader.specs.Trades.{gathered}

@@ -1,13 +1,12 @@
 -- The columns of a file: their names, and where the header has them.
-use Rattle.std.specs.Prelude.{ℕ, ◌+◌, List, [], ◌∷◌, length, Bool, not, ◌||◌, ◌==◌, codes, Option, Some, None, ok_or, Result, Ok, if◌then◌else◌}
-use Rattle.std.specs.List.{filter}
-use Rattle.simm_kinds.specs.Words.{is_word}
+use Rattle.std.specs.Prelude.{ℕ, List, length, codes, Option, ok_or, Result, Ok}
+use Rattle.crif_records.specs.Columns.{place_named}
 use Rattle.crif_reader.specs.declared.column.Column.{Column}
 use Rattle.crif_reader.specs.declared.column.Column.TheVariants as column
 use Rattle.crif_reader.specs.declared.columns.Columns.{Columns}
 use Rattle.crif_reader.specs.declared.fault.CrifFault.{CrifFault}
 use Rattle.crif_reader.specs.declared.fault.CrifFault.TheVariants.{MissingColumn}
-use Rattle.crif_reader.specs.Reads.{◌>>=◌}
+use Rattle.crif_records.specs.Binds.{◌>>=◌}
 
 abbrev pub column_name : Column → List ℕ
 column_name column.TradeId = codes "TradeID"
@@ -22,21 +21,9 @@ column_name column.AmountCurrency = codes "AmountCurrency"
 column_name column.AmountUsd = codes "AmountUSD"
 column_name column.ImModel = codes "IMModel"
 
--- a byte that counts in a column's name: no space, and no underscore
-abbrev pub is_counted : ℕ → Bool
-is_counted b = not (b == 32 || b == 95)
-
--- names are compared in any case, without spaces and underscores
-abbrev pub is_column : Column → List ℕ → Bool
-is_column column field = is_word (column_name column) (filter is_counted field)
-
--- the first place with the column's name, in a part of the header whose first place this is
-abbrev pub place_from : ℕ → Column → List (List ℕ) → Option ℕ
-place_from place column [] = None
-place_from place column (field ∷ more) = if is_column column field then Some place else place_from (place + 1) column more
-
+-- the first place with the column's name
 abbrev pub place_of : List (List ℕ) → Column → Option ℕ
-place_of header column = place_from 0 column header
+place_of header column = place_named header (column_name column)
 
 abbrev pub required : List (List ℕ) → Column → Result ℕ CrifFault
 required header column = ok_or (place_of header column) (MissingColumn column)

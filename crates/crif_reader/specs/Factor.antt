@@ -1,25 +1,25 @@
 -- The risk factor of a record: each risk type reads the parts that it has, in the order qualifier, bucket, first label, second
 -- label; the other fields are not read.
 use Rattle.std.specs.Prelude.{ℕ, List, ok_or, Result, Ok, Err, is_none, if◌then◌else◌}
-use Rattle.simm_kinds.specs.declared.kinds.RiskType.{RiskType}
-use Rattle.simm_kinds.specs.declared.kinds.RiskType.TheVariants as kind
-use Rattle.simm_kinds.specs.declared.kinds.Tenor.{Tenor}
-use Rattle.simm_kinds.specs.declared.kinds.SubCurve.{SubCurve}
-use Rattle.simm_kinds.specs.declared.credit_tenor.CreditTenor.{CreditTenor}
-use Rattle.simm_kinds.specs.declared.bucket.Bucket.{Bucket}
-use Rattle.simm_kinds.specs.declared.factor.Factor.{Factor}
-use Rattle.simm_kinds.specs.declared.factor.Factor.TheVariants as factor
-use Rattle.simm_kinds.specs.Bucket.{bucket_named}
-use Rattle.simm_kinds.specs.BucketNumber.{bucket_number_named}
-use Rattle.simm_kinds.specs.Currency.{currency_text}
-use Rattle.simm_kinds.specs.Kinds.{sub_named}
-use Rattle.simm_kinds.specs.NameText.{is_full_name, name_fault}
-use Rattle.simm_kinds.specs.Pair.{Pair, pair_named}
-use Rattle.simm_kinds.specs.Tenors.{tenor_named, credit_tenor_named}
+use Rattle.crif_records.specs.SimmKinds.declared.kinds.RiskType.{RiskType}
+use Rattle.crif_records.specs.SimmKinds.declared.kinds.RiskType.TheVariants as kind
+use Rattle.crif_records.specs.SimmKinds.declared.kinds.Tenor.{Tenor}
+use Rattle.crif_records.specs.SimmKinds.declared.kinds.SubCurve.{SubCurve}
+use Rattle.crif_records.specs.SimmKinds.declared.credit_tenor.CreditTenor.{CreditTenor}
+use Rattle.crif_records.specs.SimmKinds.declared.bucket.Bucket.{Bucket}
+use Rattle.crif_records.specs.SimmKinds.declared.factor.Factor.{Factor}
+use Rattle.crif_records.specs.SimmKinds.declared.factor.Factor.TheVariants as factor
+use Rattle.crif_records.specs.SimmKinds.Bucket.{bucket_named}
+use Rattle.crif_records.specs.SimmKinds.BucketNumber.{bucket_number_named}
+use Rattle.crif_records.specs.SimmKinds.Currency.{currency_text}
+use Rattle.crif_records.specs.SimmKinds.Kinds.{sub_named}
+use Rattle.crif_records.specs.SimmKinds.NameText.{is_full_name, name_fault}
+use Rattle.crif_records.specs.SimmKinds.Pair.{Pair, pair_named}
+use Rattle.crif_records.specs.SimmKinds.Tenors.{tenor_named, credit_tenor_named}
 use Rattle.crif_reader.specs.declared.fault.RowFault.{RowFault}
 use Rattle.crif_reader.specs.declared.fault.RowFault.TheVariants as fault
 use Rattle.crif_reader.specs.declared.factor.CreditPoint.{CreditPoint}
-use Rattle.crif_reader.specs.Reads.{◌>>=◌}
+use Rattle.crif_records.specs.Binds.{◌>>=◌}
 use Rattle.crif_reader.specs.Fields.{Texts}
 
 -- ---- the parts, each with its fault

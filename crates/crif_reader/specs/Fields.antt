@@ -1,17 +1,9 @@
 -- The fields of a record that are read.
-use Rattle.std.specs.Prelude.{ℕ, List, [], ◌∷◌, reverse, Bool, ◌&&◌, ◌==◌, Option, Some, None, unwrap_or, if◌then◌else◌}
+use Rattle.std.specs.Prelude.{ℕ, List, [], Bool, ◌&&◌, Option, Some, None, if◌then◌else◌}
 use Rattle.std.specs.Str.{is_utf8}
-use Rattle.csv.specs.Records.{field_at}
+use Rattle.crif_records.specs.Fields.{text_at}
 use Rattle.crif_reader.specs.declared.columns.Columns.{Columns}
 use Rattle.crif_reader.specs.declared.fields.Fields.{Fields}
-
-abbrev pub without_leading_spaces : List ℕ → List ℕ
-without_leading_spaces [] = []
-without_leading_spaces (b ∷ bs) = if b == 32 then without_leading_spaces bs else b ∷ bs
-
--- without the ASCII spaces at both ends
-abbrev pub trimmed : List ℕ → List ℕ
-trimmed bytes = reverse (without_leading_spaces (reverse (without_leading_spaces bytes)))
 
 -- what a record has in each column
 pub record Texts : Type 0 where
@@ -27,11 +19,7 @@ pub record Texts : Type 0 where
   pub amount_usd : List ℕ
   pub im_model : List ℕ
 
--- a field that is missing at the end is empty
-abbrev pub text_at : List (List ℕ) → ℕ → List ℕ
-text_at fields place = trimmed (unwrap_or (field_at fields place) [])
-
--- and so is that of a column that the header lacks
+-- the field of a column that the header may lack is empty then
 abbrev pub text_if : List (List ℕ) → Option ℕ → List ℕ
 text_if fields None = []
 text_if fields (Some place) = text_at fields place

@@ -1,13 +1,13 @@
 -- CRIF grammar: the trades of a file and the records that were passed over, or the first fault in reading order.
 use Rattle.std.specs.Prelude.{ℕ, ◌+◌, List, [], ◌∷◌, ◌++◌, length, ◌==◌, Option, Some, None, Result, Ok, Err, if◌then◌else◌}
 use Rattle.std.specs.Result.{result_map_both}
-use Rattle.simm_kinds.specs.declared.row.TradeRows.{TradeRows}
+use Rattle.crif_records.specs.SimmKinds.declared.row.TradeRows.{TradeRows}
 use Rattle.crif_reader.specs.declared.columns.Columns.{Columns}
 use Rattle.crif_reader.specs.declared.fault.CrifFault.{CrifFault}
 use Rattle.crif_reader.specs.declared.fault.CrifFault.TheVariants.{NoHeader, Row, TooManyRows, EmptyBatch}
 use Rattle.crif_reader.specs.declared.fault.RowFault.{RowFault}
-use Rattle.crif_reader.specs.Reads.{◌>>=◌}
-use Rattle.crif_reader.specs.Records.{records_of}
+use Rattle.crif_records.specs.Binds.{◌>>=◌}
+use Rattle.crif_records.specs.Records.{records_of}
 use Rattle.crif_reader.specs.Columns.{columns_of}
 use Rattle.crif_reader.specs.Row.{Entry, row_of}
 use Rattle.crif_reader.specs.Repeated.{once}

@@ -1,9 +1,9 @@
 -- Trades that grow row by row, and an index of their places.
 use Rattle.std.specs.Prelude.{◌≡◌, ℕ, suc, List, [], ◌∷◌, ◌++◌, Bool, false, Option, Some, None, option_map, if◌then◌else◌}
 use Rattle.std.specs.Map.{lookup}
-use Rattle.simm_kinds.specs.declared.row.CrifRow.{CrifRow}
-use Rattle.simm_kinds.specs.declared.row.TradeRows.{TradeRows}
-use Rattle.simm_kinds.specs.Order.{same_name}
+use Rattle.crif_records.specs.SimmKinds.declared.row.CrifRow.{CrifRow}
+use Rattle.crif_records.specs.SimmKinds.declared.row.TradeRows.{TradeRows}
+use Rattle.crif_records.specs.SimmKinds.Order.{same_name}
 use Rattle.crif_reader.specs.declared.gather.Gathering.{Gathering}
 use Rattle.crif_reader.specs.Row.{Entry}
 

@@ -1,8 +1,5 @@
 pub mod Reads
 pub mod Faults
-pub mod Records
-pub mod Plain
-pub mod Reading
 pub mod Columns
 pub mod Fields
 pub mod Factor
@@ -12,5 +9,6 @@ pub mod Noted
 pub mod Trades
 pub mod Growth
 pub mod Grammar
-pub use Rattle.simm_kinds.specs.MhUnits as MhUnits
-pub use Rattle.simm_kinds.specs as SimmKinds
+pub use Rattle.crif_records.specs as CrifRecords
+pub use Rattle.crif_records.specs.MhUnits as MhUnits
+pub use Rattle.crif_records.specs.SimmKinds as SimmKinds

@@ -2,11 +2,11 @@
 use Rattle.std.specs.Prelude.{◌≡◌, ℕ, List, Bool, true}
 use Rattle.std.specs.List.{list_any, flat_map}
 use Rattle.std.specs.BTreeSet.{contains}
-use Rattle.simm_kinds.specs.declared.kinds.ProductClass.{ProductClass}
-use Rattle.simm_kinds.specs.declared.kinds.ProductClass.TheVariants as product
-use Rattle.simm_kinds.specs.declared.row.CrifRow.{CrifRow}
-use Rattle.simm_kinds.specs.Batch.{factor_names, multiplied}
-use Rattle.simm_kinds.specs.Order.{name_cmp, same_name, same_product}
+use Rattle.crif_records.specs.SimmKinds.declared.kinds.ProductClass.{ProductClass}
+use Rattle.crif_records.specs.SimmKinds.declared.kinds.ProductClass.TheVariants as product
+use Rattle.crif_records.specs.SimmKinds.declared.row.CrifRow.{CrifRow}
+use Rattle.crif_records.specs.SimmKinds.Batch.{factor_names, multiplied}
+use Rattle.crif_records.specs.SimmKinds.Order.{name_cmp, same_name, same_product}
 use Rattle.crif_reader.specs.declared.params.Multipliers.{Multipliers}
 use Rattle.crif_reader.specs.declared.params.Params.{Params}
 

@@ -1,15 +1,10 @@
--- What reading answers, beside what the grammar has: one test after another, the first fault ends them.
+-- What reading answers, beside what the grammar has.
 use Rattle.std.specs.Prelude.{◌≡◌, Result, Ok, Err}
 use Rattle.crif_reader.specs.declared.fault.CrifFault.{CrifFault}
 use Rattle.crif_reader.specs.declared.fault.CrifFault.TheVariants.{NoHeader, MissingColumn, Row, TooManyRows, EmptyBatch, Memory}
 use Rattle.crif_reader.specs.declared.fault.RowFault.{RowFault}
 use Rattle.crif_reader.specs.declared.row_stop.RowStop.{RowStop}
 use Rattle.crif_reader.specs.declared.row_stop.RowStop.TheVariants as stop
-
-infixl 10 ◌>>=◌
-abbrev pub ◌>>=◌ : {A B E : Type 0} → Result A E → (A → Result B E) → Result B E
-(Ok x) >>= f = f x
-(Err e) >>= f = Err e
 
 -- the fault that is answered is the grammar's; memory may be wanted at any text
 abbrev pub Fails : {Y : Type 0} → CrifFault → Result Y CrifFault → Type 0

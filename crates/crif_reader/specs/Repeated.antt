@@ -1,10 +1,10 @@
 -- Parameters of which there is one at most: a factor of a qualifier, a multiplier of a product class; fixed amounts add up.
 use Rattle.std.specs.Prelude.{List, map, Bool, false, Option, Some, None, Result, Ok, Err, if◌then◌else◌}
 use Rattle.std.specs.List.{list_any, flat_map}
-use Rattle.simm_kinds.specs.declared.row.CrifRow.{CrifRow}
-use Rattle.simm_kinds.specs.declared.row.CrifRow.TheVariants as row
-use Rattle.simm_kinds.specs.Batch.{factor_names, multiplied}
-use Rattle.simm_kinds.specs.Order.{same_name, same_product}
+use Rattle.crif_records.specs.SimmKinds.declared.row.CrifRow.{CrifRow}
+use Rattle.crif_records.specs.SimmKinds.declared.row.CrifRow.TheVariants as row
+use Rattle.crif_records.specs.SimmKinds.Batch.{factor_names, multiplied}
+use Rattle.crif_records.specs.SimmKinds.Order.{same_name, same_product}
 use Rattle.crif_reader.specs.declared.fault.RowFault.{RowFault}
 use Rattle.crif_reader.specs.declared.fault.RowFault.TheVariants.{DuplicateParam}
 use Rattle.crif_reader.specs.Row.{Entry}

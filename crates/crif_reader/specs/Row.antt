@@ -1,20 +1,21 @@
 -- The row of a record: its tests in order, the first fault ends them.
-use Rattle.std.specs.Prelude.{ℕ, List, [], length, Bool, true, false, ◌&&◌, nat_lt, ◌==◌, ℤ, pos, int_le, codes, ok_or, Option, Some, None, Result, Ok, Err, if◌then◌else◌}
+use Rattle.std.specs.Prelude.{ℕ, List, [], length, Bool, true, false, ◌&&◌, nat_lt, ℤ, pos, int_le, codes, ok_or, Option, Some, None, Result, Ok, Err, if◌then◌else◌}
 use Rattle.std.specs.Result.{result_map_both}
-use Rattle.simm_kinds.specs.MhUnits.declared.quantities.Cents.{Cents}
-use Rattle.simm_kinds.specs.MhUnits.declared.quantities.Rate4.{Rate4}
-use Rattle.simm_kinds.specs.MhUnits.Numeral.{cents_of, rate4_of}
-use Rattle.simm_kinds.specs.declared.kinds.ProductClass.{ProductClass}
-use Rattle.simm_kinds.specs.declared.kinds.RiskType.{RiskType}
-use Rattle.simm_kinds.specs.declared.kinds.RiskType.TheVariants as kind
-use Rattle.simm_kinds.specs.declared.row.CrifRow.{CrifRow}
-use Rattle.simm_kinds.specs.declared.row.CrifRow.TheVariants as row
-use Rattle.simm_kinds.specs.Kinds.{kind_named, product_named}
-use Rattle.simm_kinds.specs.Words.{is_word}
+use Rattle.crif_records.specs.SimmKinds.MhUnits.declared.quantities.Cents.{Cents}
+use Rattle.crif_records.specs.SimmKinds.MhUnits.declared.quantities.Rate4.{Rate4}
+use Rattle.crif_records.specs.SimmKinds.MhUnits.Numeral.{cents_of, rate4_of}
+use Rattle.crif_records.specs.SimmKinds.declared.kinds.ProductClass.{ProductClass}
+use Rattle.crif_records.specs.SimmKinds.declared.kinds.RiskType.{RiskType}
+use Rattle.crif_records.specs.SimmKinds.declared.kinds.RiskType.TheVariants as kind
+use Rattle.crif_records.specs.SimmKinds.declared.row.CrifRow.{CrifRow}
+use Rattle.crif_records.specs.SimmKinds.declared.row.CrifRow.TheVariants as row
+use Rattle.crif_records.specs.SimmKinds.Kinds.{kind_named, product_named}
+use Rattle.crif_records.specs.SimmKinds.Words.{is_word}
+use Rattle.crif_records.specs.Fields.{usd_text}
 use Rattle.crif_reader.specs.declared.columns.Columns.{Columns}
 use Rattle.crif_reader.specs.declared.fault.RowFault.{RowFault}
 use Rattle.crif_reader.specs.declared.fault.RowFault.TheVariants as fault
-use Rattle.crif_reader.specs.Reads.{◌>>=◌}
+use Rattle.crif_records.specs.Binds.{◌>>=◌}
 use Rattle.crif_reader.specs.Fields.{Texts, texts_of, are_text}
 use Rattle.crif_reader.specs.Factor.{factor_of, full_name_of, name_of}
 
@@ -33,7 +34,7 @@ product_of t = ok_or (product_named t.product_class) fault.ProductClass
 
 -- AmountUSD; where that is empty, an Amount in USD
 abbrev pub amount_text : Texts → List ℕ
-amount_text t = if (length t.amount_usd == 0) && is_word (codes "USD") t.amount_currency then t.amount else t.amount_usd
+amount_text t = usd_text t.amount_usd t.amount_currency t.amount
 
 -- in cents
 abbrev pub amount_of : Texts → Result Cents RowFault

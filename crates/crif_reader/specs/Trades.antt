@@ -1,8 +1,8 @@
 -- Rows gathered by trade.
 use Rattle.std.specs.Prelude.{ℕ, List, [], ◌∷◌, map, filter, not}
-use Rattle.simm_kinds.specs.declared.row.CrifRow.{CrifRow}
-use Rattle.simm_kinds.specs.declared.row.TradeRows.{TradeRows}
-use Rattle.simm_kinds.specs.Order.{same_name}
+use Rattle.crif_records.specs.SimmKinds.declared.row.CrifRow.{CrifRow}
+use Rattle.crif_records.specs.SimmKinds.declared.row.TradeRows.{TradeRows}
+use Rattle.crif_records.specs.SimmKinds.Order.{same_name}
 use Rattle.crif_reader.specs.Row.{Entry}
 
 -- the name of each trade once, at the place of its first row

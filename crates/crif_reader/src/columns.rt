@@ -1,10 +1,10 @@
 //! Where a file's header has the columns.
 ghost use Rattle.std.specs.Prelude.{◌≡◌};
-ghost use Rattle.crif_reader.specs.Columns.{is_column, place_of, required, columns_of};
-ghost use Rattle.crif_reader.specs.Reading.{newest};
+ghost use Rattle.crif_reader.specs.Columns.{place_of, required, columns_of};
+ghost use Rattle.crif_records.specs.Reading.{newest};
 
-use crate::records::Records;
 use crate::{Column, CrifFault};
+use crif_records::{Records, place_named};
 
 /// The places of the columns in a record, from 0; that of the margin model where the header has it. `count` is how many fields
 /// the header has.
@@ -24,37 +24,11 @@ pub struct Columns {
     pub im_model: Option<usize>,
 }
 
-/// Whether a field of the header is the column's name, in any case, without spaces and underscores.
-fn is_column(column: Column, field: &[u8]) -> bool
-    ensures { result ≡ is_column column field.now }
-{
-    let mut rest = column.name().as_bytes();
-    for byte in field {
-        if *byte == b' ' || *byte == b'_' {
-            continue;
-        }
-        let [first, others @ ..] = rest else {
-            return false;
-        };
-        if !byte.eq_ignore_ascii_case(first) {
-            return false;
-        }
-        rest = others;
-    }
-    rest.is_empty()
-}
-
 /// The first place in the header with the column's name.
 fn place_of(header: &Records, column: Column) -> Option<usize>
     ensures { result ≡ place_of (newest header.now) column }
 {
-    for place in 0..header.field_count() {
-        let field = header.field(place)?;
-        if is_column(column, field) {
-            return Some(place);
-        }
-    }
-    None
+    place_named(header, column.name())
 }
 
 fn required(header: &Records, column: Column) -> Result<usize, CrifFault>

@@ -9,7 +9,7 @@ use crate::RowFault;
 use crate::fields::Fields;
 use crate::names::{read_full_name, read_name};
 use crate::row_stop::RowStop;
-use simm_kinds::{
+use crif_records::simm_kinds::{
     Bucket, BucketNumber, CreditTenor, Currency, CurrencyPair, Factor, FullName, Name, RiskType,
     SubCurve, Tenor,
 };

@@ -2,7 +2,7 @@ ghost use Rattle.std.specs.Prelude.{◌≡◌};
 ghost use Rattle.crif_reader.specs.Faults.{crif_fault_number, row_fault_number};
 
 use crate::Column;
-use simm_kinds::mh_units::NumeralFault;
+use crif_records::simm_kinds::mh_units::NumeralFault;
 use std::alloc::{AllocError, AllocFailed};
 
 /// Why a record gives no row, in the order of the tests.

@@ -1,12 +1,10 @@
 //! The fields of a record that are read.
 ghost use Rattle.std.specs.Prelude.{◌≡◌, option_map};
-ghost use Rattle.std.specs.Str.{is_utf8};
-ghost use Rattle.crif_reader.specs.Fields.{trimmed, text_at, text_if, texts, texts_of, are_text, if_text};
-ghost use Rattle.crif_reader.specs.Reading.{newest, IsReading};
+ghost use Rattle.crif_reader.specs.Fields.{text_if, texts, texts_of, are_text, if_text};
+ghost use Rattle.crif_records.specs.Reading.{newest, IsReading};
 
 use crate::columns::Columns;
-use crate::records::Records;
-use std::str;
+use crif_records::{Records, is_utf8, text_at};
 
 /// The fields in the columns that are read, without spaces at their ends. A field that is missing at the end is empty.
 #[derive(Clone, Copy)]
@@ -22,26 +20,6 @@ pub struct Fields<'a> {
     pub amount_currency: &'a [u8],
     pub amount_usd: &'a [u8],
     pub im_model: &'a [u8],
-}
-
-/// Leaves the spaces at both ends off.
-fn trim_spaces(field: &[u8]) -> &[u8]
-    ensures { result.now ≡ trimmed field.now }
-{
-    let mut rest = field;
-    while let [b' ', inner @ ..] = rest {
-        rest = inner;
-    }
-    while let [inner @ .., b' '] = rest {
-        rest = inner;
-    }
-    rest
-}
-
-fn text_at<'a>(records: &'a Records, place: usize) -> &'a [u8]
-    ensures { result.now ≡ text_at (newest records.now) place }
-{
-    trim_spaces(records.field(place).unwrap_or(&[]))
 }
 
 fn text_if<'a>(records: &'a Records, place: Option<usize>) -> &'a [u8]
@@ -101,10 +79,4 @@ impl<'a> Fields<'a> {
             && is_utf8(self.amount_usd)
             && is_utf8(self.im_model)
     }
-}
-
-fn is_utf8(field: &[u8]) -> bool
-    ensures { result ≡ is_utf8 field.now }
-{
-    str::from_utf8(field).is_ok()
 }

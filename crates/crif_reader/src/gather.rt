@@ -1,12 +1,12 @@
 //! Rows gathered by trade.
 ghost use Rattle.std.specs.Prelude.{◌≡◌, ◌∷◌, [], ℕ, List, length, unwrap_or, Some, None, false, IfOk, OnOk, if◌then◌else◌};
-ghost use Rattle.simm_kinds.specs.NameText.{IsName};
-ghost use Rattle.simm_kinds.specs.Order.{same_name};
+ghost use Rattle.crif_records.specs.SimmKinds.NameText.{IsName};
+ghost use Rattle.crif_records.specs.SimmKinds.Order.{same_name};
 ghost use Rattle.crif_reader.specs.Growth.{with_entry, noted_at, grown, is_newest, IsApart, IsIndex};
 
 use crate::row::Entry;
+use crif_records::simm_kinds::{CrifRow, Listed, Name, TradeRows};
 use indexmap::IndexMap;
-use simm_kinds::{CrifRow, Listed, Name, TradeRows};
 use std::alloc::{AllocError, Global};
 use std::mem;
 

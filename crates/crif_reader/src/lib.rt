@@ -9,9 +9,7 @@ mod fields;
 mod gather;
 mod names;
 mod params;
-mod plain;
 mod read;
-mod records;
 mod row;
 mod row_stop;
 
@@ -20,5 +18,5 @@ pub use fault::{CrifFault, RowFault};
 pub use read::{ReadBatch, read_batch};
 
 // what the crates above reach through this one
-pub use simm_kinds;
-pub use simm_kinds::mh_units;
+pub use crif_records;
+pub use crif_records::{mh_units, simm_kinds};

@@ -1,12 +1,12 @@
 //! Names in a record.
 ghost use Rattle.std.specs.Prelude.{◌≡◌, IfOk};
-ghost use Rattle.simm_kinds.specs.NameText.{IsName};
+ghost use Rattle.crif_records.specs.SimmKinds.NameText.{IsName};
 ghost use Rattle.crif_reader.specs.Reads.{GivesRow};
 ghost use Rattle.crif_reader.specs.Factor.{full_name_of, name_of};
 
 use crate::RowFault;
 use crate::row_stop::RowStop;
-use simm_kinds::{FullName, Name};
+use crif_records::simm_kinds::{FullName, Name};
 use std::alloc::Global;
 
 /// A name that isn't empty.

@@ -1,12 +1,12 @@
 //! The parameters of add-ons that stood before.
 ghost use Rattle.std.specs.Prelude.{◌≡◌, ◌++◌, ◌∷◌, [], ℕ, List, not, true, IfOk, IsTrue, if◌then◌else◌};
 ghost use Rattle.std.specs.BTreeSet.{contains};
-ghost use Rattle.simm_kinds.specs.Order.{name_cmp, same_name};
-ghost use Rattle.simm_kinds.specs.declared.row.CrifRow.{CrifRow};
+ghost use Rattle.crif_records.specs.SimmKinds.Order.{name_cmp, same_name};
+ghost use Rattle.crif_records.specs.SimmKinds.declared.row.CrifRow.{CrifRow};
 ghost use Rattle.crif_reader.specs.Repeated.{is_repeated};
 ghost use Rattle.crif_reader.specs.Noted.{has_multiplier, with_multiplier, IsNoted};
 
-use simm_kinds::{CrifRow, Name, ProductClass};
+use crif_records::simm_kinds::{CrifRow, Name, ProductClass};
 use std::alloc::{AllocError, Global};
 use std::collections::BTreeSet;
 

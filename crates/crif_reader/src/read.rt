@@ -1,9 +1,9 @@
 ghost use Rattle.std.specs.Prelude.{◌≡◌, ◌++◌, ◌∷◌, [], List, Some, option_map, OnOk};
 ghost use Rattle.crif_reader.specs.Reads.{Gives};
-ghost use Rattle.crif_reader.specs.Reading.{newest, records_left, IsReading};
+ghost use Rattle.crif_records.specs.Reading.{newest, records_left, IsReading};
 ghost use Rattle.crif_reader.specs.Row.{Entry as Placed, row_of};
-ghost use Rattle.simm_kinds.specs.NameText.{IsName};
-ghost use Rattle.simm_kinds.specs.declared.row.CrifRow.{CrifRow};
+ghost use Rattle.crif_records.specs.SimmKinds.NameText.{IsName};
+ghost use Rattle.crif_records.specs.SimmKinds.declared.row.CrifRow.{CrifRow};
 ghost use Rattle.crif_reader.specs.Grammar.{at_record, crif_of, rows_of};
 ghost use Rattle.crif_reader.specs.Growth.{grown, with_entry, IsIndex};
 ghost use Rattle.crif_reader.specs.Noted.{IsNoted};
@@ -12,11 +12,11 @@ ghost use Rattle.crif_reader.specs.Repeated.{once, rows_in};
 use crate::columns::{Columns, columns_of};
 use crate::gather::Gathering;
 use crate::params::Params;
-use crate::records::Records;
 use crate::row::{Entry, row_of};
 use crate::row_stop::RowStop;
 use crate::{CrifFault, RowFault};
-use simm_kinds::{Batch, Listed, TradeRows};
+use crif_records::Records;
+use crif_records::simm_kinds::{Batch, Listed, TradeRows};
 use std::alloc::Global;
 
 /// The number of the first record that is one too many: the header is the first, and 100,000 may follow it.

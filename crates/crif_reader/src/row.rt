@@ -1,9 +1,8 @@
 //! The row of a record.
 ghost use Rattle.std.specs.Prelude.{◌≡◌, IfOk, option_map};
-ghost use Rattle.simm_kinds.specs.Words.{is_word};
 ghost use Rattle.crif_reader.specs.Reads.{GivesRow};
 ghost use Rattle.crif_reader.specs.Fields.{texts};
-ghost use Rattle.crif_reader.specs.Reading.{newest, IsReading};
+ghost use Rattle.crif_records.specs.Reading.{newest, IsReading};
 ghost use Rattle.crif_reader.specs.Row.{trade_of, product_of, amount_text, amount_of, rate_of, sensitivity_of, notional_of, fixed_amount_of, notional_factor_of, multiplier_of, entry_of, is_present_value, typed_of, model_of, row_of};
 
 use crate::RowFault;
@@ -11,10 +10,10 @@ use crate::columns::Columns;
 use crate::factor::factor_of;
 use crate::fields::Fields;
 use crate::names::{read_full_name, read_name};
-use crate::records::Records;
 use crate::row_stop::RowStop;
-use simm_kinds::mh_units::{Cents, Rate4, read_cents, read_rate4};
-use simm_kinds::{CrifRow, FactorKey, Name, ProductClass, RiskType};
+use crif_records::simm_kinds::mh_units::{Cents, Rate4, read_cents, read_rate4};
+use crif_records::simm_kinds::{CrifRow, FactorKey, Name, ProductClass, RiskType};
+use crif_records::{Records, is_word, usd_text};
 use std::alloc::Global;
 
 /// A row, and the name of the trade that it belongs to, which the record lends; it is empty for a parameter of an add-on.
@@ -43,21 +42,11 @@ fn product_of(fields: &Fields) -> Result<ProductClass, RowFault>
     ProductClass::read(fields.product_class).ok_or(RowFault::ProductClass)
 }
 
-fn is_word(word: &str, field: &[u8]) -> bool
-    ensures { result ≡ is_word word.now field.now }
-{
-    field.eq_ignore_ascii_case(word.as_bytes())
-}
-
 /// The amount in USD, as the file has it.
 fn amount_text<'a>(fields: &Fields<'a>) -> &'a [u8]
     ensures { result.now ≡ amount_text (texts fields.now) }
 {
-    if fields.amount_usd.is_empty() && is_word("USD", fields.amount_currency) {
-        fields.amount
-    } else {
-        fields.amount_usd
-    }
+    usd_text(fields.amount_usd, fields.amount_currency, fields.amount)
 }
 
 fn amount_of(fields: &Fields) -> Result<Cents, RowFault>

@@ -30,7 +30,7 @@ use Rattle.crif_reader.specs.SimmKinds.NameText.{is_currency, is_full_name, is_t
 use Rattle.crif_reader.specs.SimmKinds.NameOrder.{comes_before}
 use Rattle.crif_reader.specs.SimmKinds.Pair.{Pair, is_pair}
 use Rattle.crif_reader.specs.SimmKinds.Tenors.{tenor_word}
-use Rattle.crif_reader.specs.Fields.{trimmed, without_leading_spaces}
+use Rattle.crif_reader.specs.CrifRecords.Fields.{trimmed, without_leading_spaces}
 use Rattle.crif_writer.specs.Amounts.{rate_text}
 use Rattle.crif_writer.specs.Parts.{pair_text, IsBucket}
 use Rattle.crif_writer.proofs.Numerals.{IsFixedText, amount_fixed, rate_fixed, decimal_written}

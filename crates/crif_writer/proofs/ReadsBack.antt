@@ -14,7 +14,7 @@ use Rattle.crif_reader.specs.SimmKinds.declared.row.TradeRows.{TradeRows}
 use Rattle.crif_reader.specs.SimmKinds.Batch.{IsBatch, rows_of, repeats, has_repeats, factor_names, multiplied, is_astray, is_misplaced, is_in_range}
 use Rattle.crif_reader.specs.SimmKinds.NameText.{IsName, is_full_name}
 use Rattle.crif_reader.specs.SimmKinds.Order.{same_name, same_product}
-use Rattle.crif_reader.specs.Records.{records_of, delimiter_of}
+use Rattle.crif_reader.specs.CrifRecords.Records.{records_of, delimiter_of}
 use Rattle.crif_reader.specs.Repeated.{rows_in}
 use Rattle.crif_reader.specs.Row.{Entry, row_of}
 use Rattle.crif_reader.specs.Trades.{gathered}

@@ -9,7 +9,7 @@ use Rattle.csv.specs.Reading.{records_from}
 use Rattle.csv.specs.Writing.{escaped, field_text, fields_text, is_blank, needs_byte, row_body, row_text}
 use Rattle.csv.specs.declared.parser.Config.{Config}
 use Rattle.csv.specs.declared.parser.State.TheVariants as st
-use Rattle.crif_reader.specs.Records.{csv_by}
+use Rattle.crif_reader.specs.CrifRecords.Records.{csv_by}
 use Rattle.crif_writer.specs.Text.{tab_writer, records_text}
 
 abbrev pub tab_reader : Config

@@ -1,8 +1,8 @@
 use Rattle.std.proofs.Common.{◌≡◌, ◌∷◌, [], true, false, sym, ap, ◌∙◌}
 use Rattle.std.proofs.lemmas.Result.{err_from_is_err_and}
 use Rattle.crif_reader.specs.Grammar.{crif_of, crif_of_records}
-use Rattle.crif_reader.specs.Reading.{newest, records_left}
-use Rattle.crif_reader.specs.Records.{records_of}
+use Rattle.crif_records.specs.Reading.{newest, records_left}
+use Rattle.crif_records.specs.Records.{records_of}
 use Rattle.crif_reader.proofs.Batches.{batch_of_rows}
 use Rattle.crif_reader.proofs.Runs.{fails_same}
 use Rattle.crif_reader.proofs.read.read_batch.Goals as goal

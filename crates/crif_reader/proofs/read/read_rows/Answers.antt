@@ -3,9 +3,9 @@ use Rattle.std.proofs.lemmas.Bool.{eqb-false, eqb-true}
 use Rattle.std.proofs.lemmas.Result.{err_from_is_err_and}
 use Rattle.crif_reader.specs.declared.fault.CrifFault.TheVariants.{Row}
 use Rattle.crif_reader.specs.Growth.{grown}
-use Rattle.crif_reader.specs.Reading.{newest, records_left}
+use Rattle.crif_records.specs.Reading.{newest, records_left}
 use Rattle.crif_reader.specs.Row.{row_of}
-use Rattle.crif_reader.proofs.Binds.{mapped_ok}
+use Rattle.crif_records.proofs.Binds.{mapped_ok}
 use Rattle.crif_reader.proofs.GoodRows.{good_row}
 use Rattle.crif_reader.proofs.Runs.{way_starts, way_passes, way_takes, way_fails, way_fails_late, way_too_long, way_ends, way_ends_empty}
 use Rattle.crif_reader.proofs.read.read_rows.Goals as goal

@@ -1,5 +1,5 @@
 use Rattle.std.proofs.Common.{◌≤◌, length}
-use Rattle.crif_reader.specs.Reading.{records_left, IsReading}
+use Rattle.crif_records.specs.Reading.{records_left, IsReading}
 use Rattle.crif_reader.specs.Growth.{grown, IsIndex}
 use Rattle.crif_reader.proofs.Runs.{IsUnderWay}
 use Rattle.crif_reader.proofs.read.read_rows.Given as goal

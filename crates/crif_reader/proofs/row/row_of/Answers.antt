@@ -2,10 +2,10 @@ use Rattle.std.proofs.Common.{◌≡◌, false, ltb, length, Option, option_map,
 use Rattle.std.proofs.lemmas.Bool.{le-ltb}
 use Rattle.crif_reader.specs.declared.row_stop.RowStop.{RowStop}
 use Rattle.crif_reader.specs.Fields.{Texts, texts, texts_of, are_text}
-use Rattle.crif_reader.specs.Reading.{newest}
+use Rattle.crif_records.specs.Reading.{newest}
 use Rattle.crif_reader.specs.Reads.{GivesRow}
 use Rattle.crif_reader.specs.Row.{Entry, model_of}
-use Rattle.crif_reader.proofs.Binds.{some_if}
+use Rattle.crif_records.proofs.Binds.{some_if}
 use Rattle.crif_reader.proofs.row.row_of.Goals as goal
 
 of_same : {X : Type 0} (view : X → Option Entry) (read : Result X RowStop) (t u : Texts) → t ≡ u → GivesRow view read (model_of t) → GivesRow view read (model_of u)

@@ -1,7 +1,7 @@
 use Rattle.std.proofs.Common.{◌≡◌, true, ap, sym, ◌∙◌}
 use Rattle.crif_reader.specs.Fields.{texts, texts_of, are_text}
-use Rattle.crif_reader.specs.Reading.{newest}
-use Rattle.crif_reader.proofs.AsciiFields.{ascii_text, some_text}
+use Rattle.crif_records.specs.Reading.{newest}
+use Rattle.crif_reader.proofs.TextFields.{ascii_text, some_text}
 use Rattle.crif_reader.proofs.fields.Fields.read.Goals as goal
 use Rattle.crif_reader.proofs.fields.Fields.read.Goals.{then-is_ascii, else-is_ascii}
 

@@ -1,7 +1,7 @@
 use Rattle.std.proofs.Common.{◌≡◌, ◌≢◌, ◌∷◌, [], ◌++◌, cond, length, Some, set, refl, ap, sym, ◌∙◌, arith}
 use Rattle.std.proofs.lemmas.Result.{on_ok_weaker}
-use Rattle.simm_kinds.specs.Order.{same_name}
-use Rattle.simm_kinds.specs.declared.row.TradeRows.{TradeRows}
+use Rattle.crif_records.specs.SimmKinds.Order.{same_name}
+use Rattle.crif_records.specs.SimmKinds.declared.row.TradeRows.{TradeRows}
 use Rattle.crif_reader.specs.Growth.{noted_at, grown, newest_of, place_of}
 use Rattle.crif_reader.specs.Row.{Entry}
 use Rattle.crif_reader.proofs.Places.{looked_up, found_elsewhere, found_again, place_of-set, apart-set, grown_new, place_of-new}

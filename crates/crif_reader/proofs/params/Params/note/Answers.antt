@@ -1,7 +1,7 @@
 use Rattle.std.proofs.Common.{not, ap, ◌∙◌}
 use Rattle.std.proofs.lemmas.Result.{IfOk-weaker}
 use Rattle.std.specs.BTreeSet.{contains}
-use Rattle.simm_kinds.specs.Order.{name_cmp}
+use Rattle.crif_records.specs.SimmKinds.Order.{name_cmp}
 use Rattle.crif_reader.proofs.NotedRows.{noted_other, noted_factor, noted_multiplier}
 use Rattle.crif_reader.proofs.params.Params.note.Goals as goal
 

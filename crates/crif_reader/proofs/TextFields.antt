@@ -1,0 +1,36 @@
+-- The fields that are read of a record of ASCII bytes are UTF-8.
+use Rattle.std.proofs.Common.{◌≡◌, ℕ, Bool, true, false, cond, [], List, Option, Some, None, refl, ap, ◌∙◌}
+use Rattle.std.specs.List.{AllByRecursion}
+use Rattle.std.specs.Str.{IsAscii, is_utf8}
+use Rattle.std.proofs.lemmas.Str.{is_utf8-from_IsUtf8, IsUtf8-from_ascii}
+use Rattle.std.proofs.lemmas.Str.Ascii.{IsAscii-nil}
+use Rattle.crif_records.proofs.AsciiFields.{text_at_utf8}
+use Rattle.crif_reader.specs.declared.columns.Columns.{Columns}
+use Rattle.crif_reader.specs.Fields.{Texts, text_if, texts_of, are_text, if_text}
+
+text_if_utf8 : (fields : List (List ℕ)) (place : Option ℕ) → AllByRecursion IsAscii fields → is_utf8 (text_if fields place) ≡ true
+text_if_utf8 fields None h = is_utf8-from_IsUtf8 [] (IsUtf8-from_ascii [] IsAscii-nil)
+text_if_utf8 fields (Some place) h = text_at_utf8 fields place h
+
+pub ascii_text : (columns : Columns) (fields : List (List ℕ)) → AllByRecursion IsAscii fields → are_text (texts_of columns fields) ≡ true
+ascii_text columns fields h =
+    rw (
+      text_at_utf8 fields columns.trade_id h,
+      text_at_utf8 fields columns.product_class h,
+      text_at_utf8 fields columns.risk_type h,
+      text_at_utf8 fields columns.qualifier h,
+      text_at_utf8 fields columns.bucket h,
+      text_at_utf8 fields columns.label1 h,
+      text_at_utf8 fields columns.label2 h,
+      text_at_utf8 fields columns.amount h,
+      text_at_utf8 fields columns.amount_currency h,
+      text_at_utf8 fields columns.amount_usd h,
+      text_if_utf8 fields columns.im_model h,
+    ) refl
+
+pub some_text : (t u : Texts) → t ≡ u → are_text u ≡ true → Some t ≡ if_text u
+some_text t u same text = ap Some same ∙ kept (are_text u) u text
+  where
+    kept : (b : Bool) (x : Texts) → b ≡ true → Some x ≡ cond b (Some x) None
+    kept true x h = refl
+    kept false x h = cc

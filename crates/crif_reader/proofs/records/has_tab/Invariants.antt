@@ -1,6 +1,0 @@
-use Rattle.std.proofs.Common.{◌≡◌, drop}
-use Rattle.crif_reader.specs.Records.{has_tab}
-use Rattle.crif_reader.proofs.records.has_tab.Given as goal
-
-abbrev pub invariant-loop-byte : goal.invariant-loop-byte
-invariant-loop-byte l = has_tab (drop l.byte-index l.bytes) ≡ has_tab l.fn.bytes
