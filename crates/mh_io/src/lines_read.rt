@@ -2,7 +2,7 @@ ghost use Rattle.std.specs.Prelude.{◌≡◌, ℕ, ◌+◌, ◌-◌, ◌<◌, �
 ghost use Rattle.mh_io.specs.Lines.{Stop, is_lf, without_cr};
 ghost use Rattle.mh_io.specs.Lined.{Lined, Gave, IsStopped, ComesWhere, IsLineOnly, lines_given, answer_at};
 ghost use Rattle.mh_io.specs.LinesSteps.{HasNoLf, BeginsLine, IsPart, Shows, Reached, TookMore, turns_left, past};
-ghost use Rattle.mh_io.specs.Limits.{most_bytes};
+ghost use Rattle.mh_io.specs.Limits.{most_bytes, line_bytes};
 
 use crate::lines_answer::{Front, LineFault, LineStep, MemoryBack, Supply};
 use crate::lines_window::{LINE_BYTES, Window};
@@ -237,6 +237,15 @@ impl<S: Source> Lines<S> {
         ensures few { result ≤ most_bytes }
     {
         self.given
+    }
+
+    /// How many bytes were taken and belong to no line that was given: never more than the window of 65,536 holds. It takes
+    /// no memory.
+    pub fn ahead(&self) -> u32
+        ensures value { result ≡ length self.now.pending }
+        ensures few { result ≤ line_bytes }
+    {
+        self.window.bytes().len() as u32
     }
 
     /// Hands the source back. It takes no memory.
