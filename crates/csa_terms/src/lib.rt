@@ -25,11 +25,13 @@ mod value;
 pub use due::{DayRange, due_day};
 pub use fault::TermsFault;
 pub use flow::Flow;
+pub use haircut_table::HaircutTable;
+pub use holiday_list::HolidayList;
 pub use lot_currency::LotCurrency;
 pub use moment::Moment;
 pub use moment_words::{push_day, push_moment};
 pub use reading::read_terms;
-pub use set_terms::SetTerms;
+pub use set_terms::{Amounts, SetTerms};
 pub use terms::Terms;
 
 // what the crates above reach through this one

@@ -50,7 +50,7 @@ impl SetTerms {
     ghost use Rattle.csa_terms.specs.SetView.{set_view};
 
     /// The terms of these parts, each in its range. The notification is in minutes from midnight.
-    pub(crate) fn of_parts(
+    pub fn of_parts(
         name: Name,
         amounts: Amounts,
         notification: u16,

@@ -4,7 +4,7 @@ ghost use Rattle.csa_terms.specs.Terms.{AreTerms};
 use crate::set_terms::SetTerms;
 use std::marker::Model;
 
-/// The terms of the netting sets of a file, in its order: one to sixteen, of different names. Contracts see just their
+/// The terms of netting sets, in the order of their file: one to sixteen, of different names. Contracts see just their
 /// list.
 #[derive(Drop)]
 pub struct Terms {
@@ -24,7 +24,7 @@ impl Model for Terms {
 
 impl Terms {
     /// The terms of these sets.
-    pub(crate) fn from_sets(sets: Vec<SetTerms>) -> Terms
+    pub fn from_sets(sets: Vec<SetTerms>) -> Terms
         requires { AreTerms sets.items }
         ensures { result ≡ sets.items }
     {
