@@ -8,3 +8,4 @@ pub mod Met
 pub mod Jobs
 pub mod Share
 pub mod SetsRun
+pub use Rattle.feed_reader.specs as FeedReader

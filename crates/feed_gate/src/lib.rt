@@ -22,3 +22,6 @@ pub use jobs::run_feeds;
 pub use report::{FeedEnd, FeedReport, RefusedMessage};
 pub use sets_run::{SetsRun, run_on_sets};
 pub use start::make_sets;
+
+// what the crates above reach through this one
+pub use feed_reader;

@@ -15,6 +15,7 @@ mod words;
 pub use fault::FeedFault;
 pub use message::{Fed, Message};
 pub use read::next_message;
+pub use values::number_in;
 
 // what the crates above reach through this one
 pub use csa_terms;

@@ -16,8 +16,8 @@ pub(crate) fn cents_in(field: &[u8]) -> Option<i64>
     }
 }
 
-/// A number from 1 in decimal, without a sign or a leading zero.
-pub(crate) fn number_in(field: &[u8]) -> Option<u32>
+/// A number from 1 to 4,294,967,295 in decimal, without a sign or a leading zero; `None` of another text. It takes no memory.
+pub fn number_in(field: &[u8]) -> Option<u32>
     ensures { result ≡ number field.now }
 {
     let [b'1'..=b'9', ..] = field else {
