@@ -195,13 +195,13 @@ cached_none live none fresh = record {
 
 -- ---- a set
 
-abbrev pub seen : Live → Agreement → Log → Set
-seen live t log = record { params = live.params; terms = t; journal = log; is_fresh = live.is_fresh; kept = live.kept.values }
+abbrev pub seen : Live → Agreement → Log → ℕ → Set
+seen live t log spare = record { params = live.params; terms = t; journal = log; is_fresh = live.is_fresh; kept = live.kept.values; spare = spare }
 
-pub keeps_more : (old : Set) (was new : Live) (t u : Agreement) (log longer : Log) → seen was t log ≡ old → traded new ≡ traded was → u ≡ t → longer ≡ log → StaysKept was new → KeepsMore old (seen new u longer)
-keeps_more old was new t u log longer is same terms journal stays =
-    subst (λ (s : Set). KeepsMore s (seen new u longer)) is (record {
-      stands = λ i. record { params = (same i).params; terms = terms i; journal = journal i; is_fresh = new.is_fresh; kept = new.kept.values };
+pub keeps_more : (old : Set) (was new : Live) (t u : Agreement) (log longer : Log) (spare : ℕ) → seen was t log spare ≡ old → traded new ≡ traded was → u ≡ t → longer ≡ log → StaysKept was new → KeepsMore old (seen new u longer spare)
+keeps_more old was new t u log longer spare is same terms journal stays =
+    subst (λ (s : Set). KeepsMore s (seen new u longer spare)) is (record {
+      stands = λ i. record { params = (same i).params; terms = terms i; journal = journal i; is_fresh = new.is_fresh; kept = new.kept.values; spare = spare };
       fresh = stays.fresh;
       cached = stays.cached;
     })

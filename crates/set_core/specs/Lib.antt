@@ -9,6 +9,8 @@ pub mod Ledger
 pub mod Live
 pub mod Kept
 pub mod Cached
+pub mod Homes
+pub mod Reserved
 pub mod Text
 pub use Rattle.bucket_cache.specs.SimmRules as SimmRules
 pub use Rattle.held_cell.specs as HeldCell

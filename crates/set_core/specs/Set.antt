@@ -1,5 +1,5 @@
 -- A netting set as it is seen: what it works on, its journal, and what is kept of its margin.
-use Rattle.std.specs.Prelude.{◌≡◌, ℕ, ◌≤◌, List, [], ◌∷◌, ◌++◌, length, Bool, true, false, Option, None, zero, suc, slice_get}
+use Rattle.std.specs.Prelude.{◌≡◌, ℕ, ◌-◌, ◌≤◌, List, [], ◌∷◌, ◌++◌, length, Bool, true, false, Option, None, zero, suc, slice_get}
 use Rattle.collateral_ledger.specs.SimmKinds.declared.kinds.Measure.{Measure}
 use Rattle.collateral_ledger.specs.SimmKinds.Batch.{rows_of}
 use Rattle.bucket_cache.specs.SimmRules.Params.{Params}
@@ -20,17 +20,18 @@ use Rattle.set_core.specs.Cached.{rows_moved_by, moves_trades, is_kept, is_known
 use Rattle.set_core.specs.Room.{journal_rows, is_full}
 
 -- the parameters of its margins, the terms of its agreement, and all calls with their answers; whether its margin is known, and the
--- values of buckets that are kept
+-- values of buckets that are kept; for how many entries more room was put by
 pub record Set : Type 0 where
   pub params : Params
   pub terms : Agreement
   pub journal : List (Entry Event Reply)
   pub is_fresh : Bool
   pub kept : List (Place × KeptValue)
+  pub spare : ℕ
 
--- a set before its first call: the margin of no trades is known, and no value of a bucket is kept
+-- a set before its first call: the margin of no trades is known, no value of a bucket is kept, and no room was put by
 abbrev pub start : Params → Agreement → Set
-start p t = record { params = p; terms = t; journal = []; is_fresh = true; kept = [] }
+start p t = record { params = p; terms = t; journal = []; is_fresh = true; kept = []; spare = 0 }
 
 -- what it works on, which no event changes
 abbrev pub base_of : Set → Params × Agreement
@@ -42,12 +43,13 @@ abbrev pub cached_after : Set → Event → Reply → BucketAt → Measure → B
 cached_after s event reply at measure =
     is_kept (is_cached s.kept at measure) (touches at measure (rows_moved_by (book s.journal) event)) (touches at measure (rows_of (book s.journal))) reply
 
--- the set after an event that was answered, by what is kept of its buckets then
+-- the set after an event that was answered, by what is kept of its buckets then; its entry takes of the room that was put by
 abbrev pub with_entry : Set → ℕ → Event → Reply → List (Place × KeptValue) → Set
 with_entry s caller event reply kept = record s {
   journal = s.journal ++ entry caller event reply ∷ [];
   is_fresh = is_known s.is_fresh (moves_trades event) reply;
   kept = kept;
+  spare = s.spare - 1;
 }
 
 -- What an event that is answered does: its answer by the written rule joins the journal, which had room.

@@ -1,6 +1,7 @@
 //! What a live margin and a ledger make of an event, each kind by a function of its own.
-ghost use Rattle.std.specs.Prelude.{◌≡◌, ◌≤◌, IfOk, OnErr};
+ghost use Rattle.std.specs.Prelude.{◌≡◌, ◌+◌, ◌<◌, ◌≤◌, true, IfOk, IsOk, OnErr};
 ghost use Rattle.collateral_ledger.specs.SimmKinds.Batch.{rows_of};
+ghost use Rattle.set_core.specs.Reserved.{is_at_hand, LeavesRoom};
 ghost use Rattle.set_core.specs.Live.{Caches, Does, StaysKept, traded};
 ghost use Rattle.collateral_ledger.specs.Holdings.{Holdings};
 ghost use Rattle.set_core.specs.declared.event.Event.TheVariants as events;
@@ -8,6 +9,7 @@ ghost use Rattle.set_core.specs.declared.event.Event.TheVariants as events;
 use crate::asking::ask_margin;
 use crate::calling::ask_call;
 use crate::collateral::{close, mark, put, take};
+use crate::put_by::PutBy;
 use crate::{Event, Refusal, Reply, SharedMargin};
 use bucket_cache::{LiveMargin, SubmitFault, WithdrawFault};
 use collateral_ledger::Ledger;
@@ -19,6 +21,7 @@ pub(crate) fn answer_twice(
     alloc: Global,
     live: &mut LiveMargin,
     ledger: &mut Ledger,
+    put_by: &mut PutBy,
     event: &Event,
 ) -> Result<(Reply, Reply), AllocError>
     requires { ledger.old.added ≤ 65535 }
@@ -28,9 +31,14 @@ pub(crate) fn answer_twice(
     ensures trades { OnErr result (traded live.new ≡ traded live.old) }
     ensures stays { OnErr result (StaysKept live.old live.new) }
     ensures collateral { OnErr result (ledger.new ≡ ledger.old) }
+
+    // a margin takes room that was put by where there is no memory for it
+    ensures room { 1 < put_by.old → is_at_hand live.old.is_fresh event.now ≡ true → IsOk result }
+    ensures taken { put_by.old ≤ put_by.new + 2 }
+    ensures none_taken { OnErr result (1 < put_by.old → put_by.new ≡ put_by.old) }
 {
-    let reply = answer(alloc, live, ledger, event)?;
-    let kept = reply.share(alloc)?;
+    let reply = answer(alloc, live, ledger, put_by, event)?;
+    let kept = reply.share(put_by)?;
     Ok((reply, kept))
 }
 
@@ -40,6 +48,7 @@ fn answer(
     alloc: Global,
     live: &mut LiveMargin,
     ledger: &mut Ledger,
+    put_by: &mut PutBy,
     event: &Event,
 ) -> Result<Reply, AllocError>
     requires { ledger.old.added ≤ 65535 }
@@ -48,6 +57,9 @@ fn answer(
     ensures trades { OnErr result (traded live.new ≡ traded live.old) }
     ensures stays { OnErr result (StaysKept live.old live.new) }
     ensures collateral { OnErr result (ledger.new ≡ ledger.old) }
+
+    ensures room { 0 < put_by.old → is_at_hand live.old.is_fresh event.now ≡ true → IsOk result }
+    ensures left { LeavesRoom 1 put_by.old put_by.new result }
 {
     match event {
         Event::Submit(batch) => submit(alloc, live, batch),
@@ -63,7 +75,7 @@ fn answer(
         Event::CloseCall { number } => close(ledger, *number),
         Event::AskMargin => {
             let parts = ask_margin(alloc, live)?;
-            Ok(Reply::Margin(SharedMargin::new(alloc, parts)?))
+            Ok(Reply::Margin(SharedMargin::make(alloc, put_by, parts)?))
         }
         Event::AskCall { moment } => ask_call(alloc, live, ledger, *moment),
     }

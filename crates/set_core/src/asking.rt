@@ -1,5 +1,5 @@
 //! The margin of a set's trades.
-ghost use Rattle.std.specs.Prelude.{◌≡◌, ◌^◌, ◌<◌, IfOk, OnOk, pos, ◌≤ℤ◌, ◌<ℤ◌};
+ghost use Rattle.std.specs.Prelude.{◌≡◌, ◌^◌, ◌<◌, IfOk, IsOk, OnOk, true, pos, ◌≤ℤ◌, ◌<ℤ◌};
 ghost use Rattle.collateral_ledger.specs.SimmKinds.Batch.{rows_of};
 ghost use Rattle.bucket_cache.specs.SimmRules.Simm.{simm};
 ghost use Rattle.set_core.specs.Live.{IsWorkedOut, StaysKept, traded};
@@ -12,7 +12,8 @@ use std::marker::Brand;
 use std::sync::ledger::{Blank, Ledger};
 
 /// The margin of the current trades, with all of its parts: its total is from 0 to below 10^21 cents. It is known then, and all
-/// values of buckets are kept. What was kept is kept, for want of memory, the only error, too; the trades stand.
+/// values of buckets are kept. What was kept is kept, for want of memory, the only error, too; the trades stand. A margin that
+/// is known takes no memory.
 pub(crate) fn ask_margin(alloc: Global, live: &mut LiveMargin) -> Result<Breakdown, AllocError>
     ensures value { IfOk result (λ b. b ≡ simm live.old.params (rows_of live.old.book)) }
     ensures total_from { IfOk result (λ b. pos 0 ≤ℤ b.total.0) }
@@ -20,6 +21,7 @@ pub(crate) fn ask_margin(alloc: Global, live: &mut LiveMargin) -> Result<Breakdo
     ensures trades { traded live.new ≡ traded live.old }
     ensures all { OnOk result (IsWorkedOut live.new) }
     ensures stays { StaysKept live.old live.new }
+    ensures at_once { live.old.is_fresh ≡ true → IsOk result }
 {
     ask_counted::<Brand>(alloc, live, Blank::new(1))
 }
@@ -39,6 +41,7 @@ fn ask_counted<L: Ledger>(
     ensures trades { traded live.new ≡ traded live.old }
     ensures all { OnOk result (IsWorkedOut live.new) }
     ensures stays { StaysKept live.old live.new }
+    ensures at_once { live.old.is_fresh ≡ true → IsOk result }
 {
     let mut steps = Steps::<L>::new(blank);
     live.margin(alloc, &mut steps)

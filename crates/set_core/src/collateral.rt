@@ -1,5 +1,5 @@
 //! What a ledger makes of an event of a lot, or of a call that is closed.
-ghost use Rattle.std.specs.Prelude.{◌≡◌, Some, IfOk, OnErr, IsErr};
+ghost use Rattle.std.specs.Prelude.{◌≡◌, Some, Err, IfOk, IsOk, OnErr};
 ghost use Rattle.set_core.specs.Ledger.{Replies, refusal_of};
 ghost use Rattle.set_core.specs.Live.{Traded, Does};
 ghost use Rattle.set_core.specs.declared.event.Event.TheVariants as events;
@@ -27,7 +27,7 @@ pub(crate) fn put(
 
 pub(crate) fn take(ledger: &mut Ledger, lot: &Name) -> Result<Reply, AllocError>
     ensures does { IfOk result (λ reply. (l : Traded) → Does l l ledger.old ledger.new (events.TakeLot lot.now) reply) }
-    ensures unchanged { OnErr result (ledger.new ≡ ledger.old) }
+    ensures at_once { IsOk result }
 {
     let change = ledger.take_lot(lot);
     reply_to(change)
@@ -35,7 +35,7 @@ pub(crate) fn take(ledger: &mut Ledger, lot: &Name) -> Result<Reply, AllocError>
 
 pub(crate) fn mark(ledger: &mut Ledger, lot: &Name, value: i64) -> Result<Reply, AllocError>
     ensures does { IfOk result (λ reply. (l : Traded) → Does l l ledger.old ledger.new (events.MarkLot lot.now value) reply) }
-    ensures unchanged { OnErr result (ledger.new ≡ ledger.old) }
+    ensures at_once { IsOk result }
 {
     let change = ledger.mark_lot(lot, value);
     reply_to(change)
@@ -43,7 +43,7 @@ pub(crate) fn mark(ledger: &mut Ledger, lot: &Name, value: i64) -> Result<Reply,
 
 pub(crate) fn close(ledger: &mut Ledger, number: u32) -> Result<Reply, AllocError>
     ensures does { IfOk result (λ reply. (l : Traded) → Does l l ledger.old ledger.new (events.CloseCall number) reply) }
-    ensures unchanged { OnErr result (ledger.new ≡ ledger.old) }
+    ensures at_once { IsOk result }
 {
     let change = ledger.close_call(number);
     reply_to(change)
@@ -52,7 +52,7 @@ pub(crate) fn close(ledger: &mut Ledger, number: u32) -> Result<Reply, AllocErro
 /// The reply to a change of a ledger.
 fn reply_to(change: Result<(), LedgerFault>) -> Result<Reply, AllocError>
     ensures reply { IfOk result (λ reply. Replies change reply) }
-    ensures err { OnErr result (IsErr change) }
+    ensures memory { OnErr result (change ≡ Err LedgerFault.Memory) }
 {
     match change {
         Ok(()) => Ok(Reply::Accepted),
@@ -62,7 +62,8 @@ fn reply_to(change: Result<(), LedgerFault>) -> Result<Reply, AllocError>
 
 /// The refusal that a fault is; want of memory is none.
 fn refusal_of(fault: LedgerFault) -> Result<Refusal, AllocError>
-    ensures { IfOk result (λ why. refusal_of fault ≡ Some why) }
+    ensures why { IfOk result (λ why. refusal_of fault ≡ Some why) }
+    ensures memory { OnErr result (fault ≡ LedgerFault.Memory) }
 {
     match fault {
         LedgerFault::LotKnown => Ok(Refusal::LotKnown),

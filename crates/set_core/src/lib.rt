@@ -10,6 +10,7 @@ mod calling;
 mod collateral;
 mod event;
 mod machine;
+mod put_by;
 mod refusal;
 mod reply;
 mod reply_words;

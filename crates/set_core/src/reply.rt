@@ -1,9 +1,11 @@
-ghost use Rattle.std.specs.Prelude.{◌≡◌, IfOk, OnErr};
+ghost use Rattle.std.specs.Prelude.{◌≡◌, ◌<◌, IfOk, IsOk, OnErr};
 ghost use Rattle.bucket_cache.specs.SimmRules.declared.values.Breakdown.{Breakdown};
+ghost use Rattle.set_core.specs.Reserved.{LeavesRoom};
 ghost use Rattle.set_core.specs.declared.reply.Reply.TheVariants as replies;
 
+use crate::put_by::PutBy;
 use crate::{CallNote, Event, Refusal, SharedMargin};
-use std::alloc::{AllocError, Global};
+use std::alloc::AllocError;
 
 /// What an event was answered.
 #[derive(Drop)]
@@ -30,15 +32,17 @@ impl Reply {
     ///
     /// # Errors
     ///
-    /// For want of memory alone, at a margin.
-    pub(crate) fn share(&self, alloc: Global) -> Result<Reply, AllocError>
+    /// For want of memory alone, at a margin, where no room was put by.
+    pub(crate) fn share(&self, put_by: &mut PutBy) -> Result<Reply, AllocError>
         ensures value { IfOk result (λ reply. reply ≡ self.now) }
         ensures margin { OnErr result ((b : Breakdown) × (self.now ≡ replies.Margin b)) }
+        ensures room { 0 < put_by.old → IsOk result }
+        ensures left { LeavesRoom 1 put_by.old put_by.new result }
     {
         let shared = match self {
             Reply::Accepted => Reply::Accepted,
             Reply::Refused(refusal) => Reply::Refused(*refusal),
-            Reply::Margin(margin) => Reply::Margin(margin.share(alloc)?),
+            Reply::Margin(margin) => Reply::Margin(margin.share(put_by)?),
             Reply::Called(note) => Reply::Called(*note),
             Reply::NoCall {
                 excess,

@@ -1,4 +1,4 @@
-ghost use Rattle.std.specs.Prelude.{◌≡◌, true, length, map, None, Some, IfOk, IfErr};
+ghost use Rattle.std.specs.Prelude.{◌≡◌, ◌<◌, true, false, length, max, None, Some, IfOk, IfErr, OnOk, OnErr};
 ghost use Rattle.std.specs.Option.{option_copied};
 ghost use Rattle.collateral_ledger.specs.SimmKinds.declared.kinds.Measure.{Measure};
 ghost use Rattle.bucket_cache.specs.FactorBook.declared.at.BucketAt.{BucketAt};
@@ -7,9 +7,11 @@ ghost use Rattle.set_core.specs.Book.{book};
 ghost use Rattle.set_core.specs.Cached.{is_margin_known, is_value_known};
 ghost use Rattle.held_cell.specs.Halts.{Explains};
 ghost use Rattle.set_core.specs.Room.{journal_rows, event_rows, is_full_for, IsFull};
+ghost use Rattle.set_core.specs.Reserved.{is_reserved, is_want};
 ghost use Rattle.set_core.specs.Set.{IsSet, IsAnswered, Leaves, start, entry_at};
 
 use crate::answering::answer_twice;
+use crate::put_by::PutBy;
 use crate::{Entry, Event, Halt, Reply};
 use bucket_cache::LiveMargin;
 use bucket_cache::simm_params::Params;
@@ -19,7 +21,8 @@ use std::alloc::{AllocError, Global};
 use std::marker::Model;
 
 /// A netting set: what it works on, its current trades, its lots and outstanding calls, and the journal of its calls. Contracts see the parameters, the
-/// terms, the journal, and of what is kept of its margin whether it is known and the values of buckets; all else is the written rule over the journal.
+/// terms, the journal, for how many entries more room was put by, and of what is kept of its margin whether it is known and the values of buckets; all
+/// else is the written rule over the journal.
 /// It keeps the allocator that it was made with.
 #[derive(Drop)]
 pub struct SetState {
@@ -28,6 +31,9 @@ pub struct SetState {
     ledger: Ledger,
     journal: Vec<Entry>,
     rows: u32,
+    // for how many entries room was put by, and that for the parts of their margins
+    spare: u32,
+    put_by: PutBy,
 }
 
 impl Model for SetState {
@@ -35,6 +41,8 @@ impl Model for SetState {
     ghost use Rattle.set_core.specs.Kept.{IsKept};
     ghost use Rattle.set_core.specs.Cached.{AreCached};
     ghost use Rattle.set_core.specs.Live.{traded};
+    ghost use Rattle.std.specs.Prelude.{vec_len, vec_capacity};
+    ghost use Rattle.set_core.specs.Reserved.{HasRoom};
 
     ghost Value = { Set };
 
@@ -44,9 +52,11 @@ impl Model for SetState {
       journal = s.journal.items;
       is_fresh = s.live.is_fresh;
       kept = s.live.kept.values;
+      spare = s.spare;
     } };
 
-    ghost invariant = { λ s. IsKept (traded s.live) s.ledger s.rows s.journal.items × AreCached s.live s.journal.items };
+    ghost invariant = { λ s. IsKept (traded s.live) s.ledger s.rows s.journal.items × AreCached s.live s.journal.items
+        × HasRoom s.spare s.put_by (vec_len s.journal) (vec_capacity s.journal) };
 }
 
 /// How many entries a journal has at most.
@@ -71,6 +81,8 @@ impl SetState {
             ledger: Ledger::new(alloc, terms),
             journal: Vec::new(alloc),
             rows: 0,
+            spare: 0,
+            put_by: PutBy::new(alloc),
         })
     }
 
@@ -89,6 +101,7 @@ impl SetState {
         ensures answered { IfOk result (IsAnswered self.old self.new caller event) }
         ensures halt { IfErr result (Explains journal_rows IsFull self.old.journal event) }
         ensures unchanged { IfErr result (Leaves self.old self.new) }
+        ensures reserved { 0 < self.old.spare → is_reserved self.old.journal event ≡ true → IfErr result (λ halt. is_want halt ≡ false) }
     {
         event.facts();
         let rows = event.row_count();
@@ -102,17 +115,41 @@ impl SetState {
         if self.journal.reserve(1).is_err() {
             return Err(Halt::Memory { event });
         }
-        let answers = answer_twice(self.alloc, &mut self.live, &mut self.ledger, &event);
+        let answers = answer_twice(
+            self.alloc,
+            &mut self.live,
+            &mut self.ledger,
+            &mut self.put_by,
+            &event,
+        );
         let Ok((reply, kept)) = answers else {
             return Err(Halt::Memory { event });
         };
         self.rows += rows as u32;
+        self.spare = self.spare.saturating_sub(1);
         self.journal.push_reserved(Entry {
             caller,
             event,
             reply: kept,
         });
         Ok(reply)
+    }
+
+    /// Puts room by for this many entries at least. While there is any, of which each event that is answered takes one entry's, no
+    /// event is answered want of memory that takes or marks a lot, closes a call, or asks the margin where no accepted event moved
+    /// trades since it was last answered, or since the set was made.
+    ///
+    /// # Errors
+    ///
+    /// For want of memory alone. Then the set stands.
+    pub fn reserve_entries(&mut self, count: u32) -> Result<(), AllocError>
+        ensures room { OnOk result (self.new ≡ record self.old { spare = max self.old.spare count }) }
+        ensures unchanged { OnErr result (self.new ≡ self.old) }
+    {
+        self.journal.reserve(count as usize)?;
+        self.put_by.grow(self.alloc, 2 * count as usize)?;
+        self.spare = self.spare.max(count);
+        Ok(())
     }
 
     /// What each set keeps: its journal is legal, and within its limits. It does nothing.
@@ -134,6 +171,13 @@ impl SetState {
         ensures { result ≡ journal_rows self.now.journal }
     {
         self.rows
+    }
+
+    /// For how many entries more room was put by.
+    pub fn spare(&self) -> u32
+        ensures { result ≡ self.now.spare }
+    {
+        self.spare
     }
 
     /// The entry at a place of the journal, from 1; `None` where there is none.

@@ -10,10 +10,10 @@ use Rattle.set_core.proofs.Demands.{on_err}
 use Rattle.set_core.proofs.Changes.{beside}
 use Rattle.set_core.proofs.answering.answer.Goals as goal
 
-pub returns-in_ok-new-in-AskMargin-clause-does : goal.returns-in_ok-new-in-AskMargin-clause-does
-returns-in_ok-new-in-AskMargin-clause-does c =
-    subst (λ e. Does (traded c.args.live.now) (traded c.ask_margin.new.live) c.args.ledger.now c.args.ledger.now e (reply.Margin c.in_ok-new-in-AskMargin.field-0)) (sym c.in-AskMargin.is)
-    (record { value = ap reply.Margin (c.in_ok-new-in-AskMargin.ensures ∙ c.in_ok-parts-in-AskMargin.ensures.value); live = c.in_ok-parts-in-AskMargin.ensures.trades; ledger = refl })
+pub returns-in_ok-make-in-AskMargin-clause-does : goal.returns-in_ok-make-in-AskMargin-clause-does
+returns-in_ok-make-in-AskMargin-clause-does c =
+    subst (λ e. Does (traded c.args.live.now) (traded c.ask_margin.new.live) c.args.ledger.now c.args.ledger.now e (reply.Margin c.in_ok-make-in-AskMargin.field-0)) (sym c.in-AskMargin.is)
+    (record { value = ap reply.Margin (c.in_ok-make-in-AskMargin.ensures.value ∙ c.in_ok-parts-in-AskMargin.ensures.value); live = c.in_ok-parts-in-AskMargin.ensures.trades; ledger = refl })
 
 pub returns-in-PutLot-clause-does : goal.returns-in-PutLot-clause-does
 returns-in-PutLot-clause-does c =
@@ -39,14 +39,14 @@ returns-in-CloseCall-clause-does c =
     subst (λ e. IfOk c.close.result (λ r. Does (traded c.args.live.now) (traded c.args.live.now) c.args.ledger.now c.close.new.ledger e r)) (sym c.in-CloseCall.is)
     (beside c.args.ledger.now c.close.new.ledger (traded c.args.live.now) (event.CloseCall c.in-CloseCall.number) c.close.result c.close.ensures.does)
 
-pub returns-in_ok-new-in-AskMargin-clause-caches : goal.returns-in_ok-new-in-AskMargin-clause-caches
-returns-in_ok-new-in-AskMargin-clause-caches c =
-    caches_all c.args.live.now c.ask_margin.new.live c.args.event.now (reply.Margin c.in_ok-new-in-AskMargin.field-0) refl c.in_ok-parts-in-AskMargin.ensures.trades
+pub returns-in_ok-make-in-AskMargin-clause-caches : goal.returns-in_ok-make-in-AskMargin-clause-caches
+returns-in_ok-make-in-AskMargin-clause-caches c =
+    caches_all c.args.live.now c.ask_margin.new.live c.args.event.now (reply.Margin c.in_ok-make-in-AskMargin.field-0) refl c.in_ok-parts-in-AskMargin.ensures.trades
     c.in_ok-parts-in-AskMargin.ensures.all c.in_ok-parts-in-AskMargin.ensures.stays
 
-pub returns-in_err-new-in-AskMargin-clause-stays : goal.returns-in_err-new-in-AskMargin-clause-stays
-returns-in_err-new-in-AskMargin-clause-stays c =
-    on_err c.from_residual-in_err-new-in-AskMargin.result c.in_ok-parts-in-AskMargin.ensures.stays
+pub returns-in_err-make-in-AskMargin-clause-stays : goal.returns-in_err-make-in-AskMargin-clause-stays
+returns-in_err-make-in-AskMargin-clause-stays c =
+    on_err c.from_residual-in_err-make-in-AskMargin.result c.in_ok-parts-in-AskMargin.ensures.stays
 
 pub returns-in-PutLot-clause-caches : goal.returns-in-PutLot-clause-caches
 returns-in-PutLot-clause-caches c =

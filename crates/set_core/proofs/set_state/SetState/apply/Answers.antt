@@ -1,4 +1,4 @@
-use Rattle.std.proofs.Common.{rules, ◌≡◌, refl, sym, ap, ◌∙◌, subst, ◌+◌, List, ◌++◌, ◌∷◌, [], false}
+use Rattle.std.proofs.Common.{rules, arith, ◌≡◌, refl, sym, ap, ◌∙◌, subst, ◌+◌, ◌-◌, List, ◌++◌, ◌∷◌, [], false}
 use Rattle.held_cell.specs.Entries.{entry}
 use Rattle.set_core.specs.Kept.{IsKept}
 use Rattle.collateral_ledger.specs.SimmKinds.declared.row.TradeRows.{TradeRows}
@@ -27,15 +27,22 @@ pushed c =
     c.push_reserved.ensures.items ∙ ap (λ log. log ++ entry c.args.caller c.args.event c.in-Ok.kept ∷ []) c.reserve.ensures.items
     ∙ ap (λ r. c.self.inside.journal.items ++ entry c.args.caller c.args.event r ∷ []) c.in-Ok.ensures.same
 
+left : (c : goal.After-push_reserved) → c.saturating_sub-self-inside.result ≡ c.self.inside.spare - 1
+left c = c.saturating_sub-self-inside.ensures
+
 pub invariant_of-self-2 : goal.invariant_of-self-2
 invariant_of-self-2 c = (
   subst (λ log. IsKept (traded c.answer_twice-answers.new.live) c.answer_twice-answers.new.ledger (c.self.inside.rows + c.row_count-rows.result) log) (sym (pushed c))
       (subst (λ n. IsKept (traded c.answer_twice-answers.new.live) c.answer_twice-answers.new.ledger (c.self.inside.rows + n) (c.self.inside.journal.items ++ entry c.args.caller c.args.event c.in-Ok.reply ∷ [])) (sym c.row_count-rows.ensures) (it c).kept),
   subst (AreCached c.answer_twice-answers.new.live) (sym (pushed c))
       (cached_next c.self.inside.live c.answer_twice-answers.new.live c.args.caller c.self.inside.journal.items c.args.event c.in-Ok.reply c.self.invariant.0.book c.self.invariant.1 c.in-Ok.ensures.caches),
+  record {
+    entries = omega (arith, left c, c.push_reserved.ensures.len, c.push_reserved.ensures.capacity, c.reserve.ensures.len, c.reserve.ensures.capacity, c.self.invariant.2.entries, c.push_reserved.new.self.ok.0);
+    margins_twice = omega (arith, left c, c.answer_twice-answers.ensures.taken, c.self.invariant.2.margins_twice);
+  },
 )
 
-answered : (c : goal.After-push_reserved) → IsAnswered (seen c.self.inside.live c.self.inside.ledger.terms c.self.inside.journal.items) (seen c.answer_twice-answers.new.live c.answer_twice-answers.new.ledger.terms c.push_reserved.new.self.items) c.args.caller c.args.event c.in-Ok.reply
+answered : (c : goal.After-push_reserved) → IsAnswered (seen c.self.inside.live c.self.inside.ledger.terms c.self.inside.journal.items c.self.inside.spare) (seen c.answer_twice-answers.new.live c.answer_twice-answers.new.ledger.terms c.push_reserved.new.self.items c.saturating_sub-self-inside.result) c.args.caller c.args.event c.in-Ok.reply
 answered c = record {
   room = had_room c;
   value = (it c).value;
@@ -45,6 +52,7 @@ answered c = record {
     journal = pushed c i;
     is_fresh = c.in-Ok.ensures.caches.fresh i;
     kept = c.answer_twice-answers.new.live.kept.values;
+    spare = left c i;
   };
   cached = λ at measure.
       c.in-Ok.ensures.caches.cached at measure
@@ -54,14 +62,14 @@ answered c = record {
 
 pub returns-clause-answered : goal.returns-clause-answered
 returns-clause-answered c =
-    subst (λ (s : Set). IsAnswered s (seen c.answer_twice-answers.new.live c.answer_twice-answers.new.ledger.terms c.push_reserved.new.self.items) c.args.caller c.args.event c.in-Ok.reply) c.self.view_is (answered c)
+    subst (λ (s : Set). IsAnswered s (seen c.answer_twice-answers.new.live c.answer_twice-answers.new.ledger.terms c.push_reserved.new.self.items c.saturating_sub-self-inside.result) c.args.caller c.args.event c.in-Ok.reply) c.self.view_is (answered c)
 
 pub returns-then-is_err-clause-unchanged : goal.returns-then-is_err-clause-unchanged
 returns-then-is_err-clause-unchanged c =
-    keeps_more c.args.self.now c.self.inside.live c.self.inside.live c.self.inside.ledger.terms c.self.inside.ledger.terms c.self.inside.journal.items c.reserve.new.self.items
+    keeps_more c.args.self.now c.self.inside.live c.self.inside.live c.self.inside.ledger.terms c.self.inside.ledger.terms c.self.inside.journal.items c.reserve.new.self.items c.self.inside.spare
     c.self.view_is refl refl c.reserve.ensures.items (stays_same c.self.inside.live c.self.inside.live refl)
 
 pub returns-in_default-clause-unchanged : goal.returns-in_default-clause-unchanged
 returns-in_default-clause-unchanged c =
-    keeps_more c.args.self.now c.self.inside.live c.answer_twice-answers.new.live c.self.inside.ledger.terms c.answer_twice-answers.new.ledger.terms c.self.inside.journal.items c.reserve.new.self.items
+    keeps_more c.args.self.now c.self.inside.live c.answer_twice-answers.new.live c.self.inside.ledger.terms c.answer_twice-answers.new.ledger.terms c.self.inside.journal.items c.reserve.new.self.items c.self.inside.spare
     c.self.view_is c.in_default.ensures.trades (ap (λ (held : Holdings). held.terms) c.in_default.ensures.collateral) c.reserve.ensures.items c.in_default.ensures.stays

@@ -1,4 +1,4 @@
-use Rattle.std.proofs.Common.{[], refl, sym, subst}
+use Rattle.std.proofs.Common.{[], refl, sym, subst, arith}
 use Rattle.bucket_cache.specs.SimmRules.Params.{Params}
 use Rattle.collateral_ledger.specs.CsaTerms.Terms.{Agreement}
 use Rattle.collateral_ledger.specs.Holdings.{Holdings}
@@ -31,6 +31,7 @@ invariant_of-result c = (
       (subst (λ (held : Holdings). IsKept (live_none c.args.params) held 0 c.new-3.result.items) (sym c.new-2.ensures)
       (subst (λ (log : Log). IsKept (live_none c.args.params) (held_none c.args.terms) 0 log) (sym c.new-3.ensures.items) (kept_none c.args.params c.args.terms))),
   subst (λ (log : Log). AreCached c.in_ok-live.live log) (sym c.new-3.ensures.items) (cached_none c.in_ok-live.live c.in_ok-live.ensures.book c.in_ok-live.ensures.fresh),
+  record { entries = omega (arith, c.new-3.result.ok.0, c.new-3.ensures.len); margins_twice = omega arith },
 )
 
 pub returns : goal.returns
@@ -40,4 +41,5 @@ returns c = λ i. record {
   journal = c.new-3.ensures.items i;
   is_fresh = c.in_ok-live.ensures.fresh i;
   kept = c.in_ok-live.ensures.none i;
+  spare = 0;
 }
