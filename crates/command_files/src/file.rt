@@ -10,11 +10,7 @@ use std::alloc::Global;
 /// # Errors
 ///
 /// The file is missing, unread or too long, each only where it is so; or memory ran out.
-pub(crate) fn read_file<F: Folder>(
-    alloc: Global,
-    folder: &mut F,
-    name: &str,
-) -> Result<Bytes, FileFault>
+pub fn read_file<F: Folder>(alloc: Global, folder: &mut F, name: &str) -> Result<Bytes, FileFault>
     ensures counts { KeepsCounts (F.seen folder.old) (F.seen folder.new) }
     ensures ends { FileEnds (F.seen folder.old) (F.seen folder.new) name.now result }
 {

@@ -13,6 +13,7 @@ mod value_files;
 
 pub use fault::{Fault, FileFault, InputFile};
 pub use fault_line::FaultLine;
+pub use file::read_file;
 pub use printing::{end_at_fault, print_line};
 pub use status::Status;
 pub use value_files::{read_crif_file, read_param_file, read_terms_file};

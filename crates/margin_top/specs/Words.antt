@@ -2,10 +2,13 @@
 use Rattle.std.specs.Prelude.{ℕ, List, [], ◌∷◌, length, Option, Some, None, Bool, false, ◌&&◌, not, ◌==◌, nat_le, codes, if◌then◌else◌}
 use Rattle.std.specs.List.{list_all}
 use Rattle.std.specs.Str.{bytes_eq}
+use Rattle.margin_schedule.specs.ScheduleIm.IsoDates.declared.date.DateNumbers.{DateNumbers}
+use Rattle.margin_schedule.specs.ScheduleIm.EndDates.{end_date_of}
 
 -- the forms of a command, each with its file words
 pub data Form : Type 0 where
   Calc : (params crif : List ℕ) → Form
+  Schedule : (day : DateNumbers) (crif : List ℕ) → Form
   Run : (params terms : List ℕ) (feeds : List (List ℕ)) → Form
 
 -- a word that names something: it isn't empty, and doesn't begin with `-`
@@ -17,10 +20,17 @@ is_name_word (b ∷ bs) = not (b == 45)
 abbrev pub are_feed_words : List (List ℕ) → Bool
 are_feed_words words = not (length words == 0) && nat_le (length words) 32 && list_all is_name_word words
 
--- `calc PARAMS CRIF` and `run PARAMS TERMS FEED..` with 1 to 32 feeds; all other words are no form
+-- a margin by the schedule, where the word has a day
+abbrev pub schedule_form : Option DateNumbers → List ℕ → Option Form
+schedule_form None crif = None
+schedule_form (Some day) crif = Some (Schedule day crif)
+
+-- `calc PARAMS CRIF`, `schedule DATE CRIF` and `run PARAMS TERMS FEED..` with 1 to 32 feeds; all other words are no form
 abbrev pub form_of : List (List ℕ) → Option Form
-form_of (command ∷ params ∷ crif ∷ []) =
-    if bytes_eq command (codes "calc") && is_name_word params && is_name_word crif then Some (Calc params crif) else None
+form_of (command ∷ first ∷ crif ∷ []) =
+    if bytes_eq command (codes "calc") && is_name_word first && is_name_word crif then Some (Calc first crif)
+    else if bytes_eq command (codes "schedule") && is_name_word crif then schedule_form (end_date_of first) crif
+    else None
 form_of (command ∷ params ∷ terms ∷ feed ∷ feeds) =
     if bytes_eq command (codes "run") && is_name_word params && is_name_word terms && are_feed_words (feed ∷ feeds)
     then Some (Run params terms (feed ∷ feeds)) else None

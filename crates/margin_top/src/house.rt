@@ -13,12 +13,14 @@ use command_files::{FaultLine, Status, print_line};
 use feed_gate::Gate;
 use margin_calc::calc;
 use margin_run::run;
+use margin_schedule::schedule;
 use mh_io::{Folder, Sink};
 use std::alloc::Global;
 use std::sync::Wait;
 use std::thread::Threads;
 
-/// All that the program does: `calc PARAMS CRIF` prints the margin of one batch, as `calc` says; `run PARAMS TERMS FEED..`
+/// All that the program does: `calc PARAMS CRIF` prints the margin of one batch, as `calc` says; `schedule DATE CRIF` prints the
+/// margin of a portfolio by the standard schedule on a day, as `schedule` says; `run PARAMS TERMS FEED..`
 /// runs 1 to 32 feeds at the same time on the netting sets of the terms, prints the journals and what became of the feeds,
 /// and tells each desk the calls that were made. Words that are no form of a command are status `Words`, with one fault
 /// line; then the folder isn't asked for anything. The gate is called before and after each call of a feed on a set.
@@ -50,6 +52,7 @@ pub fn margin_house<R: Threads + Wait + Sync, F: Folder, K: Sink, G: Gate>(
 {
     match command_of(words) {
         Some(Command::Calc(files)) => calc(alloc, files.params, files.crif, folder, out),
+        Some(Command::Schedule(files)) => schedule(alloc, files, folder, out),
         Some(Command::Run(files)) => run(rt, alloc, files, folder, out, desks, retired, gate),
         None => {
             print_line(out, FaultLine::Whole(b"FAULT\tWORDS\n"));

@@ -9,3 +9,4 @@ pub use feed_gate::{Gate, NoGate};
 pub use house::margin_house;
 pub use margin_calc::calc;
 pub use margin_run::journal_text;
+pub use margin_schedule::schedule;

@@ -5,6 +5,7 @@ ghost use Rattle.margin_top.specs.Words.{is_name_word, are_feed_words, form_of};
 ghost use Rattle.margin_top.specs.WordsRead.{IsForm};
 
 use margin_run::RunFiles;
+use margin_schedule::{EndDate, ScheduleFiles};
 
 /// The files of a margin calculation.
 #[derive(Clone, Copy)]
@@ -42,6 +43,7 @@ fn are_feeds(words: &[String]) -> bool
 #[derive(Clone, Copy)]
 pub(crate) enum Command<'a> {
     Calc(CalcFiles<'a>),
+    Schedule(ScheduleFiles<'a>),
     Run(RunFiles<'a>),
 }
 
@@ -54,6 +56,13 @@ pub(crate) fn command_of(words: &[String]) -> Option<Command<'_>>
             if command.as_str() == "calc" && is_name(params.as_str()) && is_name(crif.as_str()) => {
             Some(Command::Calc(CalcFiles {
                 params: params.as_str(),
+                crif: crif.as_str(),
+            }))
+        }
+        [command, day, crif] if command.as_str() == "schedule" && is_name(crif.as_str()) => {
+            let day = EndDate::read(day.as_bytes())?;
+            Some(Command::Schedule(ScheduleFiles {
+                day,
                 crif: crif.as_str(),
             }))
         }

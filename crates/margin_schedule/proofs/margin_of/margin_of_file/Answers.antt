@@ -1,0 +1,6 @@
+use Rattle.margin_schedule.proofs.MarginLemmas.{rows_end}
+use Rattle.margin_schedule.proofs.margin_of.margin_of_file.Goals as goal
+
+pub returns-in-Ok-clause-ends : goal.returns-in-Ok-clause-ends
+returns-in-Ok-clause-ends g c =
+    rows_end c.args.files.day c.args.files.crif.now _ _ _ c.margin_of_rows.result c.in-Ok.ensures.ends c.margin_of_rows.ensures

@@ -1,0 +1,2 @@
+pub mod TextFields
+pub mod Runs
