@@ -1,3 +1,3 @@
-pub mod Classes
-pub mod Ends
 pub mod Adding
+pub mod Costs
+pub mod Sizes

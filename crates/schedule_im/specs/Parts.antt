@@ -1,5 +1,5 @@
 -- What each row adds to the sums of the rule, row by row.
-use Rattle.std.specs.Prelude.{ℕ, Bool, ◌&&◌, ◌||◌, not, is_some, Option, ℤ, pos, if◌then◌else◌}
+use Rattle.std.specs.Prelude.{Bool, ◌&&◌, ◌||◌, not, is_some, Option, ℤ, pos, if◌then◌else◌}
 use Rattle.std.specs.Int.{int_max}
 use Rattle.iso_dates.specs.declared.date.DateNumbers.{DateNumbers}
 use Rattle.schedule_im.specs.declared.class.ScheduleClass.{ScheduleClass}
@@ -11,18 +11,18 @@ use Rattle.schedule_im.specs.Rule.{charge, is_notional_of}
 
 -- the rate of the class hangs on the end
 abbrev pub hangs_on_end : ScheduleClass → Bool
-hangs_on_end class = same_class class class.Rates || same_class class class.Credit
+hangs_on_end c = same_class c class.Rates || same_class c class.Credit
 
 -- and then a notional has one
 abbrev pub has_end : ScheduleClass → ScheduleKind → Option DateNumbers → Bool
-has_end class kind end = not (is_notional kind && hangs_on_end class) || is_some end
+has_end c kind end = not (is_notional kind && hangs_on_end c) || is_some end
 
 abbrev pub is_ended : ScheduleRow → Bool
 is_ended row = has_end row.class row.kind row.end
 
 -- to the gross margin of a class
 abbrev pub share : DateNumbers → ScheduleClass → ScheduleRow → ℤ
-share day class row = if is_notional_of class row then charge day row else pos 0
+share day c row = if is_notional_of c row then charge day row else pos 0
 
 -- to the sum of present values, and of those that are positive
 abbrev pub cost : ScheduleRow → ℤ

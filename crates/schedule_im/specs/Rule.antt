@@ -2,7 +2,7 @@
 -- (BCBS-IOSCO, Margin requirements for non-centrally cleared derivatives, appendix A: the table of rates by asset class and
 -- duration, and 0.4 and 0.6 times the ratio of net to gross replacement cost. Bands by year, month and day, rounding upwards to
 -- the cent, and the whole gross where no cost is positive are this program's.)
-use Rattle.std.specs.Prelude.{ℕ, ◌*◌, ◌==◌, Bool, ◌&&◌, not, List, Option, Some, None, Result, Ok, Err, sum_by, nat_lt, ◌^◌, ℤ, pos, ◌+ℤ◌, ◌*ℤ◌, unsigned_abs, if◌then◌else◌}
+use Rattle.std.specs.Prelude.{ℕ, ◌*◌, ◌==◌, Bool, ◌&&◌, not, List, Option, Some, None, sum_by, ◌^◌, ℤ, pos, ◌+ℤ◌, ◌*ℤ◌, unsigned_abs, if◌then◌else◌}
 use Rattle.std.specs.List.{filter}
 use Rattle.std.specs.Int.{int_max}
 use Rattle.iso_dates.specs.declared.date.DateNumbers.{DateNumbers}
@@ -37,10 +37,10 @@ abbrev pub charge : DateNumbers → ScheduleRow → ℤ
 charge day row = up (pos (unsigned_abs row.amount * rate row.class day row.end)) (pos 100)
 
 abbrev pub is_notional_of : ScheduleClass → ScheduleRow → Bool
-is_notional_of class row = same_class row.class class && is_notional row.kind
+is_notional_of c row = same_class row.class c && is_notional row.kind
 
 abbrev pub gross_of : DateNumbers → List ScheduleRow → ScheduleClass → ℤ
-gross_of day rows class = total_by (charge day) (filter (is_notional_of class) rows)
+gross_of day rows c = total_by (charge day) (filter (is_notional_of c) rows)
 
 abbrev pub gross : DateNumbers → List ScheduleRow → ℤ
 gross day rows =
@@ -55,16 +55,22 @@ present_values rows = filter (λ row. not (is_notional row.kind)) rows
 abbrev pub gross_cost : List ScheduleRow → ℤ
 gross_cost rows = total_by (λ row. int_max row.amount (pos 0)) (present_values rows)
 
+abbrev pub present_value : List ScheduleRow → ℤ
+present_value rows = total_by (λ row. row.amount) (present_values rows)
+
 abbrev pub net_cost : List ScheduleRow → ℤ
-net_cost rows = int_max (total_by (λ row. row.amount) (present_values rows)) (pos 0)
+net_cost rows = int_max (present_value rows) (pos 0)
 
 -- ---- the margin
 
--- 0.4 of the gross margin, and 0.6 of it times net over gross cost; all of it where no cost is positive
+-- 0.4 of the gross margin, and 0.6 of it times net over gross cost
+abbrev pub ratio_of : ℤ → ℤ → ℤ → ℤ
+ratio_of gross net_cost gross_cost = up (gross *ℤ (pos 4 *ℤ gross_cost +ℤ pos 6 *ℤ net_cost)) (pos 10 *ℤ gross_cost)
+
+-- all of it where no cost is positive
 abbrev pub margin_of : ℤ → ℤ → ℤ → ℤ
 margin_of gross net_cost gross_cost =
-    if unsigned_abs gross_cost == 0 then gross
-    else up (gross *ℤ (pos 4 *ℤ gross_cost +ℤ pos 6 *ℤ net_cost)) (pos 10 *ℤ gross_cost)
+    if unsigned_abs gross_cost == 0 then gross else ratio_of gross net_cost gross_cost
 
 -- ---- the range
 

@@ -1,8 +1,6 @@
 //! The gross margin of each class.
-ghost use Rattle.std.specs.Prelude.{◌≡◌, ◌≤◌, true};
-ghost use Rattle.std.specs.List.{list_all};
+ghost use Rattle.std.specs.Prelude.{◌≡◌, ◌≤◌};
 ghost use Rattle.schedule_im.specs.Margin.{IsPart, IsShare, AreParts, class_gross, class_total, gross_by_class};
-ghost use Rattle.schedule_im.specs.Parts.{is_ended};
 ghost use Rattle.schedule_im.specs.Rule.{gross_of, sizes, most_sizes};
 
 use crate::class::ScheduleClass;
@@ -24,8 +22,7 @@ pub struct ClassGross {
 impl ClassGross {
     /// The gross margin of the rows' notionals, by class.
     pub(crate) fn of_rows(rows: &[ScheduleRow], day: EndDate) -> ClassGross
-        requires small { sizes rows.now ≤ most_sizes }
-        requires ended { list_all is_ended rows.now ≡ true }
+        requires { sizes rows.now ≤ most_sizes }
         ensures value { result ≡ gross_by_class day rows.now }
         ensures parts { AreParts result }
     {
@@ -65,8 +62,7 @@ impl ClassGross {
 
 /// The gross margin of a class.
 fn gross_of(rows: &[ScheduleRow], day: EndDate, class: ScheduleClass) -> i128
-    requires small { sizes rows.now ≤ most_sizes }
-    requires ended { list_all is_ended rows.now ≡ true }
+    requires { sizes rows.now ≤ most_sizes }
     ensures value { result ≡ gross_of day rows.now class }
     ensures share { IsShare result }
 {

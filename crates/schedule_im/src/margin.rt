@@ -1,8 +1,6 @@
-ghost use Rattle.std.specs.Prelude.{◌≡◌, ◌≤◌, true, length, pos};
-ghost use Rattle.std.specs.List.{list_all};
+ghost use Rattle.std.specs.Prelude.{◌≡◌, ◌≤◌, length, pos, ◌<ℤ◌, unsigned_abs};
 ghost use Rattle.schedule_im.specs.Margin.{AreScheduled, IsPart, IsShare, schedule_margin, margin_by_rule};
-ghost use Rattle.schedule_im.specs.Parts.{is_ended};
-ghost use Rattle.schedule_im.specs.Rule.{net_cost, gross_cost, margin_of, sizes, most_sizes};
+ghost use Rattle.schedule_im.specs.Rule.{present_value, net_cost, gross_cost, ratio_of, margin_of, sizes, most_sizes};
 
 use crate::end_date::EndDate;
 use crate::gross::ClassGross;
@@ -67,8 +65,7 @@ fn sizes(rows: &[ScheduleRow]) -> i128
 
 /// The margin with its parts.
 fn margin_by_rule(rows: &[ScheduleRow], day: EndDate) -> ScheduleMargin
-    requires small { sizes rows.now ≤ most_sizes }
-    requires ended { list_all is_ended rows.now ≡ true }
+    requires { sizes rows.now ≤ most_sizes }
     ensures { result ≡ margin_by_rule day rows.now }
 {
     let classes = ClassGross::of_rows(rows, day);
@@ -84,17 +81,26 @@ fn margin_by_rule(rows: &[ScheduleRow], day: EndDate) -> ScheduleMargin
     }
 }
 
+/// The sum of present values.
+fn present_value(rows: &[ScheduleRow]) -> i128
+    requires { sizes rows.now ≤ most_sizes }
+    ensures value { result ≡ present_value rows.now }
+    ensures size { unsigned_abs result ≤ most_sizes }
+{
+    let mut sum = 0;
+    for row in rows {
+        sum += cost(row);
+    }
+    sum
+}
+
 /// The sum of present values, where it is positive.
 fn net_cost(rows: &[ScheduleRow]) -> i128
     requires { sizes rows.now ≤ most_sizes }
     ensures value { result ≡ net_cost rows.now }
     ensures share { IsShare result }
 {
-    let mut sum = 0;
-    for row in rows {
-        sum += cost(row);
-    }
-    sum.max(0)
+    present_value(rows).max(0)
 }
 
 /// The sum of positive present values.
@@ -120,6 +126,17 @@ fn margin_of(gross: i128, net_cost: i128, gross_cost: i128) -> i128
     if gross_cost == 0 {
         return gross;
     }
+    by_ratio(gross, net_cost, gross_cost)
+}
+
+/// The same where a cost is positive.
+fn by_ratio(gross: i128, net_cost: i128, gross_cost: i128) -> i128
+    requires gross { IsPart gross }
+    requires net { IsShare net_cost }
+    requires cost { IsShare gross_cost }
+    requires some { pos 0 <ℤ gross_cost }
+    ensures { result ≡ ratio_of gross net_cost gross_cost }
+{
     let weight = 4 * gross_cost + 6 * net_cost;
     div_up(gross * weight, 10 * gross_cost)
 }

@@ -1,6 +1,6 @@
 //! What each row adds to the sums of the rule.
-ghost use Rattle.std.specs.Prelude.{◌≡◌, ◌*◌, ◌≤◌, true, pos, ◌≤ℤ◌, unsigned_abs};
-ghost use Rattle.schedule_im.specs.Parts.{has_end, is_ended, share, cost, gain};
+ghost use Rattle.std.specs.Prelude.{◌≡◌, ◌*◌, ◌≤◌, pos, ◌≤ℤ◌, unsigned_abs};
+ghost use Rattle.schedule_im.specs.Parts.{share, cost, gain};
 ghost use Rattle.simm_rules.specs.MhUnits.Rounding.{up};
 ghost use Rattle.schedule_im.specs.Rule.{rate_by_end, rate, is_notional_of};
 
@@ -9,14 +9,17 @@ use crate::end_date::EndDate;
 use crate::row::ScheduleRow;
 use simm_rules::mh_units::div_up;
 
-/// The rate by the years up to the end: up to two, above two and up to five, above five.
-fn rate_by_end(short: u8, middle: u8, long: u8, day: EndDate, end: EndDate) -> u8
+/// The rate by the years up to the end: up to two, above two and up to five, above five, which it is without an end too.
+fn rate_by_end(short: u8, middle: u8, long: u8, day: EndDate, end: Option<EndDate>) -> u8
     requires short { short ≤ 15 }
     requires middle { middle ≤ 15 }
     requires long { long ≤ 15 }
-    ensures value { result ≡ rate_by_end short middle long day (Some end) }
+    ensures value { result ≡ rate_by_end short middle long day end }
     ensures size { result ≤ 15 }
 {
+    let Some(end) = end else {
+        return long;
+    };
     if end.is_up_to(day, 2) {
         short
     } else if end.is_up_to(day, 5) {
@@ -28,16 +31,14 @@ fn rate_by_end(short: u8, middle: u8, long: u8, day: EndDate, end: EndDate) -> u
 
 /// The rate of a notional, in percent.
 fn rate(class: ScheduleClass, day: EndDate, end: Option<EndDate>) -> u8
-    requires { has_end class ScheduleKind.Notional end ≡ true }
     ensures value { result ≡ rate class day end }
     ensures size { result ≤ 15 }
 {
-    match (class, end) {
-        (ScheduleClass::Rates, Some(end)) => rate_by_end(1, 2, 4, day, end),
-        (ScheduleClass::Credit, Some(end)) => rate_by_end(2, 5, 10, day, end),
-        (ScheduleClass::Rates | ScheduleClass::Credit, None) => unreachable!(),
-        (ScheduleClass::Equity | ScheduleClass::Commodity | ScheduleClass::Other, _) => 15,
-        (ScheduleClass::Fx, _) => 6,
+    match class {
+        ScheduleClass::Rates => rate_by_end(1, 2, 4, day, end),
+        ScheduleClass::Credit => rate_by_end(2, 5, 10, day, end),
+        ScheduleClass::Equity | ScheduleClass::Commodity | ScheduleClass::Other => 15,
+        ScheduleClass::Fx => 6,
     }
 }
 
@@ -53,7 +54,6 @@ fn charge(size: u64, rate: u8) -> i128
 
 /// What a row adds to the gross margin of a class.
 pub fn share(row: &ScheduleRow, day: EndDate, class: ScheduleClass) -> i128
-    requires { is_ended row.now ≡ true }
     ensures value { result ≡ share day class row.now }
     ensures low { pos 0 ≤ℤ result }
     ensures size { unsigned_abs result ≤ unsigned_abs row.now.amount }

@@ -1,12 +1,7 @@
-use Rattle.std.proofs.Common.{◌≡◌, true, drop, pos, ◌≤ℤ◌}
-use Rattle.std.specs.List.{list_all}
-use Rattle.schedule_im.specs.Parts.{is_ended, share}
+use Rattle.std.proofs.Common.{drop, pos, ◌≤ℤ◌}
+use Rattle.schedule_im.specs.Parts.{share}
 use Rattle.schedule_im.proofs.Adding.{Adds}
 use Rattle.schedule_im.proofs.gross.gross_of.Given as goal
 
 abbrev pub invariant-loop-row : goal.invariant-loop-row
-invariant-loop-row l = record {
-  adds : Adds (share l.day l.class) l.rows (drop l.row-index l.rows) l.gross;
-  low : pos 0 ≤ℤ l.gross;
-  ended : list_all is_ended (drop l.row-index l.rows) ≡ true;
-}
+invariant-loop-row l = record { adds : Adds (share l.day l.class) l.rows (drop l.row-index l.rows) l.gross; low : pos 0 ≤ℤ l.gross }

@@ -1,4 +1,4 @@
-use Rattle.std.proofs.Common.{◌≡◌, ◌*◌, ◌+◌, ◌^◌, ◌≤◌, pos, unsigned_abs, take}
+use Rattle.std.proofs.Common.{◌≡◌, ◌*◌, ◌^◌, ◌≤◌, pos, unsigned_abs, take}
 use Rattle.schedule_im.specs.Rule.{sizes}
 use Rattle.schedule_im.proofs.margin.sizes.Given as goal
 
