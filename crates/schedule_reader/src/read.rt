@@ -26,7 +26,7 @@ fn read_rows(
 {
     let mut rows = Vec::new(alloc);
     let mut number = 2u32;
-    while records.next_record()? {
+    'reading: while records.next_record()? {
         if number == TOO_MANY {
             return Err(ScheduleFault::TooManyRows);
         }
