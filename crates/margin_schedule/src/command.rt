@@ -11,17 +11,8 @@ use mh_io::{Folder, Sink};
 use schedule_im::EndDate;
 use std::alloc::Global;
 
-/// The words of a margin by the schedule.
-#[derive(Clone, Copy)]
-pub struct ScheduleFiles<'a> {
-    /// The day from which the terms of the trades are counted.
-    pub day: EndDate,
-    /// The name of the CRIF file.
-    pub crif: &'a str,
-}
-
-/// Prints the margin of a portfolio by the standard schedule: the whole, the gross margin, the replacement cost net and gross, and
-/// the gross margin of each class that isn't 0. It reads the records of the file whose margin model is `Schedule`, and waits for
+/// Prints the margin of a portfolio by the standard schedule on a day, from which the terms of its trades are counted: the whole, the gross margin, the replacement cost net and gross, and
+/// the gross margin of each class that isn't 0. It reads the records of the CRIF file of this name whose margin model is `Schedule`, and waits for
 /// nobody.
 ///
 /// With status `Done` the sink got the lines of the margin that the written rule gives of the file; with `Write` a front of them,
@@ -30,19 +21,20 @@ pub struct ScheduleFiles<'a> {
 /// `Read` only where the folder's count of such faults rose. `Memory` for want of memory.
 pub fn schedule<F: Folder, K: Sink>(
     alloc: Global,
-    files: ScheduleFiles,
+    day: EndDate,
+    crif: &str,
     folder: &mut F,
     out: &mut K,
 ) -> Status
     ensures counts { KeepsCounts (F.seen folder.old) (F.seen folder.new) }
     ensures count { (K.seen out.old).faults ≤ (K.seen out.new).faults }
-    ensures ends { ScheduleEnds files.entry.day files.entry.crif.now
+    ensures ends { ScheduleEnds day crif.now
         (F.seen folder.old) (F.seen folder.new) (K.seen out.old) (K.seen out.new) result }
     // Where all is well the margin is printed, or memory ran out.
-    ensures complete { IsWellSchedule files.entry.crif.now
+    ensures complete { IsWellSchedule crif.now
         (F.seen folder.old) (F.seen folder.new) (K.seen out.old) (K.seen out.new) → EndsWell result }
 {
-    match margin_of_file(alloc, files, folder) {
+    match margin_of_file(alloc, day, crif, folder) {
         Ok(margin) => print_margin(alloc, out, &margin),
         Err(fault) => end_at_fault(out, &fault),
     }

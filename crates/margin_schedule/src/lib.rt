@@ -7,5 +7,5 @@ mod fault_lines;
 mod margin_lines;
 mod margin_of;
 
-pub use command::{ScheduleFiles, schedule};
+pub use command::schedule;
 pub use schedule_im::EndDate;

@@ -3,7 +3,6 @@ ghost use Rattle.command_files.specs.Files.{KeepsCounts, ValueEnds};
 ghost use Rattle.schedule_im.specs.Margin.{AreScheduled};
 ghost use Rattle.margin_schedule.specs.Schedule.{GivesRows, RefusesRows, RowsEnd, MarginEnds};
 
-use crate::command::ScheduleFiles;
 use crate::fault_lines::{range_line, schedule_line};
 use command_files::{Fault, FileFault, InputFile, read_file};
 use mh_io::Folder;
@@ -49,17 +48,18 @@ fn margin_of_rows<'a>(
 /// Reads the file, and works out the margin of its rows.
 pub(crate) fn margin_of_file<'a, F: Folder>(
     alloc: Global,
-    files: ScheduleFiles<'a>,
+    day: EndDate,
+    crif: &'a str,
     folder: &mut F,
 ) -> Result<ScheduleMargin, Fault<'a>>
     ensures counts { KeepsCounts (F.seen folder.old) (F.seen folder.new) }
-    ensures ends { MarginEnds files.entry.day files.entry.crif.now (F.seen folder.old) (F.seen folder.new) result }
+    ensures ends { MarginEnds day crif.now (F.seen folder.old) (F.seen folder.new) result }
 {
-    match read_rows_file(alloc, folder, files.crif) {
-        Ok(rows) => margin_of_rows(alloc, &rows, files.day),
+    match read_rows_file(alloc, folder, crif) {
+        Ok(rows) => margin_of_rows(alloc, &rows, day),
         Err(why) => Err(Fault::OfFile {
             file: InputFile::Crif,
-            name: files.crif,
+            name: crif,
             why,
         }),
     }

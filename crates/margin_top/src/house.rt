@@ -52,7 +52,7 @@ pub fn margin_house<R: Threads + Wait + Sync, F: Folder, K: Sink, G: Gate>(
 {
     match command_of(words) {
         Some(Command::Calc(files)) => calc(alloc, files.params, files.crif, folder, out),
-        Some(Command::Schedule(files)) => schedule(alloc, files, folder, out),
+        Some(Command::Schedule(files)) => schedule(alloc, files.day, files.crif, folder, out),
         Some(Command::Run(files)) => run(rt, alloc, files, folder, out, desks, retired, gate),
         None => {
             print_line(out, FaultLine::Whole(b"FAULT\tWORDS\n"));

@@ -5,13 +5,22 @@ ghost use Rattle.margin_top.specs.Words.{is_name_word, are_feed_words, form_of};
 ghost use Rattle.margin_top.specs.WordsRead.{IsForm};
 
 use margin_run::RunFiles;
-use margin_schedule::{EndDate, ScheduleFiles};
+use margin_schedule::EndDate;
 
 /// The files of a margin calculation.
 #[derive(Clone, Copy)]
 pub(crate) struct CalcFiles<'a> {
     /// The name of the parameter file.
     pub params: &'a str,
+    /// The name of the CRIF file.
+    pub crif: &'a str,
+}
+
+/// The words of a margin by the schedule.
+#[derive(Clone, Copy)]
+pub(crate) struct ScheduleFiles<'a> {
+    /// The day from which the terms of the trades are counted.
+    pub day: EndDate,
     /// The name of the CRIF file.
     pub crif: &'a str,
 }

@@ -8,7 +8,7 @@ returns-in-Ok-clause-ends g c =
 
 pub returns-in-Ok-clause-complete : goal.returns-in-Ok-clause-complete
 returns-in-Ok-clause-complete g c w =
-    ends_well c.args.files.day c.args.files.crif.now _ _ _ _ c.print_margin.result
+    ends_well c.args.day c.args.crif.now _ _ _ _ c.print_margin.result
     (inl (record { m = c.in-Ok.margin; margin = c.in-Ok.ensures.ends; printed = c.print_margin.ensures.printed })) w
 
 pub returns-in-Err-clause-ends : goal.returns-in-Err-clause-ends
@@ -17,5 +17,5 @@ returns-in-Err-clause-ends g c =
 
 pub returns-in-Err-clause-complete : goal.returns-in-Err-clause-complete
 returns-in-Err-clause-complete g c w =
-    ends_well c.args.files.day c.args.files.crif.now _ _ _ _ c.end_at_fault.result
+    ends_well c.args.day c.args.crif.now _ _ _ _ c.end_at_fault.result
     (inr (record { f = c.in-Err.fault; cause = c.in-Err.ensures.ends; status = sym c.end_at_fault.ensures.status; printed = c.end_at_fault.ensures.printed })) w
