@@ -1,5 +1,5 @@
 -- The line of a file that the schedule refuses.
-use Rattle.std.specs.Prelude.{ℕ, List, ◌++◌, codes, decimal}
+use Rattle.std.specs.Prelude.{ℕ, List, ◌++◌, codes, decimal, Some, ℤ}
 use Rattle.std.specs.Fmt.{signed_decimal}
 use Rattle.mh_units.specs.Numeral.{fault_number}
 use Rattle.schedule_im.specs.declared.margin.ScheduleRange.{ScheduleRange}
@@ -26,5 +26,8 @@ abbrev pub schedule_fault : ScheduleFault → List ℕ
 schedule_fault e = fault_line (codes "SCHEDULE") (schedule_fault_number e) (λ code. schedule_fields code e)
 
 -- the amounts are too large: the sum of their sizes
+abbrev pub range_fields : ℤ → List ℕ
+range_fields value = field (decimal 6) ++ last_field (signed_decimal value)
+
 abbrev pub range_fault : ScheduleRange → List ℕ
-range_fault range = field (codes "FAULT") ++ field (codes "SCHEDULE") ++ field (codes "6") ++ last_field (signed_decimal range.value)
+range_fault range = fault_line (codes "SCHEDULE") (Some 6) (λ code. range_fields range.value)

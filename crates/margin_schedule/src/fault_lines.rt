@@ -1,7 +1,7 @@
 //! The line of a file that the schedule refuses.
 ghost use Rattle.std.specs.Prelude.{◌≡◌, ◌≢◌, ◌++◌, IfOk, OnOk};
 ghost use Rattle.schedule_reader.specs.declared.fault.ScheduleFault.TheVariants as schedule;
-ghost use Rattle.margin_schedule.specs.FaultLines.{row_fields, schedule_fields, schedule_fault, range_fault};
+ghost use Rattle.margin_schedule.specs.FaultLines.{row_fields, schedule_fields, schedule_fault, range_fields, range_fault};
 
 use fault_text::{begun_line, push_last, push_last_number, push_number};
 use mh_units::Text;
@@ -38,9 +38,16 @@ pub(crate) fn range_line(alloc: Global, range: ScheduleRange) -> Result<Text, Al
     ensures { IfOk result (λ line. line ≡ range_fault range) }
 {
     let mut line = begun_line(alloc, b"SCHEDULE")?;
-    push_number(&mut line, RANGE)?;
-    push_last_number(&mut line, range.value)?;
+    push_range_fields(&mut line, range.value)?;
     Ok(line)
+}
+
+/// Adds the number of amounts that are too large and what they come to, up to the end of the line.
+fn push_range_fields(line: &mut Text, value: i128) -> Result<(), AllocError>
+    ensures { OnOk result (line.new ≡ line.old ++ range_fields value) }
+{
+    push_number(line, RANGE)?;
+    push_last_number(line, value)
 }
 
 /// Adds the number of a file's fault and what stands behind it, up to the end of the line.
