@@ -25,12 +25,16 @@ abbrev pub schedule_form : Option DateNumbers → List ℕ → Option Form
 schedule_form None crif = None
 schedule_form (Some day) crif = Some (Schedule day crif)
 
--- `calc PARAMS CRIF`, `schedule DATE CRIF` and `run PARAMS TERMS FEED..` with 1 to 32 feeds; all other words are no form
-abbrev pub form_of : List (List ℕ) → Option Form
-form_of (command ∷ first ∷ crif ∷ []) =
+-- a margin of one CRIF file: `calc PARAMS CRIF` and `schedule DATE CRIF`
+abbrev pub margin_form : List ℕ → List ℕ → List ℕ → Option Form
+margin_form command first crif =
     if bytes_eq command (codes "calc") && is_name_word first && is_name_word crif then Some (Calc first crif)
     else if bytes_eq command (codes "schedule") && is_name_word crif then schedule_form (end_date_of first) crif
     else None
+
+-- a margin of one file, and `run PARAMS TERMS FEED..` with 1 to 32 feeds; all other words are no form
+abbrev pub form_of : List (List ℕ) → Option Form
+form_of (command ∷ first ∷ crif ∷ []) = margin_form command first crif
 form_of (command ∷ params ∷ terms ∷ feed ∷ feeds) =
     if bytes_eq command (codes "run") && is_name_word params && is_name_word terms && are_feed_words (feed ∷ feeds)
     then Some (Run params terms (feed ∷ feeds)) else None

@@ -1,7 +1,7 @@
 ghost use Rattle.std.specs.Prelude.{◌≡◌, map};
 ghost use Rattle.std.specs.List.{list_all};
 ghost use Rattle.std.specs.String.{string_bytes};
-ghost use Rattle.margin_top.specs.Words.{is_name_word, are_feed_words, form_of};
+ghost use Rattle.margin_top.specs.Words.{is_name_word, are_feed_words, margin_form, form_of};
 ghost use Rattle.margin_top.specs.WordsRead.{IsForm};
 
 use margin_run::RunFiles;
@@ -56,24 +56,30 @@ pub(crate) enum Command<'a> {
     Run(RunFiles<'a>),
 }
 
+/// The margin of one CRIF file that three words ask for.
+fn margin_command<'a>(command: &'a str, first: &'a str, crif: &'a str) -> Option<Command<'a>>
+    ensures { IsForm result (margin_form command.now first.now crif.now) }
+{
+    if command == "calc" && is_name(first) && is_name(crif) {
+        return Some(Command::Calc(CalcFiles {
+            params: first,
+            crif,
+        }));
+    }
+    if command == "schedule" && is_name(crif) {
+        let day = EndDate::read(first.as_bytes())?;
+        return Some(Command::Schedule(ScheduleFiles { day, crif }));
+    }
+    None
+}
+
 /// The command of the words, if they are a form of one.
 pub(crate) fn command_of(words: &[String]) -> Option<Command<'_>>
     ensures { IsForm result (form_of (map string_bytes words.now)) }
 {
     match words {
-        [command, params, crif]
-            if command.as_str() == "calc" && is_name(params.as_str()) && is_name(crif.as_str()) => {
-            Some(Command::Calc(CalcFiles {
-                params: params.as_str(),
-                crif: crif.as_str(),
-            }))
-        }
-        [command, day, crif] if command.as_str() == "schedule" && is_name(crif.as_str()) => {
-            let day = EndDate::read(day.as_bytes())?;
-            Some(Command::Schedule(ScheduleFiles {
-                day,
-                crif: crif.as_str(),
-            }))
+        [command, first, crif] => {
+            margin_command(command.as_str(), first.as_str(), crif.as_str())
         }
         [command, params, terms, feeds @ ..]
             if command.as_str() == "run"
