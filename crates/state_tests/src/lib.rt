@@ -1,5 +1,5 @@
 //! Tests of the libraries from parameters and terms up to a netting set, over calls that no command reaches: what a live margin
-//! and a netting set keep of their buckets, a reply as a text of its own.
+//! and a netting set keep of their buckets, a reply as a text of its own, room that is put by for entries.
 #![tactic(auto)]
 
 #[cfg(test)]
@@ -12,5 +12,7 @@ mod kept_buckets_at_random;
 mod makers;
 #[cfg(test)]
 mod random_places;
+#[cfg(test)]
+mod reserved_entries;
 #[cfg(test)]
 mod set_core_calls;

@@ -87,7 +87,7 @@ credit_q.base_rho = "0.3"
 const TERMS: &str =
     "[[set]]\nname = \"ALPHA\"\nthreshold = \"5000\"\nmta_delivery = \"500\"\nmta_return = \"400\"\n\
 rounding = \"100\"\nnotification = \"13:00\"\nfx_haircut = \"0.08\"\n\
-haircuts = {}\nholidays = []\n";
+haircuts = { CASH = \"0\" }\nholidays = []\n";
 
 const HEADER: &str =
     "TradeID,ProductClass,RiskType,Qualifier,Bucket,Label1,Label2,Amount,AmountCurrency,AmountUSD";

@@ -4,7 +4,7 @@ use set_core::csa_terms::Moment;
 use set_core::{Event, Reply, SetState, reply_text};
 use std::process::Abort;
 
-fn set(rt: &(impl Abort + AllocGlobal)) -> SetState {
+pub fn set(rt: &(impl Abort + AllocGlobal)) -> SetState {
     SetState::new(rt.alloc(), params(rt), set_terms(rt))
         .ok()
         .expect(rt, "memory")
@@ -12,7 +12,7 @@ fn set(rt: &(impl Abort + AllocGlobal)) -> SetState {
 
 /// What is done to a set.
 #[derive(Clone, Copy)]
-enum Step {
+pub enum Step {
     /// A batch of a trade T1 with one row of this currency and amount.
     Submit(&'static str, &'static str),
     /// A withdrawal of one name.
@@ -39,12 +39,12 @@ fn withdrawal(rt: &(impl Abort + AllocGlobal), trade: &str) -> Event {
     Event::Withdraw(names)
 }
 
-fn apply(rt: &(impl Abort + AllocGlobal), set: &mut SetState, step: Step) -> Reply {
+pub fn apply(rt: &(impl Abort + AllocGlobal), set: &mut SetState, step: Step) -> Reply {
     let event = event(rt, step);
     set.apply(2, event).ok().expect(rt, "room and memory")
 }
 
-fn is_text(rt: &(impl Abort + AllocGlobal), reply: &Reply, text: &str) -> bool {
+pub fn is_text(rt: &(impl Abort + AllocGlobal), reply: &Reply, text: &str) -> bool {
     let printed = reply_text(rt.alloc(), reply).ok().expect(rt, "memory");
     printed.as_slice() == text.as_bytes()
 }
