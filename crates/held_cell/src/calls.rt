@@ -11,11 +11,18 @@ use std::sync::atomic::Ordering;
 use std::thread;
 use std::time::Duration;
 
-// How often a call that finds its cell taken yields before it sleeps.
-const YIELDS: u32 = 100;
+// How often a call that finds its cell taken tries again before it sleeps.
+const TRIES: u32 = 2;
 
 // How long it then sleeps, in milliseconds, if nobody wakes it.
 const SLEEP: u64 = 10;
+
+// Of so many calls that are made while callers sleep one wakes one of them. A caller that is woken at each call finds the cell taken
+// again by the one that woke it, where that one goes on calling.
+const CALLS: u64 = 64;
+
+// Where the count of tries stands still, past the first sleep.
+const MOST_TRIES: u32 = TRIES + 1;
 
 // What is left of a word for a sleep on it.
 const LOW_BITS: u64 = 0xffff_ffff;
@@ -97,26 +104,32 @@ impl<M: Machine> HeldCell<M> {
                 } => {
                     event = back;
                     self.back_off(rt, found, tries);
-                    tries = YIELDS.min(tries + 1);
+                    tries = MOST_TRIES.min(tries + 1);
                 }
             }
         }
         unreachable!()
     }
 
-    // Wakes a caller that sleeps, if there is one. A caller that goes to sleep counts itself first, and this reads the count
-    // after the machine went home: so it sees the caller, or the caller sees that the word has changed.
+    // Wakes a caller that sleeps, if there is one, at the first call since one went to sleep, and then at every 64th. A caller
+    // that goes to sleep counts itself first, and this reads the count after the machine went home: so it sees the caller, or the
+    // caller sees that the word has changed.
     fn wake_sleeper(&self) {
-        if self.sleepers.load(Ordering::SeqCst) > 0 {
+        if self.sleepers.load(Ordering::SeqCst) > 0
+            && self.passed.fetch_add(1, Ordering::SeqCst) % CALLS == 0
+        {
             self.table.shared.wake_one(0);
         }
     }
 
     // Lets other threads run, and after some tries sleeps while the word is as it was found, until it is woken.
     fn back_off(&self, rt: &impl Wait, found: u64, tries: u32) {
-        if found % 2 == 0 || tries < YIELDS {
+        if found % 2 == 0 || tries < TRIES {
             thread::yield_now();
         } else {
+            if tries == TRIES {
+                self.passed.store(0, Ordering::SeqCst);
+            }
             let low = (found & LOW_BITS) as u32;
             self.sleepers.fetch_add(1, Ordering::SeqCst);
             self.table

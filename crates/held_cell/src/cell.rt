@@ -49,6 +49,8 @@ pub struct HeldCell<M: Machine> {
     >,
     // How many callers sleep until the word changes.
     pub(crate) sleepers: AtomicU64,
+    // How many calls were made since a caller went to sleep, while any slept.
+    pub(crate) passed: AtomicU64,
 }
 
 impl<M: Machine> Model for HeldCell<M> {
@@ -89,6 +91,7 @@ impl<M: Machine> HeldCell<M> {
                 HeldCell {
                     table,
                     sleepers: AtomicU64::new(0),
+                    passed: AtomicU64::new(0),
                 },
                 Seat {
                     first: 0,
@@ -111,7 +114,11 @@ impl<M: Machine> HeldCell<M> {
         ensures own { HasOwn seat × (seat.own ≡ seat.seen) }
         ensures legal { M.is_legal self.base seat.seen }
     {
-        let HeldCell { table, sleepers: _ } = self;
+        let HeldCell {
+            table,
+            sleepers: _,
+            passed: _,
+        } = self;
         let Seat {
             first: _,
             count: _,

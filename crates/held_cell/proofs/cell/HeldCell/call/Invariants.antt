@@ -8,5 +8,5 @@ invariant-loop g l = record {
   is_finite : (goal.iterator-loop g).is_finite l.iterator';
   same_event : l.event ≡ l.initial.event;
   waiting : IsWaiting l.initial.seat l.seat;
-  few : l.tries ≤ 100;
+  few : l.tries ≤ 3;
 }
