@@ -14,12 +14,7 @@ use Rattle.set_core.specs.declared.event.Event.TheVariants as event
 abbrev pub set_of : Message → List ℕ
 set_of (message.Crif set block) = set
 set_of (message.Withdraw set names) = set
-set_of (message.Put set lot class value currency) = set
-set_of (message.Take set lot) = set
-set_of (message.Mark set lot value) = set
-set_of (message.Close set number) = set
-set_of (message.Ask set) = set
-set_of (message.Call set moment) = set
+set_of (message.OnSide set e) = set
 
 -- the submit of a block of records, as a CRIF file of its own, or the first fault of its grammar
 abbrev pub submit_of : List ℕ → Result Event CrifFault
@@ -29,12 +24,7 @@ submit_of block = result_map_both (λ crif. event.Submit crif.trades) (λ fault.
 abbrev pub event_of : Message → Result Event CrifFault
 event_of (message.Crif set block) = submit_of block
 event_of (message.Withdraw set names) = Ok (event.Withdraw names)
-event_of (message.Put set lot class value currency) = Ok (event.PutLot lot class value currency)
-event_of (message.Take set lot) = Ok (event.TakeLot lot)
-event_of (message.Mark set lot value) = Ok (event.MarkLot lot value)
-event_of (message.Close set number) = Ok (event.CloseCall number)
-event_of (message.Ask set) = Ok event.AskMargin
-event_of (message.Call set moment) = Ok (event.AskCall moment)
+event_of (message.OnSide set e) = Ok (event.OnSide e)
 
 -- the call of an item on the set of this name, if it makes one
 abbrev pub call_on : List ℕ → Item → Option Event

@@ -54,14 +54,8 @@ fn set_of(message: &Message) -> &Name
     ensures { result.now ≡ set_of message.now }
 {
     match message {
-        Message::Crif { set, .. }
-        | Message::Withdraw { set, .. }
-        | Message::Put { set, .. }
-        | Message::Take { set, .. }
-        | Message::Mark { set, .. }
-        | Message::Close { set, .. }
-        | Message::Ask { set }
-        | Message::Call { set, .. } => set,
+        Message::Crif { set, .. } | Message::Withdraw { set, .. } | Message::OnSide { set, .. } =>
+            set,
     }
 }
 
@@ -78,23 +72,7 @@ fn event_of(alloc: Global, message: Message) -> Result<Event, CrifFault>
     match message {
         Message::Crif { block, .. } => submit_of(alloc, &block),
         Message::Withdraw { names, .. } => Ok(Event::Withdraw(names)),
-        Message::Put {
-            lot,
-            class,
-            value,
-            currency,
-            ..
-        } => Ok(Event::PutLot {
-            lot,
-            class,
-            value,
-            currency,
-        }),
-        Message::Take { lot, .. } => Ok(Event::TakeLot { lot }),
-        Message::Mark { lot, value, .. } => Ok(Event::MarkLot { lot, value }),
-        Message::Close { number, .. } => Ok(Event::CloseCall { number }),
-        Message::Ask { .. } => Ok(Event::AskMargin),
-        Message::Call { moment, .. } => Ok(Event::AskCall { moment }),
+        Message::OnSide { event, .. } => Ok(Event::OnSide(event)),
     }
 }
 

@@ -5,7 +5,8 @@ use Rattle.std.proofs.Math.Seq.{take-append_seam}
 use Rattle.std.proofs.lemmas.List.Elements.{recursion_from_All}
 use Rattle.mh_io.specs.Lines as cut
 use Rattle.feed_reader.specs.declared.message.Message.{Message}
-use Rattle.feed_reader.specs.declared.message.Message.TheVariants.{Crif}
+use Rattle.feed_reader.specs.declared.message.BlockKind.{BlockKind}
+use Rattle.feed_reader.specs.Messages.{block_message}
 use Rattle.feed_reader.specs.declared.message.Meaning.{Meaning}
 use Rattle.feed_reader.specs.declared.message.Meaning.TheVariants.{Opens, Tells, Bad}
 use Rattle.feed_reader.specs.Line.{is_passed_over, meaning_of, is_end}
@@ -90,12 +91,12 @@ unfolding items_of
 used_front n [] lines stop = items_at n (n + length {A = List ℕ} []) 0 lines stop (omega arith)
 used_front n (line ∷ used) lines stop = used_front (n + 1) used lines stop ∙ items_at (n + 1 + length used) (n + length (line ∷ used)) 0 lines stop (omega arith)
 
-opened : (n : ℕ) (line set : List ℕ) (further : List (List ℕ)) (stop : cut.Stop) → is_passed_over line ≡ false → meaning_of line ≡ Opens set → items_of n 0 (line ∷ further) stop ≡ block_at n set further stop (items_of (n + 1) (position_or_len is_end further + 1) further stop)
+opened : (n : ℕ) (kind : BlockKind) (line set : List ℕ) (further : List (List ℕ)) (stop : cut.Stop) → is_passed_over line ≡ false → meaning_of line ≡ Opens kind set → items_of n 0 (line ∷ further) stop ≡ block_at n kind set further stop (items_of (n + 1) (position_or_len is_end further + 1) further stop)
 unfolding items_of
-opened n line set further stop full is = rw (full, is) refl
+opened n kind line set further stop full is = rw (full, is) refl
 
-whole_told : (n : ℕ) (line set : List ℕ) (inside : List (List ℕ)) (last : List ℕ) → is_passed_over line ≡ false → meaning_of line ≡ Opens set → AllByRecursion (λ l. is_end l ≡ false) inside → is_end last ≡ true → (further : List (List ℕ)) (stop : cut.Stop) → items_of n 0 (line ∷ (inside ++ last ∷ further)) stop ≡ with_items (Sent (record { line = n; message = Crif set (block_of inside) }) ∷ []) (items_of (n + (length inside + 2)) 0 further stop)
-whole_told n line set inside last full is within ends further stop =
+whole_told : (n : ℕ) (kind : BlockKind) (line set : List ℕ) (inside : List (List ℕ)) (last : List ℕ) → is_passed_over line ≡ false → meaning_of line ≡ Opens kind set → AllByRecursion (λ l. is_end l ≡ false) inside → is_end last ≡ true → (further : List (List ℕ)) (stop : cut.Stop) → items_of n 0 (line ∷ (inside ++ last ∷ further)) stop ≡ with_items (Sent (record { line = n; message = block_message kind set (block_of inside) }) ∷ []) (items_of (n + (length inside + 2)) 0 further stop)
+whole_told n kind line set inside last full is within ends further stop =
     let place = end_place inside last further within ends in
     let all : inside ++ last ∷ further ≡ (inside ++ last ∷ []) ++ further = sym (append_assoc inside (last ∷ []) further) in
     let count : length inside + 1 ≡ length (inside ++ last ∷ []) = omega (arith, length-append inside (last ∷ [])) in
@@ -103,29 +104,29 @@ whole_told n line set inside last full is within ends further stop =
     ap (λ k. items_of (n + 1) k (inside ++ last ∷ further) stop) count
     ∙ (ap (λ ls. items_of (n + 1) (length (inside ++ last ∷ [])) ls stop) all
     ∙ (used_front (n + 1) (inside ++ last ∷ []) further stop ∙ items_at _ _ 0 further stop (omega arith))) in
-    opened n line set (inside ++ last ∷ further) stop full is
+    opened n kind line set (inside ++ last ∷ further) stop full is
     ∙ rw (end_there inside last further within ends, place, take-append_seam inside (last ∷ further), behind) refl
 
 -- a whole block
-pub block_lines : (n : ℕ) (line set : List ℕ) (inside : List (List ℕ)) (last : List ℕ) → is_passed_over line ≡ false → meaning_of line ≡ Opens set → AreInside inside → is_end last ≡ true → AreItems n (line ∷ (inside ++ last ∷ [])) (Sent (record { line = n; message = Crif set (block_of inside) }) ∷ [])
-block_lines n line set inside last full is within ends = record {
+pub block_lines : (n : ℕ) (kind : BlockKind) (line set : List ℕ) (inside : List (List ℕ)) (last : List ℕ) → is_passed_over line ≡ false → meaning_of line ≡ Opens kind set → AreInside inside → is_end last ≡ true → AreItems n (line ∷ (inside ++ last ∷ [])) (Sent (record { line = n; message = block_message kind set (block_of inside) }) ∷ [])
+block_lines n kind line set inside last full is within ends = record {
   told = λ further stop.
       let all : line ∷ ((inside ++ last ∷ []) ++ further) ≡ line ∷ (inside ++ last ∷ further) = ap (λ ls. line ∷ ls) (append_assoc inside (last ∷ []) further) in
       ap (λ ls. items_of n 0 ls stop) all
-      ∙ (whole_told n line set inside last full is (recursion_from_All (λ l. is_end l ≡ false) inside within) ends further stop
-      ∙ ap (with_items (Sent (record { line = n; message = Crif set (block_of inside) }) ∷ [])) (items_at _ _ 0 further stop (omega (arith, length-append inside (last ∷ [])))));
+      ∙ (whole_told n kind line set inside last full is (recursion_from_All (λ l. is_end l ≡ false) inside within) ends further stop
+      ∙ ap (with_items (Sent (record { line = n; message = block_message kind set (block_of inside) }) ∷ [])) (items_at _ _ 0 further stop (omega (arith, length-append inside (last ∷ [])))));
 }
 
 -- a block that doesn't end
-pub open_block : (n : ℕ) (line set : List ℕ) (inside : List (List ℕ)) (stop : cut.Stop) → is_passed_over line ≡ false → meaning_of line ≡ Opens set → AreInside inside → items_of n 0 (line ∷ inside) stop ≡ no_items (stop_inside n (n + 1 + length inside) stop)
-open_block n line set inside stop full is within =
-    opened n line set inside stop full is ∙ rw (no_end inside (recursion_from_All (λ l. is_end l ≡ false) inside within)) refl
+pub open_block : (n : ℕ) (kind : BlockKind) (line set : List ℕ) (inside : List (List ℕ)) (stop : cut.Stop) → is_passed_over line ≡ false → meaning_of line ≡ Opens kind set → AreInside inside → items_of n 0 (line ∷ inside) stop ≡ no_items (stop_inside n (n + 1 + length inside) stop)
+open_block n kind line set inside stop full is within =
+    opened n kind line set inside stop full is ∙ rw (no_end inside (recursion_from_All (λ l. is_end l ≡ false) inside within)) refl
 
 meaning_behind : (m n : ℕ) (meaning : Meaning) (further : List (List ℕ)) (stop : cut.Stop) (next behind : FeedRun) → m ≤ n → AllByRecursion (λ item. m ≤ line_of item) next.items → AllByRecursion (λ item. m ≤ line_of item) behind.items → AllByRecursion (λ item. m ≤ line_of item) (by_meaning n meaning further stop next behind).items
 meaning_behind m n (Tells message) further stop next behind low one other = (low, one)
 meaning_behind m n Bad further stop next behind low one other = (low, one)
-meaning_behind m n (Opens set) further stop next behind low one other =
-    elim (list_any is_end further) as (λ b. AllByRecursion (λ item. m ≤ line_of item) (cond b (with_items (Sent (record { line = n; message = Crif set (block_of (before_first is_end further)) }) ∷ []) behind) (no_items (stop_inside n (n + 1 + length further) stop))).items)
+meaning_behind m n (Opens kind set) further stop next behind low one other =
+    elim (list_any is_end further) as (λ b. AllByRecursion (λ item. m ≤ line_of item) (cond b (with_items (Sent (record { line = n; message = block_message kind set (block_of (before_first is_end further)) }) ∷ []) behind) (no_items (stop_inside n (n + 1 + length further) stop))).items)
     [ true ↦ (low, other) | false ↦ tt ]
 
 -- no item begins before the first line

@@ -7,7 +7,8 @@ use Rattle.mh_io.specs.declared.lines_answer.LineFault.{LineFault}
 use Rattle.mh_io.specs.declared.lines_answer.LineFault.TheVariants as line_fault
 use Rattle.mh_io.specs.Limits.{most_bytes}
 use Rattle.feed_reader.specs.declared.message.Message.{Message}
-use Rattle.feed_reader.specs.declared.message.Message.TheVariants.{Crif}
+use Rattle.feed_reader.specs.declared.message.BlockKind.{BlockKind}
+use Rattle.feed_reader.specs.Messages.{block_message}
 use Rattle.feed_reader.specs.declared.message.Meaning.{Meaning}
 use Rattle.feed_reader.specs.declared.message.Meaning.TheVariants.{Opens, Tells, Bad}
 use Rattle.feed_reader.specs.declared.fault.FeedFault.TheVariants as fault
@@ -18,7 +19,7 @@ use Rattle.feed_reader.proofs.FeedItems.{message_line, bad_line, block_lines, op
 
 -- no lines lie within a block, whatever the line is
 none_within : (meaning : Meaning) → LieWithin meaning []
-none_within (Opens set) = All-nil (λ line. is_end line ≡ false)
+none_within (Opens kind set) = All-nil (λ line. is_end line ≡ false)
 none_within (Tells message) = refl
 none_within Bad = refl
 
@@ -29,22 +30,22 @@ module _ {S : Type 0} where
   pub bad_means : (held : Lined S) (n first : ℕ) (line : List ℕ) → is_passed_over line ≡ false → meaning_of line ≡ Bad → first ≡ n → held.given ≤ most_bytes → Means n (line ∷ []) held (Err (fault.BadLine first))
   bad_means held n first line full is same few = rw same (bad_line n line full is, refl, refl, few)
 
-  pub block_means : (held : Lined S) (n first : ℕ) (line set : List ℕ) (inside : List (List ℕ)) (last block : List ℕ) → is_passed_over line ≡ false → meaning_of line ≡ Opens set → AreInside inside → is_end last ≡ true → first ≡ n → block ≡ block_of inside → held.given ≤ most_bytes → Means n (line ∷ (inside ++ last ∷ [])) held (Ok (Some (record { line = first; message = Crif set block })))
-  block_means held n first line set inside last block full is within ends same whole few =
-      rw (same, whole) (block_lines n line set inside last full is within ends, refl, few)
+  pub block_means : (held : Lined S) (n first : ℕ) (kind : BlockKind) (line set : List ℕ) (inside : List (List ℕ)) (last block : List ℕ) → is_passed_over line ≡ false → meaning_of line ≡ Opens kind set → AreInside inside → is_end last ≡ true → first ≡ n → block ≡ block_of inside → held.given ≤ most_bytes → Means n (line ∷ (inside ++ last ∷ [])) held (Ok (Some (record { line = first; message = block_message kind set block })))
+  block_means held n first kind line set inside last block full is within ends same whole few =
+      rw (same, whole) (block_lines n kind line set inside last full is within ends, refl, few)
 
-  pub cut_means : (held : Lined S) (n first : ℕ) (line set : List ℕ) (inside : List (List ℕ)) → is_passed_over line ≡ false → meaning_of line ≡ Opens set → AreInside inside → IsStopped held cut.Whole → first ≡ n → Means n (line ∷ inside) held (Err (fault.Cut first))
-  cut_means held n first line set inside full is within is_stopped same =
-      rw same (open_block n line set inside cut.Whole full is within, is_stopped, refl)
+  pub cut_means : (held : Lined S) (n first : ℕ) (kind : BlockKind) (line set : List ℕ) (inside : List (List ℕ)) → is_passed_over line ≡ false → meaning_of line ≡ Opens kind set → AreInside inside → IsStopped held cut.Whole → first ≡ n → Means n (line ∷ inside) held (Err (fault.Cut first))
+  cut_means held n first kind line set inside full is within is_stopped same =
+      rw same (open_block n kind line set inside cut.Whole full is within, is_stopped, refl)
 
-  pub fault_means : (held : Lined S) (f : LineFault) (n first next : ℕ) (line set : List ℕ) (inside : List (List ℕ)) → is_passed_over line ≡ false → meaning_of line ≡ Opens set → AreInside inside → StopsAt (Err f) held → first ≡ n → next ≡ n + 1 + length inside → Means n (line ∷ inside) held (Err (feed_fault f next first))
-  fault_means held line_fault.ReadFault n first next line set inside full is within is_stopped same number =
-      (open_block n line set inside cut.Open full is within, is_stopped)
-  fault_means held line_fault.LineLong n first next line set inside full is within is_stopped same number =
-      (open_block n line set inside cut.Long full is within ∙ ap (λ k. no_items (LineLong k)) (sym number), is_stopped, omega arith)
-  fault_means held (line_fault.TooLong taken) n first next line set inside full is within is_stopped same number =
-      (open_block n line set inside cut.Over full is within, is_stopped.0, is_stopped.1)
-  fault_means held line_fault.Memory n first next line set inside full is within is_stopped same number = (same, (full, subst (λ meaning. LieWithin meaning inside) (sym is) within))
+  pub fault_means : (held : Lined S) (f : LineFault) (n first next : ℕ) (kind : BlockKind) (line set : List ℕ) (inside : List (List ℕ)) → is_passed_over line ≡ false → meaning_of line ≡ Opens kind set → AreInside inside → StopsAt (Err f) held → first ≡ n → next ≡ n + 1 + length inside → Means n (line ∷ inside) held (Err (feed_fault f next first))
+  fault_means held line_fault.ReadFault n first next kind line set inside full is within is_stopped same number =
+      (open_block n kind line set inside cut.Open full is within, is_stopped)
+  fault_means held line_fault.LineLong n first next kind line set inside full is within is_stopped same number =
+      (open_block n kind line set inside cut.Long full is within ∙ ap (λ k. no_items (LineLong k)) (sym number), is_stopped, omega arith)
+  fault_means held (line_fault.TooLong taken) n first next kind line set inside full is within is_stopped same number =
+      (open_block n kind line set inside cut.Over full is within, is_stopped.0, is_stopped.1)
+  fault_means held line_fault.Memory n first next kind line set inside full is within is_stopped same number = (same, (full, subst (λ meaning. LieWithin meaning inside) (sym is) within))
 
   -- there was no memory to tell what a line is
   pub lost_means : (held : Lined S) (n first : ℕ) (line : List ℕ) → is_passed_over line ≡ false → first ≡ n → Means n (line ∷ []) held (Err (fault.Memory first))

@@ -3,7 +3,7 @@ use Rattle.std.proofs.Common.{◌≡◌, ◌<◌, ◌==◌, ◌∷◌, [], ◌++
 use Rattle.std.specs.List.{list_all}
 use Rattle.std.proofs.lemmas.List.{append-nil}
 use Rattle.std.proofs.lemmas.List.Folds.{list_all-append}
-use Rattle.csa_terms.specs.SimmKinds.NameText.{is_full_name}
+use Rattle.side_events.specs.CsaTerms.SimmKinds.NameText.{is_full_name}
 use Rattle.feed_reader.specs.Fields.{fields_of, first, is_nil}
 use Rattle.feed_reader.specs.Values.{full_name, full_names}
 use Rattle.mh_io.proofs.MhUnits.Cuts.{first_part}

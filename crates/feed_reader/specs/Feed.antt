@@ -4,9 +4,10 @@ use Rattle.std.specs.List.{list_any, before_first, position_or_len}
 use Rattle.mh_io.specs.Lines as cut
 use Rattle.mh_io.specs.Lines.{LineRun, lines}
 use Rattle.feed_reader.specs.declared.message.Fed.{Fed}
-use Rattle.feed_reader.specs.declared.message.Message.TheVariants.{Crif}
+use Rattle.feed_reader.specs.declared.message.BlockKind.{BlockKind}
 use Rattle.feed_reader.specs.declared.message.Meaning.{Meaning}
 use Rattle.feed_reader.specs.declared.message.Meaning.TheVariants.{Opens, Tells, Bad}
+use Rattle.feed_reader.specs.Messages.{block_message}
 use Rattle.feed_reader.specs.Line.{is_passed_over, meaning_of, is_end}
 
 -- a whole message with the number of its first line, or the number of a line that is none
@@ -50,18 +51,18 @@ stop_inside first next cut.Over = TooLong
 abbrev pub block_of : List (List ℕ) → List ℕ
 block_of lines = flat_map (λ line. line ++ 10 ∷ []) lines
 
--- the block of a set that begins in the line n, with the lines behind it and what those behind the block are
-abbrev pub block_at : ℕ → List ℕ → List (List ℕ) → cut.Stop → FeedRun → FeedRun
-block_at n set further stop rest =
+-- the block of a kind and a set that begins in the line n, with the lines behind it and what those behind the block are
+abbrev pub block_at : ℕ → BlockKind → List ℕ → List (List ℕ) → cut.Stop → FeedRun → FeedRun
+block_at n kind set further stop rest =
     if list_any is_end further
-    then with_items (Sent (record { line = n; message = Crif set (block_of (before_first is_end further)) }) ∷ []) rest
+    then with_items (Sent (record { line = n; message = block_message kind set (block_of (before_first is_end further)) }) ∷ []) rest
     else no_items (stop_inside n (n + 1 + length further) stop)
 
 -- what the line n is, before the items of the lines behind it, and behind the block that it may begin
 abbrev pub by_meaning : ℕ → Meaning → List (List ℕ) → cut.Stop → FeedRun → FeedRun → FeedRun
 by_meaning n (Tells message) further stop next behind = with_items (Sent (record { line = n; message = message }) ∷ []) next
 by_meaning n Bad further stop next behind = with_items (BadAt n ∷ []) next
-by_meaning n (Opens set) further stop next behind = block_at n set further stop behind
+by_meaning n (Opens kind set) further stop next behind = block_at n kind set further stop behind
 
 -- The items of the lines from number n on, of which the first `used` lie in a block that is told already.
 unfoldable pub items_of : ℕ → ℕ → List (List ℕ) → cut.Stop → FeedRun

@@ -28,7 +28,7 @@ is_end line = bytes_eq line (codes "END")
 
 -- lines within the block that a line of this meaning begins
 abbrev pub LieWithin : Meaning → List (List ℕ) → Type 0
-LieWithin (Opens set) lines = All (λ line. is_end line ≡ false) lines
+LieWithin (Opens kind set) lines = All (λ line. is_end line ≡ false) lines
 LieWithin (Tells message) lines = lines ≡ []
 LieWithin Bad lines = lines ≡ []
 

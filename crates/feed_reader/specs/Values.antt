@@ -5,9 +5,9 @@ use Rattle.std.specs.Result.{result_ok}
 use Rattle.std.specs.Str.{bytes_eq, all_ascii_digits}
 use Rattle.std.specs.Str.Parse.{digits_value}
 use Rattle.mh_io.specs.MhUnits.Numeral.{cents_of}
-use Rattle.csa_terms.specs.SimmKinds.NameText.{is_full_name}
-use Rattle.csa_terms.specs.declared.lot_currency.LotCurrency.{LotCurrency}
-use Rattle.csa_terms.specs.declared.lot_currency.LotCurrency.TheVariants.{Same, Other}
+use Rattle.side_events.specs.CsaTerms.SimmKinds.NameText.{is_full_name}
+use Rattle.side_events.specs.CsaTerms.declared.lot_currency.LotCurrency.{LotCurrency}
+use Rattle.side_events.specs.CsaTerms.declared.lot_currency.LotCurrency.TheVariants.{Same, Other}
 use Rattle.feed_reader.specs.Fields.{is_nil}
 
 -- the field, where it is a name that isn't empty

@@ -1,21 +1,26 @@
 -- Feed grammar: the words with which messages begin.
 use Rattle.std.specs.Prelude.{ℕ, List, [], ◌∷◌, Option, find, codes}
 use Rattle.std.specs.Str.{bytes_eq}
+use Rattle.feed_reader.specs.declared.words.SideWord.{SideWord}
+use Rattle.feed_reader.specs.declared.words.SideWord.TheVariants.{Put, Take, Mark, Close, Ask, Call}
 use Rattle.feed_reader.specs.declared.words.Word.{Word}
-use Rattle.feed_reader.specs.declared.words.Word.TheVariants.{Crif, Withdraw, Put, Take, Mark, Close, Ask, Call}
+use Rattle.feed_reader.specs.declared.words.Word.TheVariants.{Crif, Withdraw, Side}
+
+abbrev pub side_word_text : SideWord → List ℕ
+side_word_text Put = codes "PUT"
+side_word_text Take = codes "TAKE"
+side_word_text Mark = codes "MARK"
+side_word_text Close = codes "CLOSE"
+side_word_text Ask = codes "ASK"
+side_word_text Call = codes "CALL"
 
 abbrev pub word_text : Word → List ℕ
 word_text Crif = codes "CRIF"
 word_text Withdraw = codes "WITHDRAW"
-word_text Put = codes "PUT"
-word_text Take = codes "TAKE"
-word_text Mark = codes "MARK"
-word_text Close = codes "CLOSE"
-word_text Ask = codes "ASK"
-word_text Call = codes "CALL"
+word_text (Side word) = side_word_text word
 
 abbrev pub words : List Word
-words = Crif ∷ Withdraw ∷ Put ∷ Take ∷ Mark ∷ Close ∷ Ask ∷ Call ∷ []
+words = Crif ∷ Withdraw ∷ Side Put ∷ Side Take ∷ Side Mark ∷ Side Close ∷ Side Ask ∷ Side Call ∷ []
 
 -- the word that a field is
 abbrev pub word_of : List ℕ → Option Word

@@ -1,6 +1,6 @@
 //! The fields of a line, read one after another.
 ghost use Rattle.std.specs.Prelude.{◌≡◌, ◌∷◌, [], not, MatchResult};
-ghost use Rattle.csa_terms.specs.Moments.{moment_of};
+ghost use Rattle.side_events.specs.CsaTerms.Moments.{moment_of};
 ghost use Rattle.feed_reader.specs.declared.unread.Unread.TheVariants as unread;
 ghost use Rattle.feed_reader.specs.Fields.{fields_of, fields_left, first, is_nil, no_more, Gives};
 ghost use Rattle.feed_reader.specs.Values.{full_name, full_names, amount, number, lot_currency};
@@ -9,9 +9,9 @@ ghost use Rattle.feed_reader.specs.Words.{word_of};
 use crate::unread::Unread;
 use crate::values::{cents_in, currency_in, number_in};
 use crate::words::Word;
-use csa_terms::simm_kinds::{Listed, Name};
-use csa_terms::{LotCurrency, Moment};
 use mh_io::mh_units::cut_at;
+use side_events::csa_terms::simm_kinds::{Listed, Name};
+use side_events::csa_terms::{LotCurrency, Moment};
 use std::alloc::Global;
 
 /// What separates the fields of a line.

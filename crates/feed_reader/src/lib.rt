@@ -8,6 +8,7 @@ mod line;
 mod message;
 mod messages;
 mod read;
+mod sides;
 mod unread;
 mod values;
 mod words;
@@ -18,6 +19,7 @@ pub use read::next_message;
 pub use values::number_in;
 
 // what the crates above reach through this one
-pub use csa_terms;
 pub use mh_io;
 pub use mh_io::mh_units;
+pub use side_events;
+pub use side_events::csa_terms;

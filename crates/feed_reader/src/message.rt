@@ -1,53 +1,18 @@
-use csa_terms::simm_kinds::{Listed, Name};
-use csa_terms::{LotCurrency, Moment};
 use mh_io::mh_units::Bytes;
+use side_events::SideEvent;
+use side_events::csa_terms::simm_kinds::{Listed, Name};
 
 /// A message of a feed. Names are not empty, amounts are in cents. Its fields stand in a line with tabs between.
 #[derive(Drop)]
 pub enum Message {
     /// `CRIF` and the set, then lines, then `END`: `block` has the lines between, each with LF.
-    Crif {
-        set: Name,
-        block: Bytes,
-    },
+    Crif { set: Name, block: Bytes },
     /// `WITHDRAW`, the set and at least one trade.
-    Withdraw {
-        set: Name,
-        names: Listed<Name>,
-    },
-    /// `PUT`, the set, a lot of collateral, its class, its value, and `same` or `other` for its currency.
-    Put {
-        set: Name,
-        lot: Name,
-        class: Name,
-        value: i64,
-        currency: LotCurrency,
-    },
-    /// `TAKE`, the set and a lot.
-    Take {
-        set: Name,
-        lot: Name,
-    },
-    /// `MARK`, the set, a lot, and the value that it has from then on.
-    Mark {
-        set: Name,
-        lot: Name,
-        value: i64,
-    },
-    /// `CLOSE`, the set and the number of a call, from 1.
-    Close {
-        set: Name,
-        number: u32,
-    },
-    /// `ASK` and the set.
-    Ask {
-        set: Name,
-    },
-    /// `CALL`, the set, and the local time of a demand, `YYYY-MM-DDTHH:MM`.
-    Call {
-        set: Name,
-        moment: Moment,
-    },
+    Withdraw { set: Name, names: Listed<Name> },
+    /// A word, the set, and what the word has beside: `PUT` a lot of collateral, its class, its value, and `same` or `other` for
+    /// its currency; `TAKE` a lot; `MARK` a lot and the value that it has from then on; `CLOSE` the number of a call, from 1;
+    /// `ASK` nothing; `CALL` the local time of a demand, `YYYY-MM-DDTHH:MM`.
+    OnSide { set: Name, event: SideEvent },
 }
 
 /// A message, with the number of its first line.
@@ -59,10 +24,17 @@ pub struct Fed {
     pub message: Message,
 }
 
+/// What the lines of a block are.
+#[derive(Clone, Copy)]
+pub(crate) enum BlockKind {
+    /// A CRIF file.
+    Crif,
+}
+
 /// What a line outside a block is, where it isn't passed over.
 pub(crate) enum Meaning {
-    /// A block of this set begins.
-    Opens { set: Name },
+    /// A block of this kind begins, for this set.
+    Opens { kind: BlockKind, set: Name },
     /// It is this message.
     Tells { message: Message },
     /// It is none.

@@ -4,16 +4,17 @@ ghost use Rattle.mh_io.specs.Limits.{most_bytes};
 ghost use Rattle.mh_io.specs.Lined.{Lined, Gave, IsStopped};
 ghost use Rattle.feed_reader.specs.Feed.{Item};
 ghost use Rattle.feed_reader.specs.Line.{is_passed_over, meaning_of};
+ghost use Rattle.feed_reader.specs.Messages.{block_message};
 ghost use Rattle.feed_reader.specs.Answers.{TellsItems, Follows, Answers, StopsLines, IsPlaced, answer_at};
 ghost use Rattle.feed_reader.specs.Steps.{Tells, feed_fault};
 
 use crate::block::{read_block, skip_to_line};
 use crate::line::read_line;
-use crate::message::Meaning;
+use crate::message::{BlockKind, Meaning};
 use crate::{Fed, FeedFault, Message};
-use csa_terms::simm_kinds::Name;
 use mh_io::mh_units::Bytes;
 use mh_io::{LineFault, LineStep, Lines, Source};
+use side_events::csa_terms::simm_kinds::Name;
 use std::alloc::Global;
 
 /// A line's fault as one of the feed: a long line is the one numbered `next`, and memory was wanted for the message that
@@ -29,13 +30,23 @@ fn feed_fault(fault: LineFault, next: u32, first: u32) -> FeedFault
     }
 }
 
-/// Reads the block of this set, which the line that was given last began.
-fn read_crif<S: Source>(
+/// The message that a block of a set is.
+fn block_message(kind: BlockKind, set: Name, block: Bytes) -> Message
+    ensures { result ≡ block_message kind set block }
+{
+    match kind {
+        BlockKind::Crif => Message::Crif { set, block },
+    }
+}
+
+/// Reads the block of this kind and this set, which the line that was given last began.
+fn read_whole_block<S: Source>(
     alloc: Global,
     lines: &mut Lines<S>,
+    kind: BlockKind,
     set: Name,
 ) -> Result<Option<Fed>, FeedFault>
-    ensures tells { (line : List ℕ) → is_passed_over line ≡ false → meaning_of line ≡ Meaning.Opens set → Tells S.seen lines.old lines.new line result }
+    ensures tells { (line : List ℕ) → is_passed_over line ≡ false → meaning_of line ≡ Meaning.Opens kind set → Tells S.seen lines.old lines.new line result }
     ensures bounded { lines.new.passed + length lines.new.pending ≤ most_bytes + 1 }
 {
     let first = lines.given();
@@ -43,7 +54,7 @@ fn read_crif<S: Source>(
     match read_block(lines, &mut block) {
         Ok(LineStep::Line) => Ok(Some(Fed {
             line: first,
-            message: Message::Crif { set, block },
+            message: block_message(kind, set, block),
         })),
         Ok(LineStep::End) => Err(FeedFault::Cut { line: first }),
         Err(fault) => Err(feed_fault(fault, lines.given() + 1, first)),
@@ -63,7 +74,7 @@ fn read_message<S: Source>(
 {
     let first = lines.given();
     match read_line(alloc, line) {
-        Ok(Meaning::Opens { set }) => read_crif(alloc, lines, set),
+        Ok(Meaning::Opens { kind, set }) => read_whole_block(alloc, lines, kind, set),
         Ok(Meaning::Tells { message }) => Ok(Some(Fed {
             line: first,
             message,

@@ -3,8 +3,8 @@ ghost use Rattle.std.specs.Prelude.{◌≡◌};
 ghost use Rattle.feed_reader.specs.Values.{amount, number, lot_currency};
 
 use crate::words::is_word;
-use csa_terms::LotCurrency;
 use mh_io::mh_units::read_cents;
+use side_events::csa_terms::LotCurrency;
 
 /// The cents of a numeral.
 pub(crate) fn cents_in(field: &[u8]) -> Option<i64>

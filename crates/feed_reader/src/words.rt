@@ -1,13 +1,19 @@
 ghost use Rattle.std.specs.Prelude.{◌≡◌};
 ghost use Rattle.std.specs.Str.{bytes_eq};
 ghost use Rattle.feed_reader.specs.Line.{is_passed_over, is_end};
-ghost use Rattle.feed_reader.specs.Words.{word_text, word_of};
+ghost use Rattle.feed_reader.specs.Words.{side_word_text, word_text, word_of};
 
 /// The first field of a message, which says what the others are.
 #[derive(Clone, Copy)]
 pub(crate) enum Word {
     Crif,
     Withdraw,
+    Side(SideWord),
+}
+
+/// The first field of a message that asks for an event beside the trades.
+#[derive(Clone, Copy)]
+pub(crate) enum SideWord {
     Put,
     Take,
     Mark,
@@ -16,16 +22,31 @@ pub(crate) enum Word {
     Call,
 }
 
+impl SideWord {
+    fn text(self) -> &'static str
+        ensures { result.now ≡ side_word_text self }
+    {
+        match self {
+            SideWord::Put => "PUT",
+            SideWord::Take => "TAKE",
+            SideWord::Mark => "MARK",
+            SideWord::Close => "CLOSE",
+            SideWord::Ask => "ASK",
+            SideWord::Call => "CALL",
+        }
+    }
+}
+
 impl Word {
     const ALL: [Word; 8] = [
         Word::Crif,
         Word::Withdraw,
-        Word::Put,
-        Word::Take,
-        Word::Mark,
-        Word::Close,
-        Word::Ask,
-        Word::Call,
+        Word::Side(SideWord::Put),
+        Word::Side(SideWord::Take),
+        Word::Side(SideWord::Mark),
+        Word::Side(SideWord::Close),
+        Word::Side(SideWord::Ask),
+        Word::Side(SideWord::Call),
     ];
 
     fn text(self) -> &'static str
@@ -34,12 +55,7 @@ impl Word {
         match self {
             Word::Crif => "CRIF",
             Word::Withdraw => "WITHDRAW",
-            Word::Put => "PUT",
-            Word::Take => "TAKE",
-            Word::Mark => "MARK",
-            Word::Close => "CLOSE",
-            Word::Ask => "ASK",
-            Word::Call => "CALL",
+            Word::Side(word) => word.text(),
         }
     }
 

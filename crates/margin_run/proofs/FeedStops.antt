@@ -4,8 +4,8 @@ use Rattle.std.specs.List.{list_any, before_first, position_or_len}
 use Rattle.mh_io.specs.Lines as cut
 use Rattle.mh_io.specs.Lines.{lines}
 use Rattle.mh_io.specs.Limits.{most_bytes}
-use Rattle.feed_reader.specs.declared.message.Message.TheVariants.{Crif}
 use Rattle.feed_reader.specs.Line.{is_passed_over, meaning_of, is_end}
+use Rattle.feed_reader.specs.Messages.{block_message}
 use Rattle.feed_reader.specs.Feed.{Sent, FeedStop, FeedRun, Whole, Cut, LineLong, TooLong, Open, no_items, with_items, stop_outside, stop_inside, block_of, block_at, by_meaning, items_of, feed}
 use Rattle.margin_run.proofs.LongLines.{whole_ended, over_long, line_stays_long}
 
@@ -31,10 +31,11 @@ inside_stop first next cut.Open = refl
 inside_stop first next cut.Long = refl
 inside_stop first next cut.Over = refl
 
-block_stop : (n : ℕ) (set : List ℕ) (further : List (List ℕ)) (stop : cut.Stop) (behind : FeedRun)
-    → line_stop behind.stop ≡ stop → line_stop (block_at n set further stop behind).stop ≡ stop
-block_stop n set further stop behind e =
-    let block = Sent (record { line = n; message = Crif set (block_of (before_first is_end further)) }) in
+-- (the type of a kind of block is its own crate's)
+block_stop : (n : ℕ) (kind : _) (set : List ℕ) (further : List (List ℕ)) (stop : cut.Stop) (behind : FeedRun)
+    → line_stop behind.stop ≡ stop → line_stop (block_at n kind set further stop behind).stop ≡ stop
+block_stop n kind set further stop behind e =
+    let block = Sent (record { line = n; message = block_message kind set (block_of (before_first is_end further)) }) in
     let next = n + 1 + length further in
     elim (list_any is_end further)
     as (λ b. line_stop (cond b (with_items (block ∷ []) behind) (no_items (stop_inside n next stop))).stop ≡ stop)
@@ -43,7 +44,7 @@ block_stop n set further stop behind e =
 -- by each meaning of the line
 meaning_stop : (n : ℕ) (line : List ℕ) (further : List (List ℕ)) (stop : cut.Stop) (next behind : FeedRun)
     → line_stop next.stop ≡ stop
-    → ((set : List ℕ) → line_stop (block_at n set further stop behind).stop ≡ stop)
+    → ((kind : _) (set : List ℕ) → line_stop (block_at n kind set further stop behind).stop ≡ stop)
     → line_stop (by_meaning n (meaning_of line) further stop next behind).stop ≡ stop
 meaning_stop n line further stop next behind one block = grind (arith, one, block)
 
@@ -57,10 +58,9 @@ items_stop n zero (line ∷ further) stop =
     let behind = items_of (n + 1) used further stop in
     let one_stop = items_stop (n + 1) 0 further stop in
     let behind_stop = items_stop (n + 1) used further stop in
-    let block = λ (set : List ℕ). block_stop n set further stop behind behind_stop in
     elim (is_passed_over line)
     as (λ b. line_stop (cond b one (by_meaning n (meaning_of line) further stop one behind)).stop ≡ stop)
-    [ true ↦ one_stop | false ↦ meaning_stop n line further stop one behind one_stop block ]
+    [ true ↦ one_stop | false ↦ meaning_stop n line further stop one behind one_stop (λ kind set. block_stop n kind set further stop behind behind_stop) ]
 
 feed_stop : (taken : List ℕ) (ended : Bool) (stop : FeedStop)
     → (feed taken ended).stop ≡ stop → (lines taken ended).stop ≡ line_stop stop

@@ -8,6 +8,8 @@ use Rattle.csa_terms.specs.Moments.{moment_text}
 use Rattle.csa_terms.specs.declared.lot_currency.LotCurrency.{LotCurrency}
 use Rattle.csa_terms.specs.declared.lot_currency.LotCurrency.TheVariants as currency
 use Rattle.held_cell.specs.declared.entry.Entry.{Entry}
+use Rattle.side_events.specs.declared.side_event.SideEvent.{SideEvent}
+use Rattle.side_events.specs.declared.side_event.SideEvent.TheVariants as side
 use Rattle.set_core.specs.declared.event.Event.{Event}
 use Rattle.set_core.specs.declared.event.Event.TheVariants as event
 use Rattle.set_core.specs.declared.reply.Reply.{Reply}
@@ -22,23 +24,27 @@ abbrev pub currency_word : LotCurrency → List ℕ
 currency_word currency.Same = codes "same"
 currency_word currency.Other = codes "other"
 
--- A submit with the numbers of its trades and of their rows; a withdrawal with the number of its names and each of them;
--- the others as in a feed, without the set. Values are amounts of money.
+-- as in a feed, without the set; values are amounts of money
+abbrev pub side_fields : SideEvent → List ℕ
+side_fields (side.PutLot lot class value currency) =
+    field (codes "PUT") ++ field lot ++ field class ++ field (money_text value) ++ field (currency_word currency)
+side_fields (side.TakeLot lot) = field (codes "TAKE") ++ field lot
+side_fields (side.MarkLot lot value) = field (codes "MARK") ++ field lot ++ field (money_text value)
+side_fields (side.CloseCall number) = field (codes "CLOSE") ++ field (decimal number)
+side_fields side.AskMargin = field (codes "ASK")
+side_fields (side.AskCall moment) = field (codes "CALL") ++ field (moment_text moment)
+
+-- a submit with the numbers of its trades and of their rows; a withdrawal with the number of its names and each of them
 abbrev pub event_fields : Event → List ℕ
 event_fields (event.Submit trades) = field (codes "SUBMIT") ++ field (decimal (length trades)) ++ field (decimal (length (rows_of trades)))
 event_fields (event.Withdraw names) = field (codes "WITHDRAW") ++ field (decimal (length names)) ++ flat_map field names
-event_fields (event.PutLot lot class value currency) =
-    field (codes "PUT") ++ field lot ++ field class ++ field (money_text value) ++ field (currency_word currency)
-event_fields (event.TakeLot lot) = field (codes "TAKE") ++ field lot
-event_fields (event.MarkLot lot value) = field (codes "MARK") ++ field lot ++ field (money_text value)
-event_fields (event.CloseCall number) = field (codes "CLOSE") ++ field (decimal number)
-event_fields event.AskMargin = field (codes "ASK")
-event_fields (event.AskCall moment) = field (codes "CALL") ++ field (moment_text moment)
+event_fields (event.OnSide e) = side_fields e
 
 -- the lines of an event under its entry's line
 abbrev pub event_lines : Event → List ℕ
 event_lines (event.Submit trades) = flat_map trade_lines trades
-event_lines _ = []
+event_lines (event.Withdraw names) = []
+event_lines (event.OnSide e) = []
 
 -- the lines of a reply under its entry's line
 abbrev pub reply_lines : Reply → List ℕ

@@ -1,14 +1,15 @@
 //! The fields of an event in its entry's line.
 ghost use Rattle.std.specs.Prelude.{◌≡◌, ◌++◌, OnOk, length, codes, decimal};
 ghost use Rattle.std.specs.List.{flat_map};
-ghost use Rattle.set_core.specs.declared.event.Event.TheVariants as events;
+ghost use Rattle.side_events.specs.declared.side_event.SideEvent.TheVariants as events;
 ghost use Rattle.fault_text.specs.Fields.{field};
-ghost use Rattle.margin_text.specs.Journal.{currency_word, event_fields};
+ghost use Rattle.margin_text.specs.Journal.{currency_word, side_fields, event_fields};
 
 use csa_terms::{LotCurrency, Moment, push_moment};
 use fault_text::{push_amount, push_field, push_number};
 use mh_units::Text;
 use set_core::Event;
+use side_events::SideEvent;
 use simm_kinds::Name;
 use std::alloc::AllocError;
 
@@ -66,7 +67,7 @@ fn push_put(
     value: i64,
     currency: LotCurrency,
 ) -> Result<(), AllocError>
-    ensures { OnOk result (text.new ≡ text.old ++ event_fields (events.PutLot lot.now class.now value currency)) }
+    ensures { OnOk result (text.new ≡ text.old ++ side_fields (events.PutLot lot.now class.now value currency)) }
 {
     push_lot(text, b"PUT", lot)?;
     push_field(text, class.bytes())?;
@@ -76,7 +77,7 @@ fn push_put(
 
 /// Adds the fields of a mark.
 fn push_mark(text: &mut Text, lot: &Name, value: i64) -> Result<(), AllocError>
-    ensures { OnOk result (text.new ≡ text.old ++ event_fields (events.MarkLot lot.now value)) }
+    ensures { OnOk result (text.new ≡ text.old ++ side_fields (events.MarkLot lot.now value)) }
 {
     push_lot(text, b"MARK", lot)?;
     push_amount(text, value)
@@ -84,7 +85,7 @@ fn push_mark(text: &mut Text, lot: &Name, value: i64) -> Result<(), AllocError>
 
 /// Adds the fields of a call that is closed.
 fn push_close(text: &mut Text, number: u32) -> Result<(), AllocError>
-    ensures { OnOk result (text.new ≡ text.old ++ event_fields (events.CloseCall number)) }
+    ensures { OnOk result (text.new ≡ text.old ++ side_fields (events.CloseCall number)) }
 {
     push_field(text, b"CLOSE")?;
     push_number(text, number)
@@ -92,11 +93,30 @@ fn push_close(text: &mut Text, number: u32) -> Result<(), AllocError>
 
 /// Adds the fields of a demand.
 fn push_demand(text: &mut Text, moment: Moment) -> Result<(), AllocError>
-    ensures { OnOk result (text.new ≡ text.old ++ event_fields (events.AskCall moment)) }
+    ensures { OnOk result (text.new ≡ text.old ++ side_fields (events.AskCall moment)) }
 {
     push_field(text, b"CALL")?;
     push_moment(text, moment)?;
     text.push(b'\t')
+}
+
+/// Adds the fields of an event beside the trades.
+fn push_side(text: &mut Text, event: &SideEvent) -> Result<(), AllocError>
+    ensures { OnOk result (text.new ≡ text.old ++ side_fields event.now) }
+{
+    match event {
+        SideEvent::PutLot {
+            lot,
+            class,
+            value,
+            currency,
+        } => push_put(text, lot, class, *value, *currency),
+        SideEvent::TakeLot { lot } => push_lot(text, b"TAKE", lot),
+        SideEvent::MarkLot { lot, value } => push_mark(text, lot, *value),
+        SideEvent::CloseCall { number } => push_close(text, *number),
+        SideEvent::AskMargin => push_field(text, b"ASK"),
+        SideEvent::AskCall { moment } => push_demand(text, *moment),
+    }
 }
 
 /// Adds the fields of an event.
@@ -106,16 +126,6 @@ pub(crate) fn push_event(text: &mut Text, event: &Event) -> Result<(), AllocErro
     match event {
         Event::Submit(batch) => push_submit(text, batch.trades().len(), event.row_count()),
         Event::Withdraw(names) => push_withdrawal(text, names.as_slice()),
-        Event::PutLot {
-            lot,
-            class,
-            value,
-            currency,
-        } => push_put(text, lot, class, *value, *currency),
-        Event::TakeLot { lot } => push_lot(text, b"TAKE", lot),
-        Event::MarkLot { lot, value } => push_mark(text, lot, *value),
-        Event::CloseCall { number } => push_close(text, *number),
-        Event::AskMargin => push_field(text, b"ASK"),
-        Event::AskCall { moment } => push_demand(text, *moment),
+        Event::OnSide(event) => push_side(text, event),
     }
 }

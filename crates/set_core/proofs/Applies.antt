@@ -19,6 +19,7 @@ use Rattle.collateral_ledger.specs.Holdings.{Holdings}
 use Rattle.collateral_ledger.specs.Booked.{total, booked_of, settled, counted as counted_held}
 use Rattle.collateral_ledger.specs.Refusals.{put_refusal, is_lot_value, is_full as is_full_of}
 use Rattle.set_core.specs.declared.event.Event.{Event}
+use Rattle.side_events.specs.declared.side_event.SideEvent.TheVariants as side
 use Rattle.set_core.specs.declared.event.Event.TheVariants as event
 use Rattle.set_core.specs.declared.reply.Reply.{Reply}
 use Rattle.set_core.specs.declared.reply.Reply.TheVariants as reply
@@ -80,14 +81,14 @@ answer_is p t log (event.Submit batch) d is =
     ap (λ trades. if_admitted (first_unadmitted p batch) (range p (rows_of trades))) (sym (book-submitted log 0 batch (different_trades batch is) (book_different log d)))
 answer_is p t log (event.Withdraw names) d is =
     ap (λ test. if_known (option_map (λ i. i + 1) (position test names))) (fun_ext (λ name. ap not (in_book log name)))
-answer_is p t log (event.PutLot lot class value currency) d is = put_is t log lot class value
-answer_is p t log (event.TakeLot lot) d is = ap (λ there. ledger_reply (cond there None (Some fault.LotUnknown))) (has_lot-held t lot (lots log)) ∙ take_answer (is_there log lot)
-answer_is p t log (event.MarkLot lot value) d is =
+answer_is p t log (event.OnSide (side.PutLot lot class value currency)) d is = put_is t log lot class value
+answer_is p t log (event.OnSide (side.TakeLot lot)) d is = ap (λ there. ledger_reply (cond there None (Some fault.LotUnknown))) (has_lot-held t lot (lots log)) ∙ take_answer (is_there log lot)
+answer_is p t log (event.OnSide (side.MarkLot lot value)) d is =
     ap (λ there. ledger_reply (cond (not there) (Some fault.LotUnknown) (cond (not (is_lot_value value)) (Some (fault.LotRange value)) None))) (has_lot-held t lot (lots log))
     ∙ mark_answer (is_there log lot) (is_lot_value value) value
-answer_is p t log (event.CloseCall number) d is = close_answer (is_outstanding log number)
-answer_is p t log event.AskMargin d is = refl
-answer_is p t log (event.AskCall moment) d is = ap (λ booked. if_calling_day t (made log) (simm p (rows_of (book log))).total.0 booked moment) (booked_is t log)
+answer_is p t log (event.OnSide (side.CloseCall number)) d is = close_answer (is_outstanding log number)
+answer_is p t log (event.OnSide side.AskMargin) d is = refl
+answer_is p t log (event.OnSide (side.AskCall moment)) d is = ap (λ booked. if_calling_day t (made log) (simm p (rows_of (book log))).total.0 booked moment) (booked_is t log)
 
 -- a lot that is put is new
 put_new : (there : Bool) (rest : Reply) → is_accepted (cond there (reply.Refused refusal.LotKnown) rest) ≡ true → there ≡ false
@@ -95,14 +96,14 @@ put_new true rest h = absurd (true≢false (sym h))
 put_new false rest h = refl
 
 is_new : (p : Params) (t : Agreement) (log : Log) (e : Event) (r : Reply) → r ≡ answer p t log e → is_accepted r ≡ true → IsNew (lots log) e
-is_new p t log (event.PutLot lot class value currency) r h accepted = put_new (is_there log lot) _ (sym (ap is_accepted h) ∙ accepted)
+is_new p t log (event.OnSide (side.PutLot lot class value currency)) r h accepted = put_new (is_there log lot) _ (sym (ap is_accepted h) ∙ accepted)
 is_new p t log (event.Submit batch) r h accepted = tt
 is_new p t log (event.Withdraw names) r h accepted = tt
-is_new p t log (event.TakeLot lot) r h accepted = tt
-is_new p t log (event.MarkLot lot value) r h accepted = tt
-is_new p t log (event.CloseCall number) r h accepted = tt
-is_new p t log event.AskMargin r h accepted = tt
-is_new p t log (event.AskCall moment) r h accepted = tt
+is_new p t log (event.OnSide (side.TakeLot lot)) r h accepted = tt
+is_new p t log (event.OnSide (side.MarkLot lot value)) r h accepted = tt
+is_new p t log (event.OnSide (side.CloseCall number)) r h accepted = tt
+is_new p t log (event.OnSide side.AskMargin) r h accepted = tt
+is_new p t log (event.OnSide (side.AskCall moment)) r h accepted = tt
 
 -- ---- the live margin's book after the answer is the journal's
 
@@ -148,12 +149,7 @@ withdraw_book log caller names (reply.NoCall excess margin booked) h = absurd (t
 pub book_is : (log : Log) (caller : ℕ) (e : Event) (r : Reply) (p : Params) (t : Agreement) → AreDifferent (starts [] log) → IsEvent e → r ≡ answer p t log e → live_book (book log) e r ≡ book (log ++ entry caller e r ∷ [])
 book_is log caller (event.Submit batch) r p t d is h = submit_book log caller batch r d is (ap is_settled h ∙ submit_settled (first_unadmitted p batch) (range p (rows_of (book (log ++ entry 0 (event.Submit batch) reply.Accepted ∷ [])))))
 book_is log caller (event.Withdraw names) r p t d is h = withdraw_book log caller names r (ap is_settled h ∙ known_settled (first_unknown log names))
-book_is log caller (event.PutLot lot class value currency) r p t d is h = other_book log caller (event.PutLot lot class value currency) r (λ name. refl) refl
-book_is log caller (event.TakeLot lot) r p t d is h = other_book log caller (event.TakeLot lot) r (λ name. refl) refl
-book_is log caller (event.MarkLot lot value) r p t d is h = other_book log caller (event.MarkLot lot value) r (λ name. refl) refl
-book_is log caller (event.CloseCall number) r p t d is h = other_book log caller (event.CloseCall number) r (λ name. refl) refl
-book_is log caller event.AskMargin r p t d is h = other_book log caller event.AskMargin r (λ name. refl) refl
-book_is log caller (event.AskCall moment) r p t d is h = other_book log caller (event.AskCall moment) r (λ name. refl) refl
+book_is log caller (event.OnSide e) r p t d is h = other_book log caller (event.OnSide e) r (λ name. refl) refl
 
 -- ---- all of it
 

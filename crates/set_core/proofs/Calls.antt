@@ -4,11 +4,13 @@ use Rattle.std.specs.List.{list_any}
 use Rattle.std.proofs.lemmas.List.Folds.{list_any-append}
 use Rattle.held_cell.specs.declared.entry.Entry.{Entry}
 use Rattle.set_core.specs.declared.event.Event.{Event}
+use Rattle.side_events.specs.declared.side_event.SideEvent.TheVariants as side
 use Rattle.set_core.specs.declared.event.Event.TheVariants as event
 use Rattle.set_core.specs.declared.reply.Reply.{Reply}
 use Rattle.set_core.specs.declared.reply.Reply.TheVariants as reply
 use Rattle.collateral_ledger.specs.Holdings.{Call}
 use Rattle.collateral_ledger.specs.Changes.{without_call}
+use Rattle.set_core.specs.Events.{if_side}
 use Rattle.set_core.specs.Book.{is_accepted}
 use Rattle.set_core.specs.Calls.{calls_by, made, closes, is_closed_by, call_made, stays_open, outstanding_after, outstanding}
 use Rattle.set_core.proofs.Words.{Log}
@@ -73,7 +75,7 @@ outstanding-push log e =
 -- the same by whether the entry is accepted
 abbrev pub closed : Bool → Event → List Call → List Call
 closed accepted e [] = []
-closed accepted e (call ∷ cs) = cond ((accepted && closes call.number e) || false) (closed accepted e cs) (call ∷ closed accepted e cs)
+closed accepted e (call ∷ cs) = cond ((accepted && if_side (closes call.number) false e) || false) (closed accepted e cs) (call ∷ closed accepted e cs)
 
 pub closed_by : (e : Entry Event Reply) (cs : List Call) → stays_open (e ∷ []) cs ≡ closed (is_accepted e.reply) e.event cs
 closed_by e [] = refl
@@ -84,17 +86,17 @@ refused_open e [] = refl
 refused_open e (call ∷ cs) = ap (λ rest. call ∷ rest) (refused_open e cs)
 
 -- an event that closes no call
-pub others_open : (e : Event) → ((number : ℕ) → closes number e ≡ false) → (accepted : Bool) (cs : List Call) → closed accepted e cs ≡ cs
+pub others_open : (e : Event) → ((number : ℕ) → if_side (closes number) false e ≡ false) → (accepted : Bool) (cs : List Call) → closed accepted e cs ≡ cs
 others_open e still false cs = refused_open e cs
 others_open e still true [] = refl
 others_open e still true (call ∷ cs) =
     ap (λ now. cond (now || false) (closed true e cs) (call ∷ closed true e cs)) (still call.number) ∙ ap (λ rest. call ∷ rest) (others_open e still true cs)
 
 -- a call that is closed
-pub closed_without : (number : ℕ) (cs : List Call) → closed true (event.CloseCall number) cs ≡ without_call number cs
+pub closed_without : (number : ℕ) (cs : List Call) → closed true (event.OnSide (side.CloseCall number)) cs ≡ without_call number cs
 closed_without number [] = refl
 closed_without number (call ∷ cs) = at (number == call.number) (closed_without number cs)
   where
-    at : (now : Bool) → closed true (event.CloseCall number) cs ≡ without_call number cs → cond (now || false) (closed true (event.CloseCall number) cs) (call ∷ closed true (event.CloseCall number) cs) ≡ cond (not now) (call ∷ without_call number cs) (without_call number cs)
+    at : (now : Bool) → closed true (event.OnSide (side.CloseCall number)) cs ≡ without_call number cs → cond (now || false) (closed true (event.OnSide (side.CloseCall number)) cs) (call ∷ closed true (event.OnSide (side.CloseCall number)) cs) ≡ cond (not now) (call ∷ without_call number cs) (without_call number cs)
     at true h = h
     at false h = ap (λ rest. call ∷ rest) h

@@ -8,6 +8,7 @@ use Rattle.bucket_cache.specs.SimmRules.Simm.{simm}
 use Rattle.collateral_ledger.specs.CsaTerms.Calendar.{Moment, due_day}
 use Rattle.collateral_ledger.specs.Holdings.{Holdings}
 use Rattle.collateral_ledger.specs.Booked.{booked_of}
+use Rattle.side_events.specs.declared.side_event.SideEvent.TheVariants as side
 use Rattle.set_core.specs.declared.event.Event.TheVariants as event
 use Rattle.set_core.specs.declared.reply.Reply.{Reply}
 use Rattle.set_core.specs.declared.reply.Reply.TheVariants as reply
@@ -24,7 +25,7 @@ is_found false due day h = absurd (true≢false (ap is_some h))
 pub demand_does : (l new : Traded) (h has : Holdings) (moment : Moment) (due margin booked : ℤ) → new ≡ l
     → is_calling_day moment.day ≡ true → due ≡ due_day moment h.terms → margin ≡ (simm l.params (rows_of l.book)).total.0 → booked ≡ booked_of h
     → (result : Result Reply AllocError) → IfOk result (λ r. r ≡ noted h.added due margin booked (called_for margin booked h.terms)) → IfOk result (λ r. has ≡ with_call h r)
-    → IfOk result (λ r. Does l new h has (event.AskCall moment) r)
+    → IfOk result (λ r. Does l new h has (event.OnSide (side.AskCall moment)) r)
 demand_does l new h has moment due margin booked same calling due_is margin_is booked_is (Err _) value after = tt
 demand_does l new h has moment due margin booked same calling due_is margin_is booked_is (Ok r) value after = record {
   value = value

@@ -6,11 +6,13 @@ use Rattle.collateral_ledger.specs.SimmKinds.Order.{same_name}
 use Rattle.collateral_ledger.specs.CsaTerms.Terms.{Agreement}
 use Rattle.held_cell.specs.Entries.{entry}
 use Rattle.set_core.specs.declared.event.Event.{Event}
+use Rattle.side_events.specs.declared.side_event.SideEvent.TheVariants as side
 use Rattle.set_core.specs.declared.event.Event.TheVariants as event
 use Rattle.set_core.specs.declared.reply.Reply.{Reply}
 use Rattle.set_core.specs.declared.reply.Reply.TheVariants as reply
 use Rattle.collateral_ledger.specs.Holdings.{Call}
 use Rattle.collateral_ledger.specs.Changes.{has_lot, with_value, without_lot, without_call}
+use Rattle.set_core.specs.Events.{if_side}
 use Rattle.set_core.specs.Book.{is_accepted}
 use Rattle.set_core.specs.Lots.{Lot, lot_of_event, lot_put, lots}
 use Rattle.set_core.specs.Calls.{calls_by, made, call_made, outstanding}
@@ -25,96 +27,96 @@ pub has_lot-held : (t : Agreement) (name : List ℕ) (ls : List Lot) → has_lot
 has_lot-held t name [] = refl
 has_lot-held t name (lot ∷ ls) = ap (λ rest. same_name name lot.name || rest) (has_lot-held t name ls)
 
-taken : (t : Agreement) (name : List ℕ) (ls : List Lot) → map (held_lot t) (changed true (event.TakeLot name) ls) ≡ without_lot name (map (held_lot t) ls)
+taken : (t : Agreement) (name : List ℕ) (ls : List Lot) → map (held_lot t) (changed true (event.OnSide (side.TakeLot name)) ls) ≡ without_lot name (map (held_lot t) ls)
 taken t name [] = refl
 taken t name (lot ∷ ls) = at (same_name name lot.name) (taken t name ls)
   where
-    at : (same : Bool) → map (held_lot t) (changed true (event.TakeLot name) ls) ≡ without_lot name (map (held_lot t) ls) → map (held_lot t) (cond (same || false) (changed true (event.TakeLot name) ls) (lot ∷ changed true (event.TakeLot name) ls)) ≡ cond (not same) (held_lot t lot ∷ without_lot name (map (held_lot t) ls)) (without_lot name (map (held_lot t) ls))
+    at : (same : Bool) → map (held_lot t) (changed true (event.OnSide (side.TakeLot name)) ls) ≡ without_lot name (map (held_lot t) ls) → map (held_lot t) (cond (same || false) (changed true (event.OnSide (side.TakeLot name)) ls) (lot ∷ changed true (event.OnSide (side.TakeLot name)) ls)) ≡ cond (not same) (held_lot t lot ∷ without_lot name (map (held_lot t) ls)) (without_lot name (map (held_lot t) ls))
     at true h = h
     at false h = ap (λ rest. held_lot t lot ∷ rest) h
 
-marked : (t : Agreement) (name : List ℕ) (value : ℤ) (ls : List Lot) → map (held_lot t) (changed true (event.MarkLot name value) ls) ≡ with_value name value (map (held_lot t) ls)
+marked : (t : Agreement) (name : List ℕ) (value : ℤ) (ls : List Lot) → map (held_lot t) (changed true (event.OnSide (side.MarkLot name value)) ls) ≡ with_value name value (map (held_lot t) ls)
 marked t name value [] = refl
 marked t name value (lot ∷ ls) = at (same_name name lot.name) (marked t name value ls)
   where
-    at : (same : Bool) → map (held_lot t) (changed true (event.MarkLot name value) ls) ≡ with_value name value (map (held_lot t) ls) → held_lot t (record lot { value = cond same value lot.value }) ∷ map (held_lot t) (changed true (event.MarkLot name value) ls) ≡ cond same (record (held_lot t lot) { value = value }) (held_lot t lot) ∷ with_value name value (map (held_lot t) ls)
+    at : (same : Bool) → map (held_lot t) (changed true (event.OnSide (side.MarkLot name value)) ls) ≡ with_value name value (map (held_lot t) ls) → held_lot t (record lot { value = cond same value lot.value }) ∷ map (held_lot t) (changed true (event.OnSide (side.MarkLot name value)) ls) ≡ cond same (record (held_lot t lot) { value = value }) (held_lot t lot) ∷ with_value name value (map (held_lot t) ls)
     at true h = ap (λ rest. record (held_lot t lot) { value = value } ∷ rest) h
     at false h = ap (λ rest. held_lot t lot ∷ rest) h
 
 -- the lots before an event that is accepted have no lot of the name that it puts
 abbrev pub IsNew : List Lot → Event → Type 0
-IsNew ls (event.PutLot lot class value currency) = list_any (λ (other : Lot). same_name lot other.name) ls ≡ false
+IsNew ls (event.OnSide (side.PutLot lot class value currency)) = list_any (λ (other : Lot). same_name lot other.name) ls ≡ false
 IsNew ls _ = Unit {0}
 
 -- lots after an event, by whether it is accepted
 abbrev lots_by : List Lot → Event → Bool → List Lot
-lots_by ls e accepted = changed accepted e ls ++ cond accepted (lot_of_event e) []
+lots_by ls e accepted = changed accepted e ls ++ cond accepted (if_side lot_of_event [] e) []
 
-nothing_put : (t : Agreement) (ls : List Lot) (e : Event) → ((accepted : Bool) → changed accepted e ls ≡ ls) → lot_of_event e ≡ [] → (accepted : Bool) → map (held_lot t) (lots_by ls e accepted) ≡ map (held_lot t) ls
-nothing_put t ls e same none true = ap (λ ms. map (held_lot t) (ms ++ lot_of_event e)) (same true) ∙ ap (λ new. map (held_lot t) (ls ++ new)) none ∙ ap (map (held_lot t)) (append-nil ls)
+nothing_put : (t : Agreement) (ls : List Lot) (e : Event) → ((accepted : Bool) → changed accepted e ls ≡ ls) → if_side lot_of_event [] e ≡ [] → (accepted : Bool) → map (held_lot t) (lots_by ls e accepted) ≡ map (held_lot t) ls
+nothing_put t ls e same none true = ap (λ ms. map (held_lot t) (ms ++ if_side lot_of_event [] e)) (same true) ∙ ap (λ new. map (held_lot t) (ls ++ new)) none ∙ ap (map (held_lot t)) (append-nil ls)
 nothing_put t ls e same none false = ap (λ ms. map (held_lot t) (ms ++ [])) (same false) ∙ ap (map (held_lot t)) (append-nil ls)
 
 nothing_new : (t : Agreement) (ls : List Lot) (e : Event) → map (held_lot t) (lots_by ls e false) ≡ map (held_lot t) ls
 nothing_new t ls e = ap (map (held_lot t)) (append-nil (changed false e ls) ∙ refused_same e ls)
 
 -- by whether the reply is a refusal
-lots_at : (t : Agreement) (ls : List Lot) (e : Event) (r : Reply) (accepted : Bool) → is_accepted r ≡ accepted → (accepted ≡ true → IsNew ls e) → map (held_lot t) (lots_by ls e (is_accepted r)) ≡ lots_after t (map (held_lot t) ls) e r
-lots_at t ls (event.PutLot lot class value currency) r true h new =
-    let put : Event = event.PutLot lot class value currency in
+lots_at : (t : Agreement) (ls : List Lot) (e : Event) (r : Reply) (accepted : Bool) → is_accepted r ≡ accepted → (accepted ≡ true → IsNew ls e) → map (held_lot t) (lots_by ls e (is_accepted r)) ≡ if_side (lots_after t (map (held_lot t) ls) r) (map (held_lot t) ls) e
+lots_at t ls (event.OnSide (side.PutLot lot class value currency)) r true h new =
+    let put : Event = event.OnSide (side.PutLot lot class value currency) in
     let one : List Lot = record { name = lot; class = class; currency = currency; value = value } ∷ [] in
     ap (λ accepted. map (held_lot t) (lots_by ls put accepted)) h
     ∙ ap (λ ms. map (held_lot t) (ms ++ one)) (put_same lot class value currency ls (new refl))
     ∙ map-append (held_lot t) ls one
     ∙ ap (λ accepted. cond accepted (map (held_lot t) ls ++ map (held_lot t) one) (map (held_lot t) ls)) (sym h)
-lots_at t ls (event.PutLot lot class value currency) r false h new =
+lots_at t ls (event.OnSide (side.PutLot lot class value currency)) r false h new =
     let one : List Lot = record { name = lot; class = class; currency = currency; value = value } ∷ [] in
-    ap (λ accepted. map (held_lot t) (lots_by ls (event.PutLot lot class value currency) accepted)) h
-    ∙ nothing_new t ls (event.PutLot lot class value currency)
+    ap (λ accepted. map (held_lot t) (lots_by ls (event.OnSide (side.PutLot lot class value currency)) accepted)) h
+    ∙ nothing_new t ls (event.OnSide (side.PutLot lot class value currency))
     ∙ ap (λ accepted. cond accepted (map (held_lot t) ls ++ map (held_lot t) one) (map (held_lot t) ls)) (sym h)
-lots_at t ls (event.TakeLot lot) r true h new =
-    ap (λ accepted. map (held_lot t) (lots_by ls (event.TakeLot lot) accepted)) h
-    ∙ ap (map (held_lot t)) (append-nil (changed true (event.TakeLot lot) ls))
+lots_at t ls (event.OnSide (side.TakeLot lot)) r true h new =
+    ap (λ accepted. map (held_lot t) (lots_by ls (event.OnSide (side.TakeLot lot)) accepted)) h
+    ∙ ap (map (held_lot t)) (append-nil (changed true (event.OnSide (side.TakeLot lot)) ls))
     ∙ taken t lot ls
     ∙ ap (λ accepted. cond accepted (without_lot lot (map (held_lot t) ls)) (map (held_lot t) ls)) (sym h)
-lots_at t ls (event.TakeLot lot) r false h new =
-    ap (λ accepted. map (held_lot t) (lots_by ls (event.TakeLot lot) accepted)) h
-    ∙ nothing_new t ls (event.TakeLot lot)
+lots_at t ls (event.OnSide (side.TakeLot lot)) r false h new =
+    ap (λ accepted. map (held_lot t) (lots_by ls (event.OnSide (side.TakeLot lot)) accepted)) h
+    ∙ nothing_new t ls (event.OnSide (side.TakeLot lot))
     ∙ ap (λ accepted. cond accepted (without_lot lot (map (held_lot t) ls)) (map (held_lot t) ls)) (sym h)
-lots_at t ls (event.MarkLot lot value) r true h new =
-    ap (λ accepted. map (held_lot t) (lots_by ls (event.MarkLot lot value) accepted)) h
-    ∙ ap (map (held_lot t)) (append-nil (changed true (event.MarkLot lot value) ls))
+lots_at t ls (event.OnSide (side.MarkLot lot value)) r true h new =
+    ap (λ accepted. map (held_lot t) (lots_by ls (event.OnSide (side.MarkLot lot value)) accepted)) h
+    ∙ ap (map (held_lot t)) (append-nil (changed true (event.OnSide (side.MarkLot lot value)) ls))
     ∙ marked t lot value ls
     ∙ ap (λ accepted. cond accepted (with_value lot value (map (held_lot t) ls)) (map (held_lot t) ls)) (sym h)
-lots_at t ls (event.MarkLot lot value) r false h new =
-    ap (λ accepted. map (held_lot t) (lots_by ls (event.MarkLot lot value) accepted)) h
-    ∙ nothing_new t ls (event.MarkLot lot value)
+lots_at t ls (event.OnSide (side.MarkLot lot value)) r false h new =
+    ap (λ accepted. map (held_lot t) (lots_by ls (event.OnSide (side.MarkLot lot value)) accepted)) h
+    ∙ nothing_new t ls (event.OnSide (side.MarkLot lot value))
     ∙ ap (λ accepted. cond accepted (with_value lot value (map (held_lot t) ls)) (map (held_lot t) ls)) (sym h)
 lots_at t ls (event.Submit trades) r accepted h new = nothing_put t ls (event.Submit trades) (λ a. others_same (event.Submit trades) (λ name. refl) (λ name value. refl) a ls) refl (is_accepted r)
 lots_at t ls (event.Withdraw names) r accepted h new = nothing_put t ls (event.Withdraw names) (λ a. others_same (event.Withdraw names) (λ name. refl) (λ name value. refl) a ls) refl (is_accepted r)
-lots_at t ls (event.CloseCall number) r accepted h new = nothing_put t ls (event.CloseCall number) (λ a. others_same (event.CloseCall number) (λ name. refl) (λ name value. refl) a ls) refl (is_accepted r)
-lots_at t ls event.AskMargin r accepted h new = nothing_put t ls event.AskMargin (λ a. others_same event.AskMargin (λ name. refl) (λ name value. refl) a ls) refl (is_accepted r)
-lots_at t ls (event.AskCall moment) r accepted h new = nothing_put t ls (event.AskCall moment) (λ a. others_same (event.AskCall moment) (λ name. refl) (λ name value. refl) a ls) refl (is_accepted r)
+lots_at t ls (event.OnSide (side.CloseCall number)) r accepted h new = nothing_put t ls (event.OnSide (side.CloseCall number)) (λ a. others_same (event.OnSide (side.CloseCall number)) (λ name. refl) (λ name value. refl) a ls) refl (is_accepted r)
+lots_at t ls (event.OnSide side.AskMargin) r accepted h new = nothing_put t ls (event.OnSide side.AskMargin) (λ a. others_same (event.OnSide side.AskMargin) (λ name. refl) (λ name value. refl) a ls) refl (is_accepted r)
+lots_at t ls (event.OnSide (side.AskCall moment)) r accepted h new = nothing_put t ls (event.OnSide (side.AskCall moment)) (λ a. others_same (event.OnSide (side.AskCall moment)) (λ name. refl) (λ name value. refl) a ls) refl (is_accepted r)
 
-lots_are : (t : Agreement) (log : Log) (caller : ℕ) (e : Event) (r : Reply) → (is_accepted r ≡ true → IsNew (lots log) e) → map (held_lot t) (lots (log ++ entry caller e r ∷ [])) ≡ lots_after t (map (held_lot t) (lots log)) e r
+lots_are : (t : Agreement) (log : Log) (caller : ℕ) (e : Event) (r : Reply) → (is_accepted r ≡ true → IsNew (lots log) e) → map (held_lot t) (lots (log ++ entry caller e r ∷ [])) ≡ if_side (lots_after t (map (held_lot t) (lots log)) r) (map (held_lot t) (lots log)) e
 lots_are t log caller e r new =
     ap (map (held_lot t)) (lots-push log (entry caller e r) ∙ ap (λ ls. ls ++ lot_put (entry caller e r)) (changed_by (entry caller e r) (lots log)))
     ∙ lots_at t (lots log) e r (is_accepted r) refl new
 
 -- ---- calls
 
-closed_at : (cs : List Call) (e : Event) (r : Reply) → closed (is_accepted r) e cs ≡ calls_closed cs e r
-closed_at cs (event.CloseCall number) r = at (is_accepted r)
+closed_at : (cs : List Call) (e : Event) (r : Reply) → closed (is_accepted r) e cs ≡ if_side (calls_closed cs r) cs e
+closed_at cs (event.OnSide (side.CloseCall number)) r = at (is_accepted r)
   where
-    at : (accepted : Bool) → closed accepted (event.CloseCall number) cs ≡ cond accepted (without_call number cs) cs
+    at : (accepted : Bool) → closed accepted (event.OnSide (side.CloseCall number)) cs ≡ cond accepted (without_call number cs) cs
     at true = closed_without number cs
-    at false = refused_open (event.CloseCall number) cs
+    at false = refused_open (event.OnSide (side.CloseCall number)) cs
 closed_at cs (event.Submit trades) r = others_open (event.Submit trades) (λ number. refl) (is_accepted r) cs
 closed_at cs (event.Withdraw names) r = others_open (event.Withdraw names) (λ number. refl) (is_accepted r) cs
-closed_at cs (event.PutLot lot class value currency) r = others_open (event.PutLot lot class value currency) (λ number. refl) (is_accepted r) cs
-closed_at cs (event.TakeLot lot) r = others_open (event.TakeLot lot) (λ number. refl) (is_accepted r) cs
-closed_at cs (event.MarkLot lot value) r = others_open (event.MarkLot lot value) (λ number. refl) (is_accepted r) cs
-closed_at cs event.AskMargin r = others_open event.AskMargin (λ number. refl) (is_accepted r) cs
-closed_at cs (event.AskCall moment) r = others_open (event.AskCall moment) (λ number. refl) (is_accepted r) cs
+closed_at cs (event.OnSide (side.PutLot lot class value currency)) r = others_open (event.OnSide (side.PutLot lot class value currency)) (λ number. refl) (is_accepted r) cs
+closed_at cs (event.OnSide (side.TakeLot lot)) r = others_open (event.OnSide (side.TakeLot lot)) (λ number. refl) (is_accepted r) cs
+closed_at cs (event.OnSide (side.MarkLot lot value)) r = others_open (event.OnSide (side.MarkLot lot value)) (λ number. refl) (is_accepted r) cs
+closed_at cs (event.OnSide side.AskMargin) r = others_open (event.OnSide side.AskMargin) (λ number. refl) (is_accepted r) cs
+closed_at cs (event.OnSide (side.AskCall moment)) r = others_open (event.OnSide (side.AskCall moment)) (λ number. refl) (is_accepted r) cs
 
 added_at : (added : ℕ) (cs : List Call) (r : Reply) → cs ++ call_made (added + 1) r ≡ calls_added added cs r
 added_at added cs (reply.Called note) = refl
@@ -123,11 +125,11 @@ added_at added cs (reply.Refused why) = append-nil cs
 added_at added cs (reply.Margin b) = append-nil cs
 added_at added cs (reply.NoCall excess margin booked) = append-nil cs
 
-calls_are : (log : Log) (caller : ℕ) (e : Event) (r : Reply) → outstanding (log ++ entry caller e r ∷ []) ≡ calls_added (made log) (calls_closed (outstanding log) e r) r
+calls_are : (log : Log) (caller : ℕ) (e : Event) (r : Reply) → outstanding (log ++ entry caller e r ∷ []) ≡ calls_added (made log) (if_side (calls_closed (outstanding log) r) (outstanding log) e) r
 calls_are log caller e r =
     outstanding-push log (entry caller e r)
     ∙ ap (λ cs. cs ++ call_made (made log + 1) r) (closed_by (entry caller e r) (outstanding log) ∙ closed_at (outstanding log) e r)
-    ∙ added_at (made log) (calls_closed (outstanding log) e r) r
+    ∙ added_at (made log) (if_side (calls_closed (outstanding log) r) (outstanding log) e) r
 
 count_at : (added : ℕ) (r : Reply) → added + calls_by r ≡ count_after added r
 count_at added (reply.Called note) = refl
@@ -140,6 +142,6 @@ count_at added (reply.NoCall excess margin booked) = omega arith
 
 pub holdings_are : (t : Agreement) (log : Log) (caller : ℕ) (e : Event) (r : Reply) → (is_accepted r ≡ true → IsNew (lots log) e) → holdings_after (holdings t log) e r ≡ holdings t (log ++ entry caller e r ∷ [])
 holdings_are t log caller e r new =
-    ap (λ ls. record { terms = t; lots = ls; calls = calls_added (made log) (calls_closed (outstanding log) e r) r; added = count_after (made log) r }) (sym (lots_are t log caller e r new))
+    ap (λ ls. record { terms = t; lots = ls; calls = calls_added (made log) (if_side (calls_closed (outstanding log) r) (outstanding log) e) r; added = count_after (made log) r }) (sym (lots_are t log caller e r new))
     ∙ ap (λ cs. record { terms = t; lots = map (held_lot t) (lots (log ++ entry caller e r ∷ [])); calls = cs; added = count_after (made log) r }) (sym (calls_are log caller e r))
     ∙ ap (λ n. record { terms = t; lots = map (held_lot t) (lots (log ++ entry caller e r ∷ [])); calls = outstanding (log ++ entry caller e r ∷ []); added = n }) (sym (made-push log (entry caller e r) ∙ count_at (made log) r))

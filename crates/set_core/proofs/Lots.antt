@@ -7,8 +7,10 @@ use Rattle.collateral_ledger.specs.SimmKinds.Order.{same_name}
 use Rattle.held_cell.specs.declared.entry.Entry.{Entry}
 use Rattle.collateral_ledger.specs.CsaTerms.declared.lot_currency.LotCurrency.{LotCurrency}
 use Rattle.set_core.specs.declared.event.Event.{Event}
+use Rattle.side_events.specs.declared.side_event.SideEvent.TheVariants as side
 use Rattle.set_core.specs.declared.event.Event.TheVariants as event
 use Rattle.set_core.specs.declared.reply.Reply.{Reply}
+use Rattle.set_core.specs.Events.{if_side}
 use Rattle.set_core.specs.Book.{is_accepted}
 use Rattle.set_core.specs.Lots.{Lot, moves, is_moved_by, value_by, value_with, value_after, lot_put, stays_put, lots}
 use Rattle.set_core.proofs.Words.{Log}
@@ -66,7 +68,8 @@ lots-push (x ∷ log) e =
 abbrev pub changed : Bool → Event → List Lot → List Lot
 changed accepted e [] = []
 changed accepted e (lot ∷ ls) =
-    cond ((accepted && moves lot.name e) || false) (changed accepted e ls) (record lot { value = cond accepted (value_by lot.name lot.value e) lot.value } ∷ changed accepted e ls)
+    cond ((accepted && if_side (moves lot.name) false e) || false) (changed accepted e ls)
+    (record lot { value = cond accepted (if_side (value_by lot.name lot.value) lot.value e) lot.value } ∷ changed accepted e ls)
 
 pub changed_by : (e : Entry Event Reply) (ls : List Lot) → stays_put (e ∷ []) ls ≡ changed (is_accepted e.reply) e.event ls
 changed_by e [] = refl
@@ -77,18 +80,18 @@ refused_same e [] = refl
 refused_same e (lot ∷ ls) = ap (λ others. lot ∷ others) (refused_same e ls)
 
 -- an event that puts, takes and marks no lot
-pub others_same : (e : Event) → ((name : List ℕ) → moves name e ≡ false) → ((name : List ℕ) (value : ℤ) → value_by name value e ≡ value) → (accepted : Bool) (ls : List Lot) → changed accepted e ls ≡ ls
+pub others_same : (e : Event) → ((name : List ℕ) → if_side (moves name) false e ≡ false) → ((name : List ℕ) (value : ℤ) → if_side (value_by name value) value e ≡ value) → (accepted : Bool) (ls : List Lot) → changed accepted e ls ≡ ls
 others_same e still stays false ls = refused_same e ls
 others_same e still stays true [] = refl
 others_same e still stays true (lot ∷ ls) =
-    ap (λ moved. cond (moved || false) (changed true e ls) (record lot { value = value_by lot.name lot.value e } ∷ changed true e ls)) (still lot.name)
+    ap (λ moved. cond (moved || false) (changed true e ls) (record lot { value = if_side (value_by lot.name lot.value) lot.value e } ∷ changed true e ls)) (still lot.name)
     ∙ ap (λ value. record lot { value = value } ∷ changed true e ls) (stays lot.name lot.value)
     ∙ ap (λ others. lot ∷ others) (others_same e still stays true ls)
 
 -- a lot that is new
-pub put_same : (name class : List ℕ) (value : ℤ) (currency : LotCurrency) (ls : List Lot) → list_any (λ (lot : Lot). same_name name lot.name) ls ≡ false → changed true (event.PutLot name class value currency) ls ≡ ls
+pub put_same : (name class : List ℕ) (value : ℤ) (currency : LotCurrency) (ls : List Lot) → list_any (λ (lot : Lot). same_name name lot.name) ls ≡ false → changed true (event.OnSide (side.PutLot name class value currency)) ls ≡ ls
 put_same name class value currency [] h = refl
 put_same name class value currency (lot ∷ ls) h =
     let parts = or_parts (same_name name lot.name) (list_any (λ (other : Lot). same_name name other.name) ls) h in
-    ap (λ same. cond (same || false) (changed true (event.PutLot name class value currency) ls) (record lot { value = cond same value lot.value } ∷ changed true (event.PutLot name class value currency) ls)) parts.0
+    ap (λ same. cond (same || false) (changed true (event.OnSide (side.PutLot name class value currency)) ls) (record lot { value = cond same value lot.value } ∷ changed true (event.OnSide (side.PutLot name class value currency)) ls)) parts.0
     ∙ ap (λ others. lot ∷ others) (put_same name class value currency ls parts.1)

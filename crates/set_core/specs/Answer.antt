@@ -16,6 +16,8 @@ use Rattle.csa_calls.specs.CallRule.{call_of, excess}
 use Rattle.bucket_cache.specs.declared.place.RowPlace.{RowPlace}
 use Rattle.bucket_cache.specs.Live.{first_unadmitted}
 use Rattle.collateral_ledger.specs.Refusals.{is_lot_value}
+use Rattle.side_events.specs.declared.side_event.SideEvent.{SideEvent}
+use Rattle.side_events.specs.declared.side_event.SideEvent.TheVariants as side
 use Rattle.held_cell.specs.declared.entry.Entry.{Entry}
 use Rattle.held_cell.specs.Entries.{entry}
 use Rattle.set_core.specs.declared.event.Event.{Event}
@@ -101,19 +103,23 @@ if_calling_day t made margin booked moment =
 
 -- ---- all events
 
--- A submit is refused where a row isn't admitted, and then where the book with it is out of range; a withdrawal where a name isn't current; lots and calls
--- as above. A margin is that of the written rule, and a call is made of it and of what is booked.
+-- lots and calls as above; a margin is that of the written rule, and a call is made of it and of what is booked
+abbrev pub answer_side : Params → Agreement → List (Entry Event Reply) → SideEvent → Reply
+answer_side p t log (side.PutLot lot class value currency) = if_put t log lot class value
+answer_side p t log (side.TakeLot lot) = if_taken (is_there log lot)
+answer_side p t log (side.MarkLot lot value) = if_marked (is_there log lot) value
+answer_side p t log (side.CloseCall number) = if_closed (is_outstanding log number)
+answer_side p t log side.AskMargin = reply.Margin (simm p (rows_of (book log)))
+answer_side p t log (side.AskCall moment) =
+    if_calling_day t (made log) (simm p (rows_of (book log))).total.0 (booked t log) moment
+
+-- A submit is refused where a row isn't admitted, and then where the book with it is out of range; a withdrawal where a name isn't
+-- current.
 abbrev pub answer : Params → Agreement → List (Entry Event Reply) → Event → Reply
 answer p t log (event.Submit trades) =
     if_admitted (first_unadmitted p trades) (range p (rows_of (book_with log (event.Submit trades))))
 answer p t log (event.Withdraw names) = if_known (first_unknown log names)
-answer p t log (event.PutLot lot class value currency) = if_put t log lot class value
-answer p t log (event.TakeLot lot) = if_taken (is_there log lot)
-answer p t log (event.MarkLot lot value) = if_marked (is_there log lot) value
-answer p t log (event.CloseCall number) = if_closed (is_outstanding log number)
-answer p t log event.AskMargin = reply.Margin (simm p (rows_of (book log)))
-answer p t log (event.AskCall moment) =
-    if_calling_day t (made log) (simm p (rows_of (book log))).total.0 (booked t log) moment
+answer p t log (event.OnSide e) = answer_side p t log e
 
 -- each entry's reply is the answer to its event after the entries before it
 abbrev pub IsLegal : Params → Agreement → List (Entry Event Reply) → Type 0

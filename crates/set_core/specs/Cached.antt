@@ -19,12 +19,12 @@ use Rattle.set_core.specs.Book.{book}
 abbrev pub rows_moved_by : List TradeRows → Event → List CrifRow
 rows_moved_by trades (event.Submit batch) = rows_moved batch trades
 rows_moved_by trades (event.Withdraw names) = rows_of (named names trades)
-rows_moved_by trades _ = []
+rows_moved_by trades (event.OnSide e) = []
 
 abbrev pub moves_trades : Event → Bool
 moves_trades (event.Submit batch) = true
 moves_trades (event.Withdraw names) = true
-moves_trades _ = false
+moves_trades (event.OnSide e) = false
 
 -- Whether what may be kept is kept after a reply: an accepted event leaves it where it doesn't touch it, a refused one leaves it, and a
 -- question that is answered keeps it where there is something to keep.

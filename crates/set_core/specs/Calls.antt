@@ -7,11 +7,13 @@ use Rattle.collateral_ledger.specs.CsaTerms.Terms.{Agreement}
 use Rattle.collateral_ledger.specs.Holdings.{Call}
 use Rattle.collateral_ledger.specs.Booked.{total, settled}
 use Rattle.collateral_ledger.specs.Changes.{has_call}
+use Rattle.side_events.specs.declared.side_event.SideEvent.{SideEvent}
+use Rattle.side_events.specs.declared.side_event.SideEvent.TheVariants as side
 use Rattle.held_cell.specs.declared.entry.Entry.{Entry}
 use Rattle.set_core.specs.declared.event.Event.{Event}
-use Rattle.set_core.specs.declared.event.Event.TheVariants as event
 use Rattle.set_core.specs.declared.reply.Reply.{Reply}
 use Rattle.set_core.specs.declared.reply.Reply.TheVariants as reply
+use Rattle.set_core.specs.Events.{if_side}
 use Rattle.set_core.specs.Book.{is_accepted}
 use Rattle.set_core.specs.Lots.{lots_counted}
 
@@ -25,13 +27,17 @@ abbrev pub made : List (Entry Event Reply) → ℕ
 made [] = 0
 made (e ∷ log) = calls_by e.reply + made log
 
-abbrev pub closes : ℕ → Event → Bool
-closes number (event.CloseCall closed) = closed == number
-closes number _ = false
+abbrev pub closes : ℕ → SideEvent → Bool
+closes number (side.PutLot lot class value currency) = false
+closes number (side.TakeLot lot) = false
+closes number (side.MarkLot lot value) = false
+closes number (side.CloseCall closed) = closed == number
+closes number side.AskMargin = false
+closes number (side.AskCall moment) = false
 
 -- an accepted entry that closes the call
 abbrev pub is_closed_by : ℕ → Entry Event Reply → Bool
-is_closed_by number e = is_accepted e.reply && closes number e.event
+is_closed_by number e = is_accepted e.reply && if_side (closes number) false e.event
 
 -- the call of this number that a reply makes
 abbrev pub call_made : ℕ → Reply → List Call

@@ -6,13 +6,15 @@ use Rattle.collateral_ledger.specs.declared.fault.LedgerFault.TheVariants as fau
 use Rattle.collateral_ledger.specs.Holdings.{Lot as Held, Call, Holdings}
 use Rattle.collateral_ledger.specs.Booked.{rate_of}
 use Rattle.collateral_ledger.specs.Changes.{with_value, without_lot, without_call}
+use Rattle.side_events.specs.declared.side_event.SideEvent.{SideEvent}
+use Rattle.side_events.specs.declared.side_event.SideEvent.TheVariants as side
 use Rattle.held_cell.specs.declared.entry.Entry.{Entry}
 use Rattle.set_core.specs.declared.event.Event.{Event}
-use Rattle.set_core.specs.declared.event.Event.TheVariants as event
 use Rattle.set_core.specs.declared.reply.Reply.{Reply}
 use Rattle.set_core.specs.declared.reply.Reply.TheVariants as reply
 use Rattle.set_core.specs.declared.refusal.Refusal.{Refusal}
 use Rattle.set_core.specs.declared.refusal.Refusal.TheVariants as refusal
+use Rattle.set_core.specs.Events.{if_side}
 use Rattle.set_core.specs.Book.{is_accepted}
 use Rattle.set_core.specs.Lots.{Lot, lots}
 use Rattle.set_core.specs.Calls.{made, outstanding}
@@ -27,16 +29,22 @@ holdings t log = record { terms = t; lots = map (held_lot t) (lots log); calls =
 
 -- ---- what an event and its reply leave of it
 
-abbrev pub lots_after : Agreement → List Held → Event → Reply → List Held
-lots_after t held (event.PutLot lot class value currency) r =
+abbrev pub lots_after : Agreement → List Held → Reply → SideEvent → List Held
+lots_after t held r (side.PutLot lot class value currency) =
     if is_accepted r then held ++ held_lot t (record { name = lot; class = class; currency = currency; value = value }) ∷ [] else held
-lots_after t held (event.TakeLot lot) r = if is_accepted r then without_lot lot held else held
-lots_after t held (event.MarkLot lot value) r = if is_accepted r then with_value lot value held else held
-lots_after t held _ r = held
+lots_after t held r (side.TakeLot lot) = if is_accepted r then without_lot lot held else held
+lots_after t held r (side.MarkLot lot value) = if is_accepted r then with_value lot value held else held
+lots_after t held r (side.CloseCall number) = held
+lots_after t held r side.AskMargin = held
+lots_after t held r (side.AskCall moment) = held
 
-abbrev pub calls_closed : List Call → Event → Reply → List Call
-calls_closed calls (event.CloseCall number) r = if is_accepted r then without_call number calls else calls
-calls_closed calls _ r = calls
+abbrev pub calls_closed : List Call → Reply → SideEvent → List Call
+calls_closed calls r (side.PutLot lot class value currency) = calls
+calls_closed calls r (side.TakeLot lot) = calls
+calls_closed calls r (side.MarkLot lot value) = calls
+calls_closed calls r (side.CloseCall number) = if is_accepted r then without_call number calls else calls
+calls_closed calls r side.AskMargin = calls
+calls_closed calls r (side.AskCall moment) = calls
 
 abbrev pub calls_added : ℕ → List Call → Reply → List Call
 calls_added added calls (reply.Called note) = calls ++ record { number = added + 1; flow = note.flow; amount = note.amount } ∷ []
@@ -53,8 +61,8 @@ with_call h r = record h { calls = calls_added h.added h.calls r; added = count_
 abbrev pub holdings_after : Holdings → Event → Reply → Holdings
 holdings_after h e r = record {
   terms = h.terms;
-  lots = lots_after h.terms h.lots e r;
-  calls = calls_added h.added (calls_closed h.calls e r) r;
+  lots = if_side (lots_after h.terms h.lots r) h.lots e;
+  calls = calls_added h.added (if_side (calls_closed h.calls r) h.calls e) r;
   added = count_after h.added r;
 }
 

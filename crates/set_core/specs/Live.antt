@@ -12,6 +12,8 @@ use Rattle.bucket_cache.specs.Live.{Live, put_trades, without, first_unadmitted,
 use Rattle.collateral_ledger.specs.Holdings.{Holdings}
 use Rattle.collateral_ledger.specs.Booked.{booked_of}
 use Rattle.collateral_ledger.specs.Refusals.{put_refusal, take_refusal, mark_refusal, close_refusal}
+use Rattle.side_events.specs.declared.side_event.SideEvent.{SideEvent}
+use Rattle.side_events.specs.declared.side_event.SideEvent.TheVariants as side
 use Rattle.set_core.specs.declared.event.Event.{Event}
 use Rattle.set_core.specs.declared.event.Event.TheVariants as event
 use Rattle.set_core.specs.declared.reply.Reply.{Reply}
@@ -28,16 +30,19 @@ pub record Traded : Type 0 where
 abbrev pub traded : Live → Traded
 traded live = record { params = live.params; book = live.book }
 
--- the reply to an event
+-- the reply to an event beside the trades, and to every event
+abbrev pub side_reply : Traded → Holdings → SideEvent → Reply
+side_reply l h (side.PutLot lot class value currency) = ledger_reply (put_refusal h lot class value)
+side_reply l h (side.TakeLot lot) = ledger_reply (take_refusal h lot)
+side_reply l h (side.MarkLot lot value) = ledger_reply (mark_refusal h lot value)
+side_reply l h (side.CloseCall number) = ledger_reply (close_refusal h number)
+side_reply l h side.AskMargin = reply.Margin (simm l.params (rows_of l.book))
+side_reply l h (side.AskCall moment) = if_calling_day h.terms h.added (simm l.params (rows_of l.book)).total.0 (booked_of h) moment
+
 abbrev pub live_reply : Traded → Holdings → Event → Reply
 live_reply l h (event.Submit trades) = if_admitted (first_unadmitted l.params trades) (range l.params (rows_of (put_trades trades l.book)))
 live_reply l h (event.Withdraw names) = if_known (first_unknown names l.book)
-live_reply l h (event.PutLot lot class value currency) = ledger_reply (put_refusal h lot class value)
-live_reply l h (event.TakeLot lot) = ledger_reply (take_refusal h lot)
-live_reply l h (event.MarkLot lot value) = ledger_reply (mark_refusal h lot value)
-live_reply l h (event.CloseCall number) = ledger_reply (close_refusal h number)
-live_reply l h event.AskMargin = reply.Margin (simm l.params (rows_of l.book))
-live_reply l h (event.AskCall moment) = if_calling_day h.terms h.added (simm l.params (rows_of l.book)).total.0 (booked_of h) moment
+live_reply l h (event.OnSide e) = side_reply l h e
 
 -- the book after the event and its reply
 abbrev pub live_book : List TradeRows → Event → Reply → List TradeRows

@@ -6,10 +6,12 @@ use Rattle.collateral_ledger.specs.SimmKinds.Order.{same_name}
 use Rattle.collateral_ledger.specs.CsaTerms.declared.lot_currency.LotCurrency.{LotCurrency}
 use Rattle.collateral_ledger.specs.CsaTerms.Terms.{Agreement}
 use Rattle.collateral_ledger.specs.Booked.{total, rate_of, counted_at}
+use Rattle.side_events.specs.declared.side_event.SideEvent.{SideEvent}
+use Rattle.side_events.specs.declared.side_event.SideEvent.TheVariants as side
 use Rattle.held_cell.specs.declared.entry.Entry.{Entry}
 use Rattle.set_core.specs.declared.event.Event.{Event}
-use Rattle.set_core.specs.declared.event.Event.TheVariants as event
 use Rattle.set_core.specs.declared.reply.Reply.{Reply}
+use Rattle.set_core.specs.Events.{if_side}
 use Rattle.set_core.specs.Book.{is_accepted}
 
 -- a lot of collateral, its value in cents
@@ -20,36 +22,46 @@ pub record Lot : Type 0 where
   pub value : ℤ
 
 -- the event puts the lot, or takes it
-abbrev pub moves : List ℕ → Event → Bool
-moves name (event.PutLot lot class value currency) = same_name lot name
-moves name (event.TakeLot lot) = same_name lot name
-moves name _ = false
+abbrev pub moves : List ℕ → SideEvent → Bool
+moves name (side.PutLot lot class value currency) = same_name lot name
+moves name (side.TakeLot lot) = same_name lot name
+moves name (side.MarkLot lot value) = false
+moves name (side.CloseCall number) = false
+moves name side.AskMargin = false
+moves name (side.AskCall moment) = false
 
 -- an accepted entry that puts the lot, or takes it
 abbrev pub is_moved_by : List ℕ → Entry Event Reply → Bool
-is_moved_by name e = is_accepted e.reply && moves name e.event
+is_moved_by name e = is_accepted e.reply && if_side (moves name) false e.event
 
 -- the value that an event gives to a lot, or else the one that it had
-abbrev pub value_by : List ℕ → ℤ → Event → ℤ
-value_by name before (event.PutLot lot class value currency) = if same_name lot name then value else before
-value_by name before (event.MarkLot lot value) = if same_name lot name then value else before
-value_by name before _ = before
+abbrev pub value_by : List ℕ → ℤ → SideEvent → ℤ
+value_by name before (side.PutLot lot class value currency) = if same_name lot name then value else before
+value_by name before (side.TakeLot lot) = before
+value_by name before (side.MarkLot lot value) = if same_name lot name then value else before
+value_by name before (side.CloseCall number) = before
+value_by name before side.AskMargin = before
+value_by name before (side.AskCall moment) = before
 
 abbrev pub value_with : List ℕ → ℤ → Entry Event Reply → ℤ
-value_with name before e = if is_accepted e.reply then value_by name before e.event else before
+value_with name before e = if is_accepted e.reply then if_side (value_by name before) before e.event else before
 
 -- the value that the last accepted entry that puts or marks a lot gives it, or else the one that it had
 abbrev pub value_after : List ℕ → ℤ → List (Entry Event Reply) → ℤ
 value_after name before [] = before
 value_after name before (e ∷ log) = value_after name (value_with name before e) log
 
-abbrev pub lot_of_event : Event → List Lot
-lot_of_event (event.PutLot lot class value currency) = record { name = lot; class = class; currency = currency; value = value } ∷ []
-lot_of_event _ = []
+abbrev pub lot_of_event : SideEvent → List Lot
+lot_of_event (side.PutLot lot class value currency) = record { name = lot; class = class; currency = currency; value = value } ∷ []
+lot_of_event (side.TakeLot lot) = []
+lot_of_event (side.MarkLot lot value) = []
+lot_of_event (side.CloseCall number) = []
+lot_of_event side.AskMargin = []
+lot_of_event (side.AskCall moment) = []
 
 -- the lot that an accepted entry puts
 abbrev pub lot_put : Entry Event Reply → List Lot
-lot_put e = if is_accepted e.reply then lot_of_event e.event else []
+lot_put e = if is_accepted e.reply then if_side lot_of_event [] e.event else []
 
 -- a lot that was put stays where no later accepted entry puts or takes it
 abbrev pub stays_put : List (Entry Event Reply) → List Lot → List Lot

@@ -1,25 +1,28 @@
 -- Room that is put by for entries: which events it is for, and what there is of it.
 use Rattle.std.specs.Prelude.{◌≡◌, ℕ, ◌+◌, ◌*◌, ◌≤◌, List, Bool, true, false, Result, OnErr}
+use Rattle.side_events.specs.declared.side_event.SideEvent.{SideEvent}
+use Rattle.side_events.specs.declared.side_event.SideEvent.TheVariants as side
 use Rattle.held_cell.specs.declared.entry.Entry.{Entry}
 use Rattle.held_cell.specs.declared.machine.Halt.{Halt}
 use Rattle.held_cell.specs.declared.machine.Halt.TheVariants as halt
 use Rattle.set_core.specs.declared.event.Event.{Event}
-use Rattle.set_core.specs.declared.event.Event.TheVariants as event
 use Rattle.set_core.specs.declared.reply.Reply.{Reply}
+use Rattle.set_core.specs.Events.{if_side}
 use Rattle.set_core.specs.Cached.{is_margin_known}
 
 -- What wants no memory but that of its entry and of the parts of its margin: a lot is taken or marked, a call is closed, and a
 -- margin is asked that is known.
-abbrev pub is_at_hand : Bool → Event → Bool
-is_at_hand known (event.TakeLot lot) = true
-is_at_hand known (event.MarkLot lot value) = true
-is_at_hand known (event.CloseCall number) = true
-is_at_hand known event.AskMargin = known
-is_at_hand known _ = false
+abbrev pub is_at_hand : Bool → SideEvent → Bool
+is_at_hand known (side.PutLot lot class value currency) = false
+is_at_hand known (side.TakeLot lot) = true
+is_at_hand known (side.MarkLot lot value) = true
+is_at_hand known (side.CloseCall number) = true
+is_at_hand known side.AskMargin = known
+is_at_hand known (side.AskCall moment) = false
 
 -- after this journal
 abbrev pub is_reserved : List (Entry Event Reply) → Event → Bool
-is_reserved log e = is_at_hand (is_margin_known log) e
+is_reserved log e = if_side (is_at_hand (is_margin_known log)) false e
 
 abbrev pub is_want : Halt Event → Bool
 is_want (halt.Full entries weight event) = false

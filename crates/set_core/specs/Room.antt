@@ -8,7 +8,8 @@ use Rattle.set_core.specs.declared.reply.Reply.{Reply}
 
 abbrev pub event_rows : Event → ℕ
 event_rows (event.Submit trades) = length (rows_of trades)
-event_rows _ = 0
+event_rows (event.Withdraw names) = 0
+event_rows (event.OnSide e) = 0
 
 abbrev pub journal_rows : List (Entry Event Reply) → ℕ
 journal_rows log = sum_by (λ e. event_rows e.event) log

@@ -1,6 +1,7 @@
 //! What a live margin and a ledger make of an event, each kind by a function of its own.
-ghost use Rattle.std.specs.Prelude.{◌≡◌, ◌+◌, ◌<◌, ◌≤◌, true, IfOk, IsOk, OnErr};
+ghost use Rattle.std.specs.Prelude.{◌≡◌, ◌+◌, ◌<◌, ◌≤◌, true, false, IfOk, IsOk, OnErr};
 ghost use Rattle.collateral_ledger.specs.SimmKinds.Batch.{rows_of};
+ghost use Rattle.set_core.specs.Events.{if_side};
 ghost use Rattle.set_core.specs.Reserved.{is_at_hand, LeavesRoom};
 ghost use Rattle.set_core.specs.Live.{Caches, Does, StaysKept, traded};
 ghost use Rattle.collateral_ledger.specs.Holdings.{Holdings};
@@ -14,6 +15,7 @@ use crate::{Event, Refusal, Reply, SharedMargin};
 use bucket_cache::{LiveMargin, SubmitFault, WithdrawFault};
 use collateral_ledger::Ledger;
 use collateral_ledger::simm_kinds::{Batch, Name};
+use side_events::SideEvent;
 use std::alloc::{AllocError, Global};
 
 /// Answers an event as `answer` does, and gives its reply twice: to the caller, and to the journal.
@@ -33,7 +35,7 @@ pub(crate) fn answer_twice(
     ensures collateral { OnErr result (ledger.new ≡ ledger.old) }
 
     // a margin takes room that was put by where there is no memory for it
-    ensures room { 1 < put_by.old → is_at_hand live.old.is_fresh event.now ≡ true → IsOk result }
+    ensures room { 1 < put_by.old → if_side (is_at_hand live.old.is_fresh) false event.now ≡ true → IsOk result }
     ensures taken { put_by.old ≤ put_by.new + 2 }
     ensures none_taken { OnErr result (1 < put_by.old → put_by.new ≡ put_by.old) }
 {
@@ -58,26 +60,49 @@ fn answer(
     ensures stays { OnErr result (StaysKept live.old live.new) }
     ensures collateral { OnErr result (ledger.new ≡ ledger.old) }
 
-    ensures room { 0 < put_by.old → is_at_hand live.old.is_fresh event.now ≡ true → IsOk result }
+    ensures room { 0 < put_by.old → if_side (is_at_hand live.old.is_fresh) false event.now ≡ true → IsOk result }
     ensures left { LeavesRoom 1 put_by.old put_by.new result }
 {
     match event {
         Event::Submit(batch) => submit(alloc, live, batch),
         Event::Withdraw(names) => withdraw(alloc, live, names.as_slice()),
-        Event::PutLot {
+        Event::OnSide(event) => answer_side(alloc, live, ledger, put_by, event),
+    }
+}
+
+/// Answers an event beside the trades.
+fn answer_side(
+    alloc: Global,
+    live: &mut LiveMargin,
+    ledger: &mut Ledger,
+    put_by: &mut PutBy,
+    event: &SideEvent,
+) -> Result<Reply, AllocError>
+    requires { ledger.old.added ≤ 65535 }
+    ensures does { IfOk result (λ reply. Does (traded live.old) (traded live.new) ledger.old ledger.new (events.OnSide event.now) reply) }
+    ensures caches { IfOk result (Caches live.old live.new (events.OnSide event.now)) }
+    ensures trades { OnErr result (traded live.new ≡ traded live.old) }
+    ensures stays { OnErr result (StaysKept live.old live.new) }
+    ensures collateral { OnErr result (ledger.new ≡ ledger.old) }
+
+    ensures room { 0 < put_by.old → is_at_hand live.old.is_fresh event.now ≡ true → IsOk result }
+    ensures left { LeavesRoom 1 put_by.old put_by.new result }
+{
+    match event {
+        SideEvent::PutLot {
             lot,
             class,
             value,
             currency,
         } => put(alloc, ledger, lot, class, *value, *currency),
-        Event::TakeLot { lot } => take(ledger, lot),
-        Event::MarkLot { lot, value } => mark(ledger, lot, *value),
-        Event::CloseCall { number } => close(ledger, *number),
-        Event::AskMargin => {
+        SideEvent::TakeLot { lot } => take(ledger, lot),
+        SideEvent::MarkLot { lot, value } => mark(ledger, lot, *value),
+        SideEvent::CloseCall { number } => close(ledger, *number),
+        SideEvent::AskMargin => {
             let parts = ask_margin(alloc, live)?;
             Ok(Reply::Margin(SharedMargin::make(alloc, put_by, parts)?))
         }
-        Event::AskCall { moment } => ask_call(alloc, live, ledger, *moment),
+        SideEvent::AskCall { moment } => ask_call(alloc, live, ledger, *moment),
     }
 }
 

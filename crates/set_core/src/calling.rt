@@ -6,6 +6,7 @@ ghost use Rattle.set_core.specs.Answer.{is_calling_day, is_calling_range, called
 ghost use Rattle.collateral_ledger.specs.Holdings.{IsCallAmount};
 ghost use Rattle.set_core.specs.Ledger.{with_call};
 ghost use Rattle.set_core.specs.Live.{Caches, Does, StaysKept, traded};
+ghost use Rattle.side_events.specs.declared.side_event.SideEvent.TheVariants as side;
 ghost use Rattle.set_core.specs.declared.event.Event.TheVariants as events;
 ghost use Rattle.set_core.specs.declared.reply.Reply.TheVariants as replies;
 
@@ -36,8 +37,8 @@ pub(crate) fn ask_call(
     moment: Moment,
 ) -> Result<Reply, AllocError>
     requires { ledger.old.added ≤ 65535 }
-    ensures does { IfOk result (λ reply. Does (traded live.old) (traded live.new) ledger.old ledger.new (events.AskCall moment) reply) }
-    ensures caches { IfOk result (Caches live.old live.new (events.AskCall moment)) }
+    ensures does { IfOk result (λ reply. Does (traded live.old) (traded live.new) ledger.old ledger.new (events.OnSide (side.AskCall moment)) reply) }
+    ensures caches { IfOk result (Caches live.old live.new (events.OnSide (side.AskCall moment))) }
     ensures trades { OnErr result (traded live.new ≡ traded live.old) }
     ensures stays { OnErr result (StaysKept live.old live.new) }
     ensures collateral { OnErr result (ledger.new ≡ ledger.old) }

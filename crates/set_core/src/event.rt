@@ -3,8 +3,8 @@ ghost use Rattle.collateral_ledger.specs.SimmKinds.Batch.{IsBatch, rows_of};
 ghost use Rattle.set_core.specs.Room.{event_rows};
 ghost use Rattle.set_core.specs.Events.{IsEvent};
 
-use collateral_ledger::csa_terms::{LotCurrency, Moment};
 use collateral_ledger::simm_kinds::{Batch, Listed, Name, TradeRows};
+use side_events::SideEvent;
 
 /// What a caller asks of a netting set.
 #[derive(Drop)]
@@ -13,32 +13,8 @@ pub enum Event {
     Submit(Batch),
     /// Takes out each trade that is named.
     Withdraw(Listed<Name>),
-    /// Puts a lot of a class, with its value in cents, in the agreement's currency or another.
-    PutLot {
-        lot: Name,
-        class: Name,
-        value: i64,
-        currency: LotCurrency,
-    },
-    /// Takes a lot out.
-    TakeLot {
-        lot: Name,
-    },
-    /// Gives a lot another value, in cents.
-    MarkLot {
-        lot: Name,
-        value: i64,
-    },
-    /// Closes an outstanding call, as it was settled.
-    CloseCall {
-        number: u32,
-    },
-    /// Asks the margin of all current trades.
-    AskMargin,
-    /// Demands collateral at a local time: a call is made where the margin and what is booked want one.
-    AskCall {
-        moment: Moment,
-    },
+    /// Something beside the trades: of a lot, of a call, or of the margin.
+    OnSide(SideEvent),
 }
 
 impl Event {
@@ -57,7 +33,7 @@ impl Event {
     {
         match self {
             Event::Submit(batch) => count_rows(batch.trades()),
-            _ => 0,
+            Event::Withdraw(_) | Event::OnSide(_) => 0,
         }
     }
 }

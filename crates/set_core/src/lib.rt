@@ -31,3 +31,4 @@ pub use bucket_cache;
 pub use bucket_cache::{pair_sum, simm_params};
 pub use collateral_ledger::csa_terms;
 pub use held_cell;
+pub use side_events;

@@ -1,6 +1,7 @@
 use crate::makers::{batch, name, params, set_terms};
 use crif_reader::simm_kinds::Listed;
 use set_core::csa_terms::Moment;
+use set_core::side_events::SideEvent;
 use set_core::{Event, Reply, SetState, reply_text};
 use std::process::Abort;
 
@@ -26,10 +27,10 @@ fn event(rt: &(impl Abort + AllocGlobal), step: Step) -> Event {
     match step {
         Step::Submit(currency, amount) => Event::Submit(batch(rt, "T1", currency, amount)),
         Step::Withdraw(trade) => withdrawal(rt, trade),
-        Step::Ask => Event::AskMargin,
-        Step::Call => Event::AskCall {
+        Step::Ask => Event::OnSide(SideEvent::AskMargin),
+        Step::Call => Event::OnSide(SideEvent::AskCall {
             moment: Moment::read(b"2024-03-01T10:00").expect(rt, "a moment"),
-        },
+        }),
     }
 }
 

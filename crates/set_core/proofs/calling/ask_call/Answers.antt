@@ -10,6 +10,7 @@ use Rattle.set_core.specs.Answer.{is_calling_day, noted}
 use Rattle.set_core.specs.declared.event.Event.{Event}
 use Rattle.set_core.specs.declared.reply.Reply.{Reply}
 use Rattle.std.specs.declared.alloc.AllocError.{AllocError}
+use Rattle.side_events.specs.declared.side_event.SideEvent.TheVariants as side
 use Rattle.set_core.specs.declared.event.Event.TheVariants as event
 use Rattle.set_core.specs.Live.{traded, IsWorkedOut, StaysKept, Caches}
 use Rattle.set_core.proofs.Applies.{is_settled}
@@ -58,7 +59,7 @@ caches_call old new e made due margin booked a (Ok r) value same out stays = cac
 
 pub returns-clause-caches : goal.returns-clause-caches
 returns-clause-caches c =
-    caches_call c.args.live.now c.ask_margin.new.live (event.AskCall c.args.moment) _ _ _ _ _ c.call_on.result c.call_on.ensures.value
+    caches_call c.args.live.now c.ask_margin.new.live (event.OnSide (side.AskCall c.args.moment)) _ _ _ _ _ c.call_on.result c.call_on.ensures.value
     c.in_ok-margin.ensures.trades c.in_ok-margin.ensures.all c.in_ok-margin.ensures.stays
 
 pub returns-clause-stays : goal.returns-clause-stays

@@ -1,0 +1,1 @@
+pub use Rattle.csa_terms.specs as CsaTerms
