@@ -3,7 +3,7 @@ use anyhow::{Context, Result, bail};
 use std::alloc::Global;
 
 /// How a directive begins. Behind a colon stand numbers; for N its range, and for a file how often it has which others.
-const FORMS: [&str; 14] = [
+const FORMS: [&str; 15] = [
     "N: ",
     "any order",
     "bytes of a put: ",
@@ -12,6 +12,7 @@ const FORMS: [&str; 14] = [
     "desk",
     "file ",
     "finds that fail: ",
+    "in full",
     "last lines: ",
     "no desk",
     "order: ",

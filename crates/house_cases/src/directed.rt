@@ -157,7 +157,7 @@ fn write_outcome<W: Write>(out: &mut W, outcome: &Outcome) -> io::Result<()> {
     out.write_all(outcome.told.as_slice())
 }
 
-/// Runs the command of a case for each number that N stands for, and writes beside the plain run what came of it.
+/// Runs the command of a case for each number that N stands for, and writes what came of it: beside the plain run, or in full.
 fn run_range<R: Threads + Wait + Sync, W: Write>(
     threads: &R,
     rt: HostRuntime,
@@ -171,6 +171,11 @@ fn run_range<R: Threads + Wait + Sync, W: Write>(
     let mut group: Option<Group> = None;
     for number in first..=last {
         let outcome = run_once(threads, rt, case.at(number))?;
+        if case.says("in full") {
+            writeln!(out, "N {number}")?;
+            write_outcome(out, &outcome)?;
+            continue;
+        }
         let seen = Seen::of(&outcome, plain);
         group = Some(Group::after(group, number, seen, out)?);
     }

@@ -3,18 +3,19 @@
 use crate::makers::name;
 use crate::set_core_calls::{Step, apply, is_text, set};
 use set_core::csa_terms::LotCurrency;
+use set_core::side_events::SideEvent;
 use set_core::{Event, Reply, SetState};
 use std::process::Abort;
 
 /// Answers an event beside the trades; `None` where there is no room or no memory for it.
-fn answer(set: &mut SetState, event: Event) -> Option<Reply> {
-    set.apply(0, event).ok()
+fn answer(set: &mut SetState, event: SideEvent) -> Option<Reply> {
+    set.apply(0, Event::OnSide(event)).ok()
 }
 
 /// A set with a lot and an outstanding call, whose margin is known.
 fn set_in_use(rt: &(impl Abort + AllocGlobal)) -> SetState {
     let mut set = set(rt);
-    let put = Event::PutLot {
+    let put = SideEvent::PutLot {
         lot: name(rt, "L1"),
         class: name(rt, "CASH"),
         value: 10_000,
@@ -49,14 +50,14 @@ fn a_new_set_answers_three_events_in_room_that_was_put_by(rt: HostRuntime) {
     let mut set = set(&rt);
     reserve(&rt, &mut set, 3);
     let events = [
-        (Event::AskMargin, "MARGIN\t0.00"),
+        (SideEvent::AskMargin, "MARGIN\t0.00"),
         (
-            Event::TakeLot {
+            SideEvent::TakeLot {
                 lot: name(&rt, "L1"),
             },
             "REFUSED\t5",
         ),
-        (Event::CloseCall { number: 1 }, "REFUSED\t7"),
+        (SideEvent::CloseCall { number: 1 }, "REFUSED\t7"),
     ];
     for (event, text) in events {
         let reply = answer(&mut set, event).expect(&rt, "room that was put by");
@@ -70,17 +71,17 @@ fn a_new_set_answers_three_events_in_room_that_was_put_by(rt: HostRuntime) {
 #[test]
 fn lots_calls_and_a_known_margin_take_no_other_room(rt: HostRuntime) {
     let mut set = set_in_use(&rt);
-    let mark = Event::MarkLot {
+    let mark = SideEvent::MarkLot {
         lot: name(&rt, "L1"),
         value: 20_000,
     };
-    let take = Event::TakeLot {
+    let take = SideEvent::TakeLot {
         lot: name(&rt, "L1"),
     };
     reserve(&rt, &mut set, 4);
     let is_marked = is_accepted(answer(&mut set, mark));
-    let is_known = is_margin(answer(&mut set, Event::AskMargin), 740_000);
-    let is_closed = is_accepted(answer(&mut set, Event::CloseCall { number: 1 }));
+    let is_known = is_margin(answer(&mut set, SideEvent::AskMargin), 740_000);
+    let is_closed = is_accepted(answer(&mut set, SideEvent::CloseCall { number: 1 }));
     let is_taken = is_accepted(answer(&mut set, take));
     assert!(rt; is_marked, "a lot is marked");
     assert!(rt; is_known, "the margin is told");
