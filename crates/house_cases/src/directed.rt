@@ -4,7 +4,7 @@ use crate::command::{push_told, run_line};
 use crate::ordered::InOrder;
 use crate::quiet_desk::QuietDesk;
 use crate::setting::{desk_of, folder, sink};
-use crate::sweep::{Group, Seen};
+use crate::sweep::{Alike, Group, Seen};
 use anyhow::{Context, Result, ensure};
 use call_desk::Desk;
 use margin_top::Status;
@@ -22,6 +22,13 @@ pub struct Outcome {
     pub status: Status,
     pub text: Vec<u8>,
     pub told: Text,
+}
+
+impl Outcome {
+    /// Whether the same came.
+    pub fn is_like(&self, other: &Outcome) -> bool {
+        self.status == other.status && Seen::of(self, other).is_same()
+    }
 }
 
 /// Adds a line with a word for each desk, and the lines of its notices.
@@ -151,36 +158,49 @@ fn run_once<R: Threads + Wait + Sync>(
 }
 
 /// Writes what came of a command.
-fn write_outcome<W: Write>(out: &mut W, outcome: &Outcome) -> io::Result<()> {
+pub fn write_outcome<W: Write>(out: &mut W, outcome: &Outcome) -> io::Result<()> {
     writeln!(out, "status {}", outcome.status.code())?;
     out.write_all(outcome.text.as_slice())?;
     out.write_all(outcome.told.as_slice())
 }
 
-/// Runs the command of a case for each number that N stands for, and writes what came of it: beside the plain run, or in full.
+/// Runs the command of a case for each number from the first to the last, and writes what came of it beside the plain run.
 fn run_range<R: Threads + Wait + Sync, W: Write>(
     threads: &R,
     rt: HostRuntime,
     case: Case<'_>,
+    (first, last): (u64, u64),
     plain: &Outcome,
     out: &mut W,
 ) -> Result<()> {
-    let Some((first, last)) = case.range()? else {
-        return Ok(());
-    };
     let mut group: Option<Group> = None;
     for number in first..=last {
         let outcome = run_once(threads, rt, case.at(number))?;
-        if case.says("in full") {
-            writeln!(out, "N {number}")?;
-            write_outcome(out, &outcome)?;
-            continue;
-        }
         let seen = Seen::of(&outcome, plain);
         group = Some(Group::after(group, number, seen, out)?);
     }
     if let Some(group) = group {
         group.write(out)?;
+    }
+    Ok(())
+}
+
+/// Runs the command of a case for each number from the first to the last, and writes what came of it whole, once for those
+/// that follow one another where the same came.
+fn run_range_in_full<R: Threads + Wait + Sync, W: Write>(
+    threads: &R,
+    rt: HostRuntime,
+    case: Case<'_>,
+    (first, last): (u64, u64),
+    out: &mut W,
+) -> Result<()> {
+    let mut alike: Option<Alike> = None;
+    for number in first..=last {
+        let outcome = run_once(threads, rt, case.at(number))?;
+        alike = Some(Alike::after(alike, number, outcome, out)?);
+    }
+    if let Some(alike) = alike {
+        alike.write(out)?;
     }
     Ok(())
 }
@@ -233,5 +253,9 @@ pub fn run_directed<R: Threads + Wait + Sync, W: Write>(
     }
     let plain = run_once(threads, rt, case)?;
     write_outcome(out, &plain)?;
-    run_range(threads, rt, case, &plain, out)
+    match case.range()? {
+        Some(range) if case.says("in full") => run_range_in_full(threads, rt, case, range, out),
+        Some(range) => run_range(threads, rt, case, range, &plain, out),
+        None => Ok(()),
+    }
 }

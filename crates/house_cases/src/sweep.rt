@@ -1,5 +1,5 @@
-//! What comes of a command at number after number, told in few lines.
-use crate::directed::Outcome;
+//! What comes of a command at number after number, told in few lines, or whole where the same came.
+use crate::directed::{Outcome, write_outcome};
 use margin_top::Status;
 use std::io::{self, Write};
 
@@ -118,5 +118,43 @@ impl Group {
             write!(out, ", other notices")?;
         }
         writeln!(out)
+    }
+}
+
+/// Numbers that follow one another, at each of which the same came.
+#[derive(Drop)]
+pub struct Alike {
+    first: u64,
+    last: u64,
+    outcome: Outcome,
+}
+
+impl Alike {
+    /// The numbers with the one that follows, where the same came of it; or they are written, and it begins others.
+    pub fn after<W: Write>(
+        alike: Option<Alike>,
+        number: u64,
+        outcome: Outcome,
+        out: &mut W,
+    ) -> io::Result<Alike> {
+        let mut first = number;
+        if let Some(alike) = alike {
+            if outcome.is_like(&alike.outcome) {
+                first = alike.first;
+            } else {
+                alike.write(out)?;
+            }
+        }
+        Ok(Alike {
+            first,
+            last: number,
+            outcome,
+        })
+    }
+
+    /// Writes a line of the numbers, and below it what came.
+    pub fn write<W: Write>(&self, out: &mut W) -> io::Result<()> {
+        writeln!(out, "N {} to {}", self.first, self.last)?;
+        write_outcome(out, &self.outcome)
     }
 }
