@@ -9,12 +9,16 @@ use Rattle.csa_calls.specs.declared.CallAmount.{CallAmount}
 use Rattle.csa_calls.specs.declared.CallAmount.TheVariants.{Delivery, Return, Nothing}
 
 -- the credit support amount: the margin above the threshold
-abbrev pub credit_support : ℤ → Agreement → ℤ
-credit_support margin terms = int_max (margin -ℤ terms.threshold) (pos 0)
+abbrev pub credit_support : ℤ → ℤ → ℤ
+credit_support margin threshold = int_max (margin -ℤ threshold) (pos 0)
 
--- how far the credit support amount is above what is booked
+-- how far the credit support amount above a threshold is above what is booked
+abbrev pub excess_at : ℤ → ℤ → ℤ → ℤ
+excess_at margin booked threshold = credit_support margin threshold -ℤ booked
+
+-- the same at the agreement's threshold
 abbrev pub excess : ℤ → ℤ → Agreement → ℤ
-excess margin booked terms = credit_support margin terms -ℤ booked
+excess margin booked terms = excess_at margin booked terms.threshold
 
 -- the least multiple of the unit not below the amount
 abbrev pub multiple_up : ℤ → ℤ → ℤ
@@ -40,9 +44,13 @@ call_for excess terms =
     if is_delivery excess terms then Delivery (multiple_up excess terms.rounding)
     else (if is_return excess terms then Return (multiple_down (neg_ℤ excess) terms.rounding) else Nothing excess)
 
--- the call on a margin where so much is booked
+-- the call on a margin where so much is booked, at a threshold in place of the agreement's own
+abbrev pub call_of_at : ℤ → ℤ → ℤ → Agreement → CallAmount
+call_of_at margin booked threshold terms = call_for (excess_at margin booked threshold) terms
+
+-- the same at the agreement's threshold
 abbrev pub call_of : ℤ → ℤ → Agreement → CallAmount
-call_of margin booked terms = call_for (excess margin booked terms) terms
+call_of margin booked terms = call_of_at margin booked terms.threshold terms
 
 -- ---- the same as facts
 

@@ -6,11 +6,11 @@
 ghost use Rattle.std.specs.Prelude.{◌≡◌, ◌+◌, ◌*◌, ◌≤◌, ◌^◌, pos, ◌+ℤ◌, ◌-ℤ◌, ◌*ℤ◌, ◌≤ℤ◌, ◌<ℤ◌, unsigned_abs};
 ghost use Rattle.std.specs.Int.{int_max};
 ghost use Rattle.csa_terms.specs.Terms.{IsAmount, IsRounding};
-ghost use Rattle.csa_calls.specs.CallRule.{AmountUpTo, IsCallFor, IsGreatestMultiple, IsLeastMultiple, call_for, call_of, is_delivery, is_return, multiple_down, multiple_up};
+ghost use Rattle.csa_calls.specs.CallRule.{AmountUpTo, IsCallFor, IsGreatestMultiple, IsLeastMultiple, call_for, call_of, call_of_at, credit_support, excess_at, is_delivery, is_return, multiple_down, multiple_up};
 ghost use Rattle.csa_calls.specs.CallRule.{excess as excess_of};
 
 use csa_terms::SetTerms;
-use csa_terms::mh_units::{div_down, div_up};
+use csa_terms::mh_units::{Cents, div_down, div_up};
 
 /// What is called for. Amounts are in cents, and those of a call are multiples of the agreement's rounding.
 #[derive(Clone, Copy, Debug, PartialEq, Eq)]
@@ -39,7 +39,22 @@ pub fn call_amount(margin: i128, booked: i128, terms: &SetTerms) -> CallAmount
     ensures amount { AmountUpTo (margin +ℤ pos (unsigned_abs booked + 10 ^ 12)) result }
 {
     terms.facts();
-    let excess = excess(margin, booked, terms);
+    call_amount_at(margin, booked, terms.threshold(), terms)
+}
+
+/// The same where a threshold of 0 to 10^15 cents, such as an allotment of a threshold that several sets share, stands in place
+/// of the agreement's own.
+pub fn call_amount_at(margin: i128, booked: i128, threshold: Cents, terms: &SetTerms) -> CallAmount
+    requires margin_from { pos 0 ≤ℤ margin }
+    requires margin_to { margin ≤ℤ pos (5 * 10 ^ 17) }
+    requires booked_in_range { unsigned_abs booked ≤ 5 * 10 ^ 17 }
+    requires threshold { IsAmount threshold.0 }
+    ensures value { result ≡ call_of_at margin booked threshold.0 terms.now }
+    ensures rule { IsCallFor (excess_at margin booked threshold.0) terms.now result }
+    ensures amount { AmountUpTo (margin +ℤ pos (unsigned_abs booked + 10 ^ 12)) result }
+{
+    terms.facts();
+    let excess = excess_at(margin, booked, threshold.0);
     call_for(excess, terms)
 }
 
@@ -53,7 +68,19 @@ pub fn excess(margin: i128, booked: i128, terms: &SetTerms) -> i128
     ensures size { pos (unsigned_abs result) ≤ℤ (margin +ℤ pos (unsigned_abs booked)) }
 {
     terms.facts();
-    credit_support(margin, terms.threshold().0) - booked
+    excess_at(margin, booked, terms.threshold().0)
+}
+
+/// The same above any threshold of 0 to 10^15 cents.
+fn excess_at(margin: i128, booked: i128, threshold: i128) -> i128
+    requires margin_from { pos 0 ≤ℤ margin }
+    requires margin_to { margin ≤ℤ pos (10 ^ 21) }
+    requires booked_in_range { unsigned_abs booked ≤ 10 ^ 23 }
+    requires threshold { IsAmount threshold }
+    ensures value { result ≡ excess_at margin booked threshold }
+    ensures size { pos (unsigned_abs result) ≤ℤ (margin +ℤ pos (unsigned_abs booked)) }
+{
+    credit_support(margin, threshold) - booked
 }
 
 fn call_for(excess: i128, terms: &SetTerms) -> CallAmount
@@ -90,7 +117,7 @@ fn credit_support(margin: i128, threshold: i128) -> i128
     requires margin_from { pos 0 ≤ℤ margin }
     requires margin_to { margin ≤ℤ pos (10 ^ 21) }
     requires threshold { IsAmount threshold }
-    ensures value { result ≡ int_max (margin -ℤ threshold) (pos 0) }
+    ensures value { result ≡ credit_support margin threshold }
     ensures low { pos 0 ≤ℤ result }
     ensures high { result ≤ℤ margin }
 {
