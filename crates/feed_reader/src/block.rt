@@ -10,8 +10,12 @@ use crate::words::{is_end, is_passed_over};
 use mh_io::mh_units::Bytes;
 use mh_io::{LineFault, LineStep, Lines, Source};
 
-/// Gives the next line that isn't passed over outside a block.
-pub(crate) fn skip_to_line<S: Source>(
+/// Gives the next line that isn't empty and doesn't begin with `#`, into `line`.
+///
+/// # Errors
+///
+/// Those of `Lines::next_line`, each where it has it.
+pub fn skip_to_line<S: Source>(
     lines: &mut Lines<S>,
     line: &mut Bytes,
 ) -> Result<LineStep, LineFault>

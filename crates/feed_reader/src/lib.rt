@@ -13,10 +13,12 @@ mod unread;
 mod values;
 mod words;
 
+pub use block::skip_to_line;
 pub use fault::FeedFault;
 pub use message::{Fed, Message};
 pub use read::next_message;
-pub use values::number_in;
+pub use values::{cents_in, number_in};
+pub use words::is_word;
 
 // what the crates above reach through this one
 pub use mh_io;

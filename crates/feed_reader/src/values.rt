@@ -1,14 +1,15 @@
 //! The values that single fields are.
-ghost use Rattle.std.specs.Prelude.{◌≡◌};
+ghost use Rattle.std.specs.Prelude.{◌≡◌, ◌≤◌, ◌^◌, unsigned_abs, IfSome};
 ghost use Rattle.feed_reader.specs.Values.{amount, number, lot_currency};
 
 use crate::words::is_word;
 use mh_io::mh_units::read_cents;
 use side_events::csa_terms::LotCurrency;
 
-/// The cents of a numeral.
-pub(crate) fn cents_in(field: &[u8]) -> Option<i64>
-    ensures { result ≡ amount field.now }
+/// The cents of a numeral, at most 10^15 in size; `None` of another text. It takes no memory.
+pub fn cents_in(field: &[u8]) -> Option<i64>
+    ensures value { result ≡ amount field.now }
+    ensures size { IfSome result (λ cents. unsigned_abs cents ≤ 10 ^ 15) }
 {
     match read_cents(field) {
         Ok(cents) => Some(cents.0 as i64),

@@ -73,8 +73,8 @@ impl Word {
 /// The line that ends a block.
 const END: &str = "END";
 
-/// Whether the bytes are just this word.
-pub(crate) fn is_word(bytes: &[u8], word: &str) -> bool
+/// Whether the bytes are just this word. It takes no memory.
+pub fn is_word(bytes: &[u8], word: &str) -> bool
     ensures { result ≡ bytes_eq bytes.now word.now }
 {
     bytes == word.as_bytes()
