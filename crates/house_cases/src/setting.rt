@@ -6,6 +6,7 @@ use mh_io::{MemFolder, MemSink};
 use mh_units::Bytes;
 use std::alloc::Global;
 use std::fs;
+use std::io::ErrorKind;
 
 /// The bytes that a sink has room for, where no directive says how many.
 const ROOM: usize = 1 << 20;
@@ -76,9 +77,14 @@ pub fn folder(rt: HostRuntime, case: Case<'_>) -> Result<MemFolder> {
     let alloc = rt.alloc();
     let mut folder = MemFolder::new(case.numbers(alloc, "finds that fail: ")?);
     for word in case.command.split(' ') {
-        if let Ok(file) = fs::read(&rt, word) {
-            let bytes = Bytes::from_slice(alloc, file.as_slice())?;
-            add_file(alloc, &mut folder, word, bytes, case)?;
+        match fs::read(&rt, word) {
+            Ok(file) => {
+                let bytes = Bytes::from_slice(alloc, file.as_slice())?;
+                add_file(alloc, &mut folder, word, bytes, case)?;
+            }
+            // (a word that is no file's name, and a file that isn't there, are no file of the folder)
+            Err(error) if error.kind() != ErrorKind::OutOfMemory => {}
+            Err(error) => return Err(error.into()),
         }
     }
     for directive in case.directives {
