@@ -1,0 +1,10 @@
+pub mod EvenMatrices
+pub mod Ranges
+pub mod Rows
+pub mod Records
+pub mod Messages
+pub mod SetTerms
+pub mod InRange
+pub mod TradeNames
+pub mod AllTrades
+pub mod ReadBack
