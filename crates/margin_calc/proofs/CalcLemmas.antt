@@ -8,8 +8,8 @@ use Rattle.simm_rules.specs.declared.values.Breakdown.{Breakdown}
 use Rattle.simm_rules.specs.declared.values.RangeFault.{RangeFault}
 use Rattle.simm_rules.specs.Range.{range}
 use Rattle.params_file.specs.Grammar.{params_of}
-use Rattle.bucket_cache.specs.declared.place.RowPlace.{RowPlace}
-use Rattle.bucket_cache.specs.Live.{first_unadmitted}
+use Rattle.set_core.specs.BucketCache.declared.place.RowPlace.{RowPlace}
+use Rattle.set_core.specs.BucketCache.Live.{first_unadmitted}
 use Rattle.set_core.specs.declared.refusal.Refusal.{Refusal}
 use Rattle.set_core.specs.declared.refusal.Refusal.TheVariants as refusal
 use Rattle.set_core.specs.declared.reply.Reply.TheVariants as reply

@@ -9,7 +9,7 @@ use Rattle.simm_rules.specs.declared.values.Breakdown.{Breakdown}
 use Rattle.simm_rules.specs.Params.{Params}
 use Rattle.simm_rules.specs.Range.{range}
 use Rattle.params_file.specs.Grammar.{params_of}
-use Rattle.bucket_cache.specs.Live.{first_unadmitted}
+use Rattle.set_core.specs.BucketCache.Live.{first_unadmitted}
 use Rattle.set_core.specs.declared.reply.Reply.TheVariants as reply
 use Rattle.set_core.specs.Answer.{if_in_range, if_admitted}
 use Rattle.crif_reader.specs.declared.fault.CrifFault.{CrifFault}

@@ -8,7 +8,7 @@ use Rattle.simm_rules.specs.declared.values.Breakdown.{Breakdown}
 use Rattle.simm_rules.specs.Params.{Params}
 use Rattle.simm_rules.specs.Simm.{simm}
 use Rattle.simm_rules.specs.Range.{range}
-use Rattle.bucket_cache.specs.Live.{first_unadmitted}
+use Rattle.set_core.specs.BucketCache.Live.{first_unadmitted}
 use Rattle.set_core.specs.declared.refusal.Refusal.{Refusal}
 use Rattle.set_core.specs.declared.reply.Reply.TheVariants as reply
 use Rattle.set_core.specs.Answer.{if_admitted}

@@ -9,7 +9,7 @@ use Rattle.simm_kinds.specs.Batch.{rows_of}
 use Rattle.simm_rules.specs.Params.{Params}
 use Rattle.simm_rules.specs.Range.{range}
 use Rattle.params_file.specs.Grammar.{params_of}
-use Rattle.bucket_cache.specs.Live.{first_unadmitted}
+use Rattle.set_core.specs.BucketCache.Live.{first_unadmitted}
 use Rattle.command_files.specs.Grammars.{GivesTrades}
 
 -- the folder has both files, neither is too long, both are inside their grammars, all rows are admitted, the book is in

@@ -2,11 +2,11 @@ ghost use Rattle.std.specs.Prelude.{◌≡◌};
 ghost use Rattle.command_files.specs.Files.{KeepsCounts};
 ghost use Rattle.margin_calc.specs.Calc.{TellsRefusal, BatchEnds, MarginEnds};
 
-use bucket_cache::{SubmitFault, batch_margin};
 use command_files::{Fault, InputFile, read_crif_file, read_param_file};
 use margin_text::refusal_line;
 use mh_io::Folder;
 use set_core::Refusal;
+use set_core::bucket_cache::{SubmitFault, batch_margin};
 use simm_kinds::Batch;
 use simm_params::Params;
 use simm_rules::Breakdown;

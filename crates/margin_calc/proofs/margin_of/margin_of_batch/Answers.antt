@@ -2,7 +2,7 @@ use Rattle.std.proofs.Common.{ap, sym, Err, refl, ◌∙◌, inl, inr}
 use Rattle.simm_kinds.specs.Batch.{rows_of}
 use Rattle.simm_rules.specs.Range.{range}
 use Rattle.simm_rules.specs.Simm.{simm}
-use Rattle.bucket_cache.specs.Live.{first_unadmitted}
+use Rattle.set_core.specs.BucketCache.Live.{first_unadmitted}
 use Rattle.margin_calc.proofs.CalcLemmas.{unknown_refused, range_refused}
 use Rattle.margin_calc.proofs.margin_of.margin_of_batch.Goals as goal
 
