@@ -7,3 +7,5 @@ mod call_desk_calls;
 mod margin_text_calls;
 #[cfg(test)]
 mod outbox;
+#[cfg(test)]
+mod sample_calls;

@@ -1,9 +1,9 @@
 -- The words that name feeds, one by one.
-use Rattle.std.proofs.Common.{◌≡◌, ℕ, List, [], ◌∷◌, length, map, true, false, nat_le, refl, ap, ◌∙◌}
+use Rattle.std.proofs.Common.{◌≡◌, ℕ, ◌<◌, ◌≤◌, ◌-◌, List, [], ◌∷◌, length, map, take, drop, take_all, slice_index_or, None, true, false, nat_le, refl, sym, ap, ◌∙◌, arith}
 use Rattle.std.specs.List.{list_all}
 use Rattle.std.specs.Prelude.{◌==◌, ◌&&◌, not}
 use Rattle.std.proofs.lemmas.List.{length-map}
-use Rattle.margin_top.specs.Words.{is_name_word, are_feed_words}
+use Rattle.margin_top.specs.Words.{is_name_word, are_feed_words, run_form, form_of}
 
 all_mapped : {V : Type 0} (f : V → List ℕ) (xs : List V) → list_all is_name_word (map f xs) ≡ list_all (λ x. is_name_word (f x)) xs
 all_mapped f [] = refl
@@ -14,3 +14,22 @@ feed_words f xs some few =
     ap (λ n. (not (n == 0) && nat_le n 32) && list_all is_name_word (map f xs)) (length-map xs f)
     ∙ (ap (λ b. (not b && nat_le (length xs) 32) && list_all is_name_word (map f xs)) some
     ∙ (ap (λ b. (true && b) && list_all is_name_word (map f xs)) few ∙ all_mapped f xs))
+
+-- fewer than three words are no form
+pub few_words : {V : Type 0} (f : V → List ℕ) (xs : List V) → length xs < 3 → form_of (map f xs) ≡ None
+few_words f [] h = refl
+few_words f (x ∷ []) h = refl
+few_words f (x ∷ y ∷ []) h = refl
+few_words f (x ∷ y ∷ z ∷ xs) h = absurd (omega (arith, h))
+
+-- four words or more are a run's, or no form
+pub many_words : {V : Type 0} (f : V → List ℕ) (xs : List V) (command params terms : V) → 4 ≤ length xs
+    → command ≡ slice_index_or xs 0 command → params ≡ slice_index_or xs 1 params → terms ≡ slice_index_or xs 2 terms
+    → run_form (f command) (f params) (f terms) (map f (take (length xs - 3) (drop 3 xs))) ≡ form_of (map f xs)
+many_words f [] command params terms h c p t = absurd (omega (arith, h))
+many_words f (x ∷ []) command params terms h c p t = absurd (omega (arith, h))
+many_words f (x ∷ y ∷ []) command params terms h c p t = absurd (omega (arith, h))
+many_words f (x ∷ y ∷ z ∷ []) command params terms h c p t = absurd (omega (arith, h))
+many_words f (x ∷ y ∷ z ∷ w ∷ ws) command params terms h c p t =
+    let all : take (length (x ∷ y ∷ z ∷ w ∷ ws) - 3) (w ∷ ws) ≡ w ∷ ws = take_all (length (x ∷ y ∷ z ∷ w ∷ ws) - 3) (w ∷ ws) (omega arith) in
+    λ i. run_form (f (c i)) (f (p i)) (f (t i)) (map f (all i))

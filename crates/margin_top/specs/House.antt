@@ -4,11 +4,12 @@ use Rattle.mh_io.specs.Sink.{SinkSeen}
 use Rattle.mh_io.specs.Folder.{FolderSeen}
 use Rattle.command_files.specs.declared.status.Status.{Status}
 use Rattle.command_files.specs.declared.status.Status.TheVariants as status
-use Rattle.margin_top.specs.Words.{Form, Calc, Schedule, Run, form_of}
+use Rattle.margin_top.specs.Words.{Form, Calc, Schedule, Sample, Run, form_of}
 use Rattle.command_files.specs.Lines.{words_fault}
 use Rattle.command_files.specs.Printed.{GotLine}
 use Rattle.margin_calc.specs.Calc.{CalcEnds}
 use Rattle.margin_schedule.specs.Schedule.{ScheduleEnds}
+use Rattle.margin_sample.specs.Sample.{SampleEnds}
 use Rattle.margin_run.specs.Desks.{Desks, AreUntold}
 use Rattle.margin_run.specs.Run.{RunEnds}
 
@@ -19,11 +20,18 @@ pub record EndsAtWords {B : Type 0} (old new : FolderSeen) (out_old out_new : Si
   pub printed : GotLine out_old out_new words_fault
   pub untold : AreUntold d
 
+-- a sample asks the folder for nothing, and tells no desk
+pub record EndsSample {B : Type 0} (feeds seed : ℕ) (old new : FolderSeen) (out_old out_new : SinkSeen) (d : Desks B) (s : Status) : Type 0 where
+  pub ends : SampleEnds feeds seed out_old out_new s
+  pub folder : new ≡ old
+  pub untold : AreUntold d
+
 -- what each form of words does; a margin of one file tells no desk
 abbrev pub FormEnds : {B : Type 0} → Option Form → FolderSeen → FolderSeen → SinkSeen → SinkSeen → Desks B → Status → Type 0
 FormEnds None old new out_old out_new d s = EndsAtWords old new out_old out_new d s
 FormEnds (Some (Calc params crif)) old new out_old out_new d s = CalcEnds params crif old new out_old out_new s × AreUntold d
 FormEnds (Some (Schedule day crif)) old new out_old out_new d s = ScheduleEnds day crif old new out_old out_new s × AreUntold d
+FormEnds (Some (Sample feeds seed)) old new out_old out_new d s = EndsSample feeds seed old new out_old out_new d s
 FormEnds (Some (Run params terms feeds)) old new out_old out_new d s = RunEnds params terms feeds old new out_old out_new d s
 
 abbrev pub HouseEnds : {B : Type 0} → List (List ℕ) → FolderSeen → FolderSeen → SinkSeen → SinkSeen → Desks B → Status → Type 0

@@ -4,11 +4,13 @@ use Rattle.std.specs.List.{list_all}
 use Rattle.std.specs.Str.{bytes_eq}
 use Rattle.margin_schedule.specs.ScheduleIm.IsoDates.declared.date.DateNumbers.{DateNumbers}
 use Rattle.margin_schedule.specs.ScheduleIm.EndDates.{end_date_of}
+use Rattle.feed_gate.specs.FeedReader.Values.{number}
 
--- the forms of a command, each with its file words
+-- the forms of a command, each with its file words, and a sample with its numbers
 pub data Form : Type 0 where
   Calc : (params crif : List ℕ) → Form
   Schedule : (day : DateNumbers) (crif : List ℕ) → Form
+  Sample : (feeds seed : ℕ) → Form
   Run : (params terms : List ℕ) (feeds : List (List ℕ)) → Form
 
 -- a word that names something: it isn't empty, and doesn't begin with `-`
@@ -32,10 +34,32 @@ margin_form command first crif =
     else if bytes_eq command (codes "schedule") && is_name_word crif then schedule_form (end_date_of first) crif
     else None
 
--- a margin of one file, and `run PARAMS TERMS FEED..` with 1 to 32 feeds; all other words are no form
+-- a number up to 4,294,967,295 in decimal, without a sign, and without a leading zero unless it is 0
+abbrev pub number_of : List ℕ → Option ℕ
+number_of word = if bytes_eq word (codes "0") then Some 0 else number word
+
+-- a sample of 1 to 32 feeds, where both words are numbers
+abbrev pub few_feeds : Option ℕ → Option ℕ → Option Form
+few_feeds (Some feeds) (Some seed) = if nat_le 1 feeds && nat_le feeds 32 then Some (Sample feeds seed) else None
+few_feeds (Some feeds) None = None
+few_feeds None seed = None
+
+abbrev pub sample_form : List ℕ → List ℕ → Option Form
+sample_form feeds seed = few_feeds (number_of feeds) (number_of seed)
+
+-- three words: `sample N SEED`, or a margin of one CRIF file
+abbrev pub short_form : List ℕ → List ℕ → List ℕ → Option Form
+short_form command first second =
+    if bytes_eq command (codes "sample") then sample_form first second else margin_form command first second
+
+-- `run PARAMS TERMS FEED..` with 1 to 32 feeds
+abbrev pub run_form : List ℕ → List ℕ → List ℕ → List (List ℕ) → Option Form
+run_form command params terms feeds =
+    if bytes_eq command (codes "run") && is_name_word params && is_name_word terms && are_feed_words feeds
+    then Some (Run params terms feeds) else None
+
+-- these; all other words are no form
 abbrev pub form_of : List (List ℕ) → Option Form
-form_of (command ∷ first ∷ crif ∷ []) = margin_form command first crif
-form_of (command ∷ params ∷ terms ∷ feed ∷ feeds) =
-    if bytes_eq command (codes "run") && is_name_word params && is_name_word terms && are_feed_words (feed ∷ feeds)
-    then Some (Run params terms (feed ∷ feeds)) else None
+form_of (command ∷ first ∷ second ∷ []) = short_form command first second
+form_of (command ∷ params ∷ terms ∷ feed ∷ feeds) = run_form command params terms (feed ∷ feeds)
 form_of _ = None

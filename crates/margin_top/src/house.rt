@@ -13,6 +13,7 @@ use command_files::{FaultLine, Status, print_line};
 use feed_gate::Gate;
 use margin_calc::calc;
 use margin_run::run;
+use margin_sample::sample;
 use margin_schedule::schedule;
 use mh_io::{Folder, Sink};
 use std::alloc::Global;
@@ -24,6 +25,8 @@ use std::thread::Threads;
 /// runs 1 to 32 feeds at the same time on the netting sets of the terms, prints the journals and what became of the feeds,
 /// and tells each desk the calls that were made. Words that are no form of a command are status `Words`, with one fault
 /// line; then the folder isn't asked for anything. The gate is called before and after each call of a feed on a set.
+///
+/// `sample N SEED` runs 1 to 32 feeds that it makes itself, as `sample` says. It asks the folder for nothing, and tells no desk.
 ///
 /// A run that reached its feeds tells each desk the notices of all calls, set after set, each set's in the order of its
 /// journal, unless memory ran out for the text or for the notices (`Memory`). A desk that fails is told nothing more and is
@@ -53,6 +56,7 @@ pub fn margin_house<R: Threads + Wait + Sync, F: Folder, K: Sink, G: Gate>(
     match command_of(words) {
         Some(Command::Calc(files)) => calc(alloc, files.params, files.crif, folder, out),
         Some(Command::Schedule(files)) => schedule(alloc, files.day, files.crif, folder, out),
+        Some(Command::Sample(plan)) => sample(rt, alloc, plan, out, gate),
         Some(Command::Run(files)) => run(rt, alloc, files, folder, out, desks, retired, gate),
         None => {
             print_line(out, FaultLine::Whole(b"FAULT\tWORDS\n"));

@@ -1,10 +1,12 @@
-ghost use Rattle.std.specs.Prelude.{◌≡◌, map};
+ghost use Rattle.std.specs.Prelude.{◌≡◌, map, length, true, IfSome};
 ghost use Rattle.std.specs.List.{list_all};
 ghost use Rattle.std.specs.String.{string_bytes};
-ghost use Rattle.margin_top.specs.Words.{is_name_word, are_feed_words, margin_form, form_of};
-ghost use Rattle.margin_top.specs.WordsRead.{IsForm};
+ghost use Rattle.margin_top.specs.Words.{is_name_word, are_feed_words, margin_form, number_of, sample_form, short_form, run_form, form_of};
+ghost use Rattle.margin_top.specs.WordsRead.{IsForm, IsPlan, AreFew, HasFew};
 
+use feed_gate::feed_reader::number_in;
 use margin_run::RunFiles;
+use margin_sample::SamplePlan;
 use margin_schedule::EndDate;
 
 /// The files of a margin calculation.
@@ -32,7 +34,7 @@ fn is_name(word: &str) -> bool
     !matches!(word.as_bytes(), [] | [b'-', ..])
 }
 
-/// How many feeds a run has at most.
+/// How many feeds a run and a sample have at most.
 const MOST_FEEDS: usize = 32;
 
 fn are_names(words: &[String]) -> bool
@@ -43,7 +45,8 @@ fn are_names(words: &[String]) -> bool
 
 /// Words that name the feeds of a run.
 fn are_feeds(words: &[String]) -> bool
-    ensures { result ≡ are_feed_words (map string_bytes words.now) }
+    ensures form { result ≡ are_feed_words (map string_bytes words.now) }
+    ensures few { result ≡ true → AreFew (length words.now) }
 {
     !words.is_empty() && words.len() <= MOST_FEEDS && are_names(words)
 }
@@ -53,12 +56,14 @@ fn are_feeds(words: &[String]) -> bool
 pub(crate) enum Command<'a> {
     Calc(CalcFiles<'a>),
     Schedule(ScheduleFiles<'a>),
+    Sample(SamplePlan),
     Run(RunFiles<'a>),
 }
 
 /// The margin of one CRIF file that three words ask for.
 fn margin_command<'a>(command: &'a str, first: &'a str, crif: &'a str) -> Option<Command<'a>>
-    ensures { IsForm result (margin_form command.now first.now crif.now) }
+    ensures form { IsForm result (margin_form command.now first.now crif.now) }
+    ensures few { HasFew result }
 {
     if command == "calc" && is_name(first) && is_name(crif) {
         return Some(Command::Calc(CalcFiles {
@@ -73,24 +78,73 @@ fn margin_command<'a>(command: &'a str, first: &'a str, crif: &'a str) -> Option
     None
 }
 
+/// A number in decimal, without a sign, and without a leading zero unless it is 0.
+fn number(word: &str) -> Option<u32>
+    ensures { result ≡ number_of word.now }
+{
+    if word == "0" {
+        Some(0)
+    } else {
+        number_in(word.as_bytes())
+    }
+}
+
+/// How many feeds a sample makes, and what they are drawn from.
+fn sample_plan(feeds: &str, seed: &str) -> Option<SamplePlan>
+    ensures plan { IsPlan result (sample_form feeds.now seed.now) }
+    ensures few { IfSome result (λ plan. AreFew plan.feeds) }
+{
+    let feeds = number(feeds)?;
+    let seed = number(seed)?;
+    if feeds == 0 || feeds as usize > MOST_FEEDS {
+        return None;
+    }
+    Some(SamplePlan { feeds, seed })
+}
+
+/// A sample, or the margin of one CRIF file, that three words ask for.
+fn short_command<'a>(command: &'a str, first: &'a str, second: &'a str) -> Option<Command<'a>>
+    ensures form { IsForm result (short_form command.now first.now second.now) }
+    ensures few { HasFew result }
+{
+    if command == "sample" {
+        let plan = sample_plan(first, second)?;
+        return Some(Command::Sample(plan));
+    }
+    margin_command(command, first, second)
+}
+
+/// The run of feeds that four words or more ask for.
+fn run_command<'a>(
+    command: &'a str,
+    params: &'a str,
+    terms: &'a str,
+    feeds: &'a [String],
+) -> Option<Command<'a>>
+    ensures form { IsForm result (run_form command.now params.now terms.now (map string_bytes feeds.now)) }
+    ensures few { HasFew result }
+{
+    if command == "run" && is_name(params) && is_name(terms) && are_feeds(feeds) {
+        return Some(Command::Run(RunFiles {
+            params,
+            terms,
+            feeds,
+        }));
+    }
+    None
+}
+
 /// The command of the words, if they are a form of one.
 pub(crate) fn command_of(words: &[String]) -> Option<Command<'_>>
-    ensures { IsForm result (form_of (map string_bytes words.now)) }
+    ensures form { IsForm result (form_of (map string_bytes words.now)) }
+    ensures few { HasFew result }
 {
     match words {
-        [command, first, crif] => {
-            margin_command(command.as_str(), first.as_str(), crif.as_str())
+        [command, first, second] => {
+            short_command(command.as_str(), first.as_str(), second.as_str())
         }
-        [command, params, terms, feeds @ ..]
-            if command.as_str() == "run"
-                && is_name(params.as_str())
-                && is_name(terms.as_str())
-                && are_feeds(feeds) => {
-            Some(Command::Run(RunFiles {
-                params: params.as_str(),
-                terms: terms.as_str(),
-                feeds,
-            }))
+        [command, params, terms, feeds @ ..] => {
+            run_command(command.as_str(), params.as_str(), terms.as_str(), feeds)
         }
         _ => None,
     }

@@ -1,0 +1,4 @@
+pub mod Feeds
+pub mod Calls
+pub mod Sets
+pub mod Sample
