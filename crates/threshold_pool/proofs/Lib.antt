@@ -1,0 +1,10 @@
+pub mod Sums
+pub mod Places
+pub mod Stepping
+pub mod Looking
+pub mod Allotting
+pub mod Giving
+pub mod Splitting
+pub mod Joining
+pub mod Closing
+pub mod Resting
