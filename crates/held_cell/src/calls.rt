@@ -15,7 +15,7 @@ use std::time::Duration;
 const TRIES: u32 = 2;
 
 // How long it then sleeps, in milliseconds, if nobody wakes it.
-const SLEEP: u64 = 10;
+const SLEEP: u64 = 2;
 
 // Of so many calls that are made while callers sleep one wakes one of them. A caller that is woken at each call finds the cell taken
 // again by the one that woke it, where that one goes on calling.
