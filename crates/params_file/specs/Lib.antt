@@ -16,4 +16,6 @@ pub mod TablesRanges
 pub mod Grammar
 pub mod Classes
 pub mod ClassRanges
+pub mod Texts
 pub use Rattle.simm_params.specs.SimmRules as SimmRules
+pub use Rattle.simm_params.specs.TomlValues as TomlValues

@@ -1,4 +1,4 @@
-//! The parameter file of the margin rule: TOML, read exactly by its grammar.
+//! The parameter file of the margin rule: TOML, read exactly by its grammar; and its text beside what it says.
 #![tactic(auto)]
 
 mod bucket_array;
@@ -18,17 +18,21 @@ mod ir_table;
 mod ir_thickness;
 mod key_rate;
 mod matrix_array;
+mod param_text;
 mod place;
 mod range;
 mod rate_array;
 mod reading;
 mod root_table;
 mod symmetry;
+mod text_fault;
 mod thickness;
 mod threshold_table;
 
 pub use fault::ParamFault;
+pub use param_text::ParamText;
 pub use reading::read_params;
+pub use text_fault::ParamTextFault;
 
 // what the crates above reach through this one
 pub use simm_params;
