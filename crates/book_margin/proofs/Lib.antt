@@ -1,4 +1,5 @@
 pub mod Parts
+pub mod KeptParts
 pub mod Whole
 pub mod Alone
 pub mod Gathered
@@ -8,3 +9,4 @@ pub mod Untouched
 pub mod Classes
 pub use Rattle.kept_buckets.proofs.SimmKinds as SimmKinds
 pub use Rattle.kept_buckets.proofs.FactorBook as FactorBook
+pub use Rattle.class_volatility.proofs.ClassDelta as ClassDelta

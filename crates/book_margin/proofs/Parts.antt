@@ -1,9 +1,11 @@
 -- The margin of a risk class by its parts, as the code adds them up.
-use Rattle.std.proofs.Common.{◌≡◌, ◌*◌, ◌^◌, ◌≤◌, ℕ, List, ℤ, pos, ◌+ℤ◌, ◌≤ℤ◌, unsigned_abs, FitsSigned, refl, sym, ◌∙◌, subst, arith, lit≤}
+use Rattle.std.proofs.Common.{◌≡◌, ◌*◌, ◌^◌, ◌≤◌, ℕ, List, ℤ, ◌+ℤ◌, unsigned_abs, FitsSigned, refl, sym, ◌∙◌, subst, arith, lit≤}
 use Rattle.std.specs.Int.{w128}
 use Rattle.std.proofs.lemmas.Int.{ints}
+use Rattle.kept_buckets.specs.MhUnits.declared.quantities.Cents.{Cents}
 use Rattle.kept_buckets.specs.SimmKinds.declared.kinds.RiskClass.{RiskClass}
 use Rattle.kept_buckets.specs.SimmKinds.declared.kinds.RiskClass.TheVariants as class
+use Rattle.kept_buckets.specs.SimmKinds.declared.kinds.Measure.TheVariants as measure
 use Rattle.kept_buckets.specs.SimmRules.Params.{Params}
 use Rattle.kept_buckets.specs.SimmRules.Net.{Sensitivity}
 use Rattle.kept_buckets.specs.SimmRules.Simm.{class_margin_of}
@@ -12,7 +14,13 @@ use Rattle.class_combine.proofs.Products.{passed, plus, added}
 use Rattle.class_volatility.specs.Curvature.{class_curvature_of}
 use Rattle.class_volatility.specs.ClassDelta.Class.{class_delta_of}
 use Rattle.class_volatility.specs.Vega.{class_vega_of}
+use Rattle.kept_buckets.specs.SimmKinds.declared.key.FactorKey.{FactorKey}
+use Rattle.kept_buckets.specs.FactorBook.declared.at.ClassAt.{ClassAt}
+use Rattle.kept_buckets.specs.FactorBook.declared.holding.Holding.{Holding}
+use Rattle.class_volatility.specs.NameDelta.Values.{nets_in}
+use Rattle.book_margin.specs.declared.measures.MeasureMargins.{MeasureMargins}
 use Rattle.book_margin.specs.Classes.{base_of}
+use Rattle.book_margin.specs.Measures.{AreMeasures, AreWithin, IsWithin, measure_at, measures_sum}
 
 parts_are : (p : Params) (ss : List Sensitivity) (c : RiskClass) → class_delta_of p ss c +ℤ class_vega_of p ss c +ℤ class_curvature_of p ss c +ℤ base_of p ss c ≡ class_margin_of p ss c
 parts_are p ss class.IR = omega (arith, ints)
@@ -22,37 +30,47 @@ parts_are p ss class.Equity = omega (arith, ints)
 parts_are p ss class.Commodity = omega (arith, ints)
 parts_are p ss class.FX = omega (arith, ints)
 
--- a part of a margin, at most so many cents
-pub record IsPart (most : ℕ) (part its : ℤ) : Type 0 where
-  pub value : part ≡ its
-  pub low : pos 0 ≤ℤ part
-  pub size : part ≤ℤ pos most
+part_size : (most : ℕ) (part : ℤ) → IsWithin most part → unsigned_abs part ≤ most
+part_size most part h = omega (arith, ints, h.low, h.size)
 
-part_size : (most : ℕ) (part its : ℤ) → IsPart most part its → unsigned_abs part ≤ most
-part_size most part its h = omega (arith, ints, h.low, h.size)
+-- ---- the sum
 
-pub record PartsOf (p : Params) (ss : List Sensitivity) (c : RiskClass) (w x y z : ℤ) : Type 0 where
-  pub two : FitsSigned w128 (plus w x)
-  pub three : FitsSigned w128 (plus (plus w x) y)
-  pub four : FitsSigned w128 (plus (plus (plus w x) y) z)
-  pub value : passed (plus (plus (plus w x) y) z) ≡ class_margin_of p ss c
-  pub size : IsClassMargin (passed (plus (plus (plus w x) y) z))
+pub record SumOf (m : MeasureMargins) : Type 0 where
+  pub two : FitsSigned w128 (plus m.delta.0 m.vega.0)
+  pub three : FitsSigned w128 (plus (plus m.delta.0 m.vega.0) m.curvature.0)
+  pub four : FitsSigned w128 (plus (plus (plus m.delta.0 m.vega.0) m.curvature.0) m.base.0)
+  pub value : passed (plus (plus (plus m.delta.0 m.vega.0) m.curvature.0) m.base.0) ≡ measures_sum m
 
-margin_size : (w x y z : ℤ) → pos 0 ≤ℤ w → pos 0 ≤ℤ x → pos 0 ≤ℤ y → pos 0 ≤ℤ z → unsigned_abs (w +ℤ x +ℤ y +ℤ z) ≤ 183 * 10 ^ 14 → IsClassMargin (w +ℤ x +ℤ y +ℤ z)
-margin_size w x y z hw hx hy hz most = record { low = omega (arith, ints); size = omega (arith, ints, most) }
+pub sum_of : (m : MeasureMargins) → AreWithin m → SumOf m
+sum_of m h =
+    let w = m.delta.0 in
+    let x = m.vega.0 in
+    let y = m.curvature.0 in
+    let z = m.base.0 in
+    let two = added w w x (84 * 10 ^ 14) (84 * 10 ^ 14) refl (part_size (84 * 10 ^ 14) w h.delta) (part_size (84 * 10 ^ 14) x h.vega) (lit≤ tt) in
+    let three = added (plus w x) (w +ℤ x) y (168 * 10 ^ 14) (14 * 10 ^ 14) two.value two.size (part_size (14 * 10 ^ 14) y h.curvature) (lit≤ tt) in
+    let four = added (plus (plus w x) y) (w +ℤ x +ℤ y) z (182 * 10 ^ 14) (10 ^ 14) three.value three.size (part_size (10 ^ 14) z h.base) (lit≤ tt) in
+    record { two = two.fits; three = three.fits; four = four.fits; value = four.answer }
 
-pub parts_of : (p : Params) (ss : List Sensitivity) (c : RiskClass) (w x y z : ℤ)
-    → IsPart (84 * 10 ^ 14) w (class_delta_of p ss c) → IsPart (84 * 10 ^ 14) x (class_vega_of p ss c) → IsPart (14 * 10 ^ 14) y (class_curvature_of p ss c) → IsPart (10 ^ 14) z (base_of p ss c)
-    → PartsOf p ss c w x y z
-parts_of p ss c w x y z hw hx hy hz =
-    let two = added w w x (84 * 10 ^ 14) (84 * 10 ^ 14) refl (part_size (84 * 10 ^ 14) w _ hw) (part_size (84 * 10 ^ 14) x _ hx) (lit≤ tt) in
-    let three = added (plus w x) (w +ℤ x) y (168 * 10 ^ 14) (14 * 10 ^ 14) two.value two.size (part_size (14 * 10 ^ 14) y _ hy) (lit≤ tt) in
-    let four = added (plus (plus w x) y) (w +ℤ x +ℤ y) z (182 * 10 ^ 14) (10 ^ 14) three.value three.size (part_size (10 ^ 14) z _ hz) (lit≤ tt) in
-    let size : IsClassMargin (w +ℤ x +ℤ y +ℤ z) = margin_size w x y z hw.low hx.low hy.low hz.low four.size in
-    record {
-      two = two.fits;
-      three = three.fits;
-      four = four.fits;
-      value = four.answer ∙ (λ i. hw.value i +ℤ hx.value i +ℤ hy.value i +ℤ hz.value i) ∙ parts_are p ss c;
-      size = subst IsClassMargin (sym four.answer) size;
-    }
+margin_size : (w x y z : ℤ) → IsWithin (84 * 10 ^ 14) w → IsWithin (84 * 10 ^ 14) x → IsWithin (14 * 10 ^ 14) y → IsWithin (10 ^ 14) z → IsClassMargin (w +ℤ x +ℤ y +ℤ z)
+margin_size w x y z hw hx hy hz = record {
+  low = omega (arith, ints, hw.low, hx.low, hy.low, hz.low);
+  size = omega (arith, ints, hw.size, hx.size, hy.size, hz.size);
+}
+
+pub sum_size : (m : MeasureMargins) (sum : ℤ) → sum ≡ measures_sum m → AreWithin m → IsClassMargin sum
+sum_size m sum is h = subst IsClassMargin (sym is) (margin_size m.delta.0 m.vega.0 m.curvature.0 m.base.0 h.delta h.vega h.curvature h.base)
+
+-- ---- it is the margin of the class
+
+pub measures_are : (p : Params) (fs : List (FactorKey × Holding)) (at : ClassAt) (m : MeasureMargins) → AreMeasures p fs at m → measures_sum m ≡ class_margin_of p (nets_in at.product fs) at.class
+measures_are p fs at m h = (λ i. h measure.Delta i +ℤ h measure.Vega i +ℤ h measure.Curvature i +ℤ h measure.BaseCorr i) ∙ parts_are p (nets_in at.product fs) at.class
+
+pub measures_of : (p : Params) (fs : List (FactorKey × Holding)) (at : ClassAt) (delta vega curvature base : Cents)
+    → delta.0 ≡ measure_at p fs at measure.Delta → vega.0 ≡ measure_at p fs at measure.Vega
+    → curvature.0 ≡ measure_at p fs at measure.Curvature → base.0 ≡ measure_at p fs at measure.BaseCorr
+    → AreMeasures p fs at (record { delta = delta; vega = vega; curvature = curvature; base = base })
+measures_of p fs at delta vega curvature base d v c b measure.Delta = d
+measures_of p fs at delta vega curvature base d v c b measure.Vega = v
+measures_of p fs at delta vega curvature base d v c b measure.Curvature = c
+measures_of p fs at delta vega curvature base d v c b measure.BaseCorr = b

@@ -1,26 +1,24 @@
 //! The margin of one risk class in a product class.
-ghost use Rattle.std.specs.Prelude.{◌≡◌, ◌+◌, ◌*◌, ◌^◌, ◌≤◌, List, IsSome, IsOk, IfOk, OnOk, pos, ◌≤ℤ◌};
+ghost use Rattle.std.specs.Prelude.{◌≡◌, ◌+◌, ◌≤◌, List, IsSome, IsOk, IfOk, OnOk};
 ghost use Rattle.kept_buckets.specs.SimmKinds.declared.key.FactorKey.{FactorKey};
 ghost use Rattle.kept_buckets.specs.SimmRules.Simm.{class_margin_of};
 ghost use Rattle.kept_buckets.specs.FactorBook.declared.holding.Holding.{Holding};
 ghost use Rattle.class_volatility.specs.NameDelta.Values.{nets_in};
 ghost use Rattle.class_combine.specs.Classes.{IsClassMargin};
 ghost use Rattle.class_volatility.specs.BookRange.Bounded.{IsMarginable};
-ghost use Rattle.class_volatility.specs.ClassDelta.Delta.{AreDeltaParts, AreBookDeltas};
 ghost use Rattle.kept_buckets.specs.Dirty.{steps_left};
 ghost use Rattle.kept_buckets.specs.Kept.{margin_at};
-ghost use Rattle.book_margin.specs.Classes.{base_of, AreClassParts, AreBookParts};
+ghost use Rattle.book_margin.specs.Classes.{AreClassParts, AreBookParts};
 ghost use Rattle.book_margin.specs.Right.{AreRight, IsMargin, IsWhole, Renews};
 
 use crate::buckets::{delta_parts, volatility_parts};
+use crate::measures::measures_from;
 use class_combine::simm_params::Params;
-use class_volatility::class_delta::{base_from, delta_from};
 use class_volatility::pair_sum::Steps;
-use class_volatility::{curvature_from, vega_from};
 use kept_buckets::KeptBuckets;
 use kept_buckets::factor_book::{ClassAt, Factors};
 use kept_buckets::mh_units::Cents;
-use kept_buckets::simm_kinds::{BucketId, RiskClass};
+use kept_buckets::simm_kinds::BucketId;
 use kept_buckets::simm_rules::BucketMargin;
 use std::alloc::{AllocError, Global};
 use std::sync::ledger::Ledger;
@@ -81,9 +79,7 @@ fn renewed_margin<L: Ledger>(
     )
 }
 
-// The margin of a class, in cents, over the values of its buckets: in delta those of all that have a factor on that side among
-// those of a book in range, base correlation's too; in vega and in curvature those of all that have a volatility; each in order.
-// Want of memory is the only error.
+// The margin of a class, in cents, over the values of its buckets, as `measures_from` takes them. Want of memory is the only error.
 fn class_from(
     alloc: Global,
     params: &Params,
@@ -97,27 +93,6 @@ fn class_from(
         → IfOk result (λ m. m.0 ≡ class_margin_of params.now (nets_in at.product factors) at.class) }
     ensures size { IfOk result (λ m. IsClassMargin m.0) }
 {
-    let delta = delta_from(alloc, params, at, deltas)?;
-    let vega = vega_from(alloc, params, at, vegas)?;
-    let curvature = curvature_from(alloc, params, at, curvatures)?;
-    let base = base_part(params, at, deltas);
-    Ok(Cents(delta.0 + vega.0 + curvature.0 + base.0))
-}
-
-// The part of base correlation, which is margined in credit that qualifies alone.
-fn base_part(params: &Params, at: ClassAt, parts: &[(BucketId, BucketMargin)]) -> Cents
-    requires { AreBookDeltas params.now at parts.now }
-    ensures value { (factors : List (FactorKey × Holding)) → IsMarginable params.now factors → AreDeltaParts params.now at factors parts.now
-        → result.0 ≡ base_of params.now (nets_in at.product factors) at.class }
-    ensures low { pos 0 ≤ℤ result.0 }
-    ensures size { result.0 ≤ℤ pos (10 ^ 14) }
-{
-    match at.class {
-        RiskClass::CreditQ => base_from(params, at, parts),
-        RiskClass::IR
-        | RiskClass::CreditNonQ
-        | RiskClass::Equity
-        | RiskClass::Commodity
-        | RiskClass::FX => Cents(0),
-    }
+    let measures = measures_from(alloc, params, at, deltas, vegas, curvatures)?;
+    Ok(measures.sum())
 }

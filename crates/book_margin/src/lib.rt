@@ -7,15 +7,19 @@
 mod bucket;
 mod buckets;
 mod class;
+mod kept_measures;
 mod laws;
 mod margin;
+mod measures;
 mod renewal;
 
+pub use kept_measures::measure_margins;
 pub use laws::{
     class_margin_hangs_on_its_factors, kept_values_are_from_scratch, nothing_is_right,
     touched_stays_right,
 };
-pub use margin::{margin_in_range, margin_over_kept};
+pub use margin::{KeptMargin, margin_in_range, margin_over_kept};
+pub use measures::MeasureMargins;
 pub use renewal::renew;
 
 // what the crates above reach through this one

@@ -174,7 +174,7 @@ module _ (sums : AddOnSums) (parameters : List CrifRow) where
   abbrev sizes : List ℕ → ℤ
   sizes = size_at sums.notionals
 
-  size_is : (held : List CrifRow) → sums ≡ sums_of held → (name : List ℕ) → sizes name ≡ notional_of held name
+  pub size_is : (held : List CrifRow) → sums ≡ sums_of held → (name : List ℕ) → sizes name ≡ notional_of held name
   size_is held are name = ap (λ (s : AddOnSums). size_at s.notionals name) are ∙ ap size_in (get-notionals held name) ∙ size_in-sum held name
 
   pub whole_is : (held : List CrifRow) → StandFor sums parameters held → total_by (share_in sizes) parameters ≡ notional_add_on held

@@ -2,8 +2,14 @@
 use Rattle.std.proofs.Common.{◌≡◌, ◌+◌, ◌*◌, ◌^◌, ◌≤◌, ℤ, pos, ◌+ℤ◌, ◌≤ℤ◌, ◌<ℤ◌, unsigned_abs, FitsSigned, ◌∙◌, subst, sym, refl, arith, lit≤}
 use Rattle.std.specs.Int.{w128}
 use Rattle.std.proofs.lemmas.Int.{ints}
+use Rattle.simm_params.specs.SimmKinds.declared.kinds.ProductClass.TheVariants as product
+use Rattle.simm_params.specs.SimmRules.declared.values.Breakdown.{Breakdown}
+use Rattle.class_combine.specs.declared.additional.AddOns.{AddOns}
+use Rattle.class_combine.specs.declared.multipliers.ProductAmounts.{ProductAmounts}
+use Rattle.class_combine.specs.declared.whole.ProductClasses.{ProductClasses}
 use Rattle.class_combine.specs.Classes.{IsProductMargin}
-use Rattle.class_combine.specs.Whole.{IsAddOn, IsTotal}
+use Rattle.class_combine.specs.Multipliers.{AreProductMargins}
+use Rattle.class_combine.specs.Whole.{IsAddOn, IsTotal, HasProductMargins, breakdown_of}
 use Rattle.class_combine.proofs.Products.{passed, plus, added}
 
 pub record TotalOf (a b c d f n m : ℤ) : Type 0 where
@@ -53,3 +59,14 @@ total_of a b c d f n m ma mb mc md mf mn mm =
   where
     below_of : (z : ℤ) → unsigned_abs z ≤ 48 * 10 ^ 16 + 9 * 10 ^ 20 → z <ℤ pos (10 ^ 21)
     below_of z h = omega (arith, ints, h)
+
+-- ---- the margins of the product classes in it
+
+pub has_margins : (c : ProductClasses) (m : ProductAmounts) (a : AddOns) (b : Breakdown) → b ≡ breakdown_of c m a → AreProductMargins m → HasProductMargins b
+has_margins c m a b is h = subst HasProductMargins (sym is) by
+  where
+    by : HasProductMargins (breakdown_of c m a)
+    by product.RatesFX = h product.RatesFX
+    by product.Credit = h product.Credit
+    by product.Equity = h product.Equity
+    by product.Commodity = h product.Commodity

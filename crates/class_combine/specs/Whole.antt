@@ -6,13 +6,13 @@ use Rattle.simm_params.specs.SimmKinds.declared.kinds.ProductClass.TheVariants a
 use Rattle.simm_params.specs.SimmRules.declared.values.ClassMargins.{ClassMargins}
 use Rattle.simm_params.specs.SimmRules.declared.values.Breakdown.{Breakdown}
 use Rattle.simm_params.specs.SimmRules.Params.{Params}
-use Rattle.simm_params.specs.SimmRules.Parts.{cents}
+use Rattle.simm_params.specs.SimmRules.Parts.{cents, product_part}
 use Rattle.simm_params.specs.SimmRules.Sums.{total_by}
 use Rattle.simm_params.specs.SimmRules.Simm.{products}
 use Rattle.class_combine.specs.declared.whole.ProductClasses.{ProductClasses}
 use Rattle.class_combine.specs.declared.additional.AddOns.{AddOns}
 use Rattle.class_combine.specs.declared.multipliers.ProductAmounts.{ProductAmounts}
-use Rattle.class_combine.specs.Classes.{joined_in, AreClassMargins}
+use Rattle.class_combine.specs.Classes.{joined_in, AreClassMargins, IsProductMargin}
 use Rattle.class_combine.specs.Multipliers.{amount_in}
 
 abbrev pub classes_in : ProductClasses → ProductClass → ClassMargins
@@ -60,3 +60,7 @@ pub record AreAddOns (a : AddOns) : Type 0 where
 pub record IsTotal (total : ℤ) : Type 0 where
   pub low : pos 0 ≤ℤ total
   pub below : total <ℤ pos (10 ^ 21)
+
+-- the margins of its product classes
+abbrev pub HasProductMargins : Breakdown → Type 0
+HasProductMargins b = (product : ProductClass) → IsProductMargin (product_part b product).margin.0

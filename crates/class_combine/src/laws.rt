@@ -4,6 +4,7 @@ ghost use Rattle.std.specs.List.{list_all};
 ghost use Rattle.simm_params.specs.SimmKinds.declared.row.CrifRow.{CrifRow as Row};
 ghost use Rattle.simm_params.specs.SimmKinds.Batch.{is_param};
 ghost use Rattle.simm_params.specs.SimmRules.AddOns.{fixed_amounts, notional_of};
+ghost use Rattle.class_combine.specs.Notionals.{size_at};
 ghost use Rattle.class_combine.specs.Sums.{count_of, sums_of, StandFor};
 
 /// Rows have their sums whatever their order: rows with the same fixed amounts, and with the same size and number of notionals
@@ -18,4 +19,9 @@ pub fn sums_ignore_order()
 pub fn parameters_stand_for_book()
     ensures { (before parameters after : List Row) → list_all (λ r. not (is_param r)) before ≡ true → list_all (λ r. not (is_param r)) after ≡ true
         → StandFor (sums_of (before ++ parameters ++ after)) parameters (before ++ parameters ++ after) }
+{}
+
+/// The size that the sums of rows have of a qualifier is that of its notionals among the rows. It does nothing.
+pub fn sizes_are_of_rows()
+    ensures { (held : List Row) (name : List ℕ) → size_at (sums_of held).notionals name ≡ notional_of held name }
 {}

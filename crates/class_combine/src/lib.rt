@@ -14,8 +14,9 @@ mod sums;
 mod whole;
 
 pub use additional::{AddOns, add_ons};
-pub use laws::{parameters_stand_for_book, sums_ignore_order};
-pub use multipliers::ProductAmounts;
+pub use laws::{parameters_stand_for_book, sizes_are_of_rows, sums_ignore_order};
+pub use multipliers::{ProductAmounts, multiplier_share};
+pub use notional::{NotionalShare, notional_share};
 pub use product::product_margin;
 pub use sums::AddOnSums;
 pub use whole::{ProductClasses, breakdown, product_margins};

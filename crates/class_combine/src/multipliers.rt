@@ -1,6 +1,7 @@
 //! The add-on of product class multipliers.
-ghost use Rattle.std.specs.Prelude.{◌≡◌, true, option_map};
+ghost use Rattle.std.specs.Prelude.{◌≡◌, true, option_map, pos, ◌-ℤ◌, ◌*ℤ◌};
 ghost use Rattle.std.specs.List.{list_all};
+ghost use Rattle.simm_params.specs.MhUnits.Rounding.{up};
 ghost use Rattle.simm_params.specs.SimmKinds.Batch.{is_in_range};
 ghost use Rattle.simm_params.specs.SimmRules.AddOns.{multiplied, multiplier_of};
 ghost use Rattle.class_combine.specs.Classes.{IsProductMargin};
@@ -44,7 +45,17 @@ fn multiplied(parameters: &[CrifRow], product: ProductClass, margin: Cents) -> C
     ensures value { result.0 ≡ multiplied parameters.now product margin.0 }
     ensures range { IsMultiplied result.0 }
 {
-    let over = i128::from(multiplier_of(parameters, product).0) - 10_000;
+    multiplier_share(multiplier_of(parameters, product), margin)
+}
+
+/// What a multiplier, in ten-thousandths and from 1 to 10, adds to the margin of its product class: in cents, upwards to the cent.
+pub fn multiplier_share(factor: Rate4, margin: Cents) -> Cents
+    requires factor { IsMultiplier factor.0 }
+    requires margin { IsProductMargin margin.0 }
+    ensures value { result.0 ≡ up ((factor.0 -ℤ pos 10000) *ℤ margin.0) (pos 10000) }
+    ensures range { IsMultiplied result.0 }
+{
+    let over = i128::from(factor.0) - 10_000;
     Cents(div_up(over * margin.0, 10_000))
 }
 

@@ -1,6 +1,6 @@
 ghost use Rattle.std.specs.Prelude.{◌≡◌};
 ghost use Rattle.class_combine.specs.Multipliers.{AreProductMargins};
-ghost use Rattle.class_combine.specs.Whole.{margins_of, breakdown_of, AreProductClasses, AreAddOns, IsTotal};
+ghost use Rattle.class_combine.specs.Whole.{margins_of, breakdown_of, AreProductClasses, AreAddOns, IsTotal, HasProductMargins};
 
 use crate::additional::AddOns;
 use crate::multipliers::ProductAmounts;
@@ -42,6 +42,7 @@ pub fn breakdown(classes: &ProductClasses, margins: &ProductAmounts, add_ons: &A
     requires add_ons { AreAddOns add_ons.now }
     ensures value { result ≡ breakdown_of classes.now margins.now add_ons.now }
     ensures total { IsTotal result.total.0 }
+    ensures margins { HasProductMargins result }
 {
     let products = margins.rates_fx.0 + margins.credit.0 + margins.equity.0 + margins.commodity.0;
     let total = products + add_ons.fixed.0 + add_ons.notional.0 + add_ons.multiplier.0;

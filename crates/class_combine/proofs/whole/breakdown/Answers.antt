@@ -4,7 +4,7 @@ use Rattle.simm_params.specs.SimmRules.declared.values.ProductMargin.{ProductMar
 use Rattle.simm_params.specs.SimmRules.declared.values.Breakdown.{Breakdown}
 use Rattle.simm_params.specs.SimmRules.Parts.{cents}
 use Rattle.class_combine.specs.declared.additional.AddOns.{AddOns}
-use Rattle.class_combine.proofs.Totals.{total_of}
+use Rattle.class_combine.proofs.Totals.{total_of, has_margins}
 use Rattle.class_combine.proofs.whole.breakdown.Goals as goal
 
 -- the breakdown as it is written out
@@ -88,3 +88,6 @@ returns-clause-total c =
     let are = c.requires.margins in
     (total_of m.rates_fx.0 m.credit.0 m.equity.0 m.commodity.0 o.fixed.0 o.notional.0 o.multiplier.0
     (are product.RatesFX) (are product.Credit) (are product.Equity) (are product.Commodity) c.requires.add_ons.fixed c.requires.add_ons.notional c.requires.add_ons.multiplier).total
+
+pub returns-clause-margins : goal.returns-clause-margins
+returns-clause-margins c = has_margins c.args.classes.now c.args.margins.now c.args.add_ons.now _ (returns-clause-value c) c.requires.margins
