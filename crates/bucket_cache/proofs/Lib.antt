@@ -14,3 +14,5 @@ pub mod AddOnOrder
 pub mod Keeping
 pub mod Standing
 pub mod Batches
+pub mod Replaced
+pub use Rattle.book_margin.proofs.ClassDelta as ClassDelta

@@ -52,7 +52,7 @@ where_measured : (t : Bool) (o : Option BucketMargin) → t ≡ true → IsSome 
 where_measured true o h some = some
 where_measured false o h some = absurd (false≢true h)
 
-part_none : (m : Measure) → part_in m None ≡ None
+pub part_none : (m : Measure) → part_in m None ≡ None
 part_none measure.Delta = refl
 part_none measure.Vega = refl
 part_none measure.Curvature = refl
@@ -112,6 +112,20 @@ module _ (p : Params) (factors : List (FactorKey × Holding)) (kept : Kept) (rig
       by None lies = refl
       by (Some its) lies = absurd (lies refl none)
 
+-- ---- where nothing is kept
+
+-- the first value stands at its own place
+first_value : (place : Place) (v : KeptValue) (values : List (Place × KeptValue)) → IsSome (lookup (is_at (place_cmp place)) ((place, v) ∷ values))
+first_value place v values = ap (λ b. is_some (cond b (Some v) (lookup (is_at (place_cmp place)) values))) (own_place place)
+
+pub none_kept : (kept : Kept) → ((place : Place) → IsSome (value_at kept place) → ⊥) → kept.values ≡ []
+none_kept kept none = by kept.values refl
+  where
+    by : (values : List (Place × KeptValue)) → kept.values ≡ values → values ≡ []
+    by [] e = refl
+    by (x ∷ values) e =
+        absurd (none x.0 (subst (λ (vs : List (Place × KeptValue)). IsSome (lookup (is_at (place_cmp x.0)) vs)) (sym e) (first_value x.0 x.1 values)))
+
 -- ---- of a book without rows
 
 module _ (p : Params) where
@@ -138,17 +152,8 @@ module _ (p : Params) where
       by side.Delta e = no_delta at (value_at kept (place_on side.Delta at)) (right.deltas at) (on side.Delta e)
       by side.Volatility e = no_volatility at (value_at kept (place_on side.Volatility at)) (right.volatilities at) (on side.Volatility e)
 
-  -- the first value stands at its own place
-  first_value : (place : Place) (v : KeptValue) (values : List (Place × KeptValue)) → IsSome (lookup (is_at (place_cmp place)) ((place, v) ∷ values))
-  first_value place v values = ap (λ b. is_some (cond b (Some v) (lookup (is_at (place_cmp place)) values))) (own_place place)
-
   pub no_values : (kept : Kept) → AreRight p [] kept → kept.values ≡ []
-  no_values kept right = by kept.values refl
-    where
-      by : (values : List (Place × KeptValue)) → kept.values ≡ values → values ≡ []
-      by [] e = refl
-      by (x ∷ values) e =
-          absurd (no_value kept right x.0 (subst (λ (vs : List (Place × KeptValue)). IsSome (lookup (is_at (place_cmp x.0)) vs)) (sym e) (first_value x.0 x.1 values)))
+  no_values kept right = none_kept kept (no_value kept right)
 
 -- ---- a row that lies at a place is a factor there
 

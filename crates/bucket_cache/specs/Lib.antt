@@ -5,6 +5,8 @@ pub mod Lent
 pub mod Sums
 pub mod Held
 pub mod Cached
+pub mod Figures
 pub use Rattle.book_margin.specs.SimmRules as SimmRules
 pub use Rattle.book_margin.specs.FactorBook as FactorBook
 pub use Rattle.book_margin.specs.KeptBuckets as KeptBuckets
+pub use Rattle.book_margin.specs as BookMargin

@@ -24,8 +24,8 @@ pub fn first_unadmitted(params: &Params, trades: &[TradeRows]) -> Option<RowPlac
     None
 }
 
-// The place, from 1, of the first row of a trade that isn't admitted.
-fn unadmitted_row(params: &Params, rows: &[CrifRow]) -> Option<u32>
+/// The place, from 1, of the first row of a trade that isn't admitted. It takes no memory.
+pub fn unadmitted_row(params: &Params, rows: &[CrifRow]) -> Option<u32>
     requires { length rows.now < 2 ^ 31 }
     ensures { result ≡ unadmitted_row params.now rows.now }
 {

@@ -1,4 +1,5 @@
-//! The live margin of a netting set: the current trades, changed a batch or a withdrawal at a time, and their margin.
+//! The live margin of a netting set: the current trades, changed a batch or a withdrawal at a time, and their margin by tables that
+//! can be replaced.
 #![tactic(auto)]
 
 mod admitting;
@@ -7,6 +8,7 @@ mod booking;
 mod changing;
 mod exchanging;
 mod fault;
+mod figures;
 mod held_rows;
 mod lending;
 mod lent;
@@ -14,12 +16,17 @@ mod live;
 mod margining;
 mod moving;
 mod place;
+mod replacing;
 mod sums;
 mod touching;
 
 pub use batch::batch_margin;
-pub use fault::{SubmitFault, WithdrawFault};
+pub use fault::{BookFault, WithdrawFault};
+pub use figures::{BatchFigures, batch_figures, batch_parameters};
 pub use live::LiveMargin;
 
 // what the crates above reach through this one
-pub use book_margin::{pair_sum, simm_params, simm_rules};
+pub use book_margin::{
+    MeasureMargins, class_combine, factor_book, kept_buckets, measure_margins, pair_sum,
+    simm_params, simm_rules,
+};

@@ -1,3 +1,5 @@
+mod tables;
+
 ghost use Rattle.std.specs.Prelude.{◌≡◌, ◌+◌, ◌^◌, ◌<◌, ◌≤◌, ◌++◌, [], length, map, None, Some, Err, IsOk, IfOk, IfSome, OnOk, OnErr, ℕ, pos, ◌≤ℤ◌, ◌<ℤ◌, true, false, is_some};
 ghost use Rattle.std.specs.Option.{option_copied};
 ghost use Rattle.book_margin.specs.SimmKinds.Batch.{rows_of};
@@ -16,7 +18,7 @@ ghost use Rattle.bucket_cache.specs.Live.{put_trades, without, named, rows_moved
 
 use crate::admitting::first_unadmitted;
 use crate::changing::{distinct_names, first_unknown, keep_others, put_all};
-use crate::fault::{SubmitFault, WithdrawFault};
+use crate::fault::{BookFault, WithdrawFault};
 use crate::held_rows::{HeldRows, hold_trades};
 use crate::lending::rows_in;
 use crate::margining::margin_of;
@@ -84,7 +86,7 @@ impl LiveMargin {
     /// `BucketUnknown` exactly where a row is not admitted, with the place of the first such row; then `Range` exactly
     /// where the book afterwards would be out of range, with the first quantity that is above its limit; and `Memory` for
     /// want of memory. Nothing changes then.
-    pub fn submit(&mut self, alloc: Global, batch: &Batch) -> Result<(), SubmitFault>
+    pub fn submit(&mut self, alloc: Global, batch: &Batch) -> Result<(), BookFault>
         ensures admitted { OnOk result (first_unadmitted self.old.params batch.now ≡ None) }
         ensures in_range { OnOk result (range self.old.params (rows_of (put_trades batch.now self.old.book)) ≡ None) }
         ensures params { OnOk result (self.new.params ≡ self.old.params) }
@@ -92,17 +94,17 @@ impl LiveMargin {
         ensures kept { OnOk result (Forgets (rows_moved batch.now self.old.book) self.old.kept self.new.kept) }
         ensures elsewhere { OnOk result (SameElsewhere (rows_moved batch.now self.old.book) (factors_of (rows_of self.old.book)) (factors_of (rows_of self.new.book))) }
         ensures stale { OnOk result (self.new.is_fresh ≡ false) }
-        ensures unadmitted { (trade row : ℕ) → result ≡ Err (SubmitFault.BucketUnknown trade row) →
+        ensures unadmitted { (trade row : ℕ) → result ≡ Err (BookFault.BucketUnknown trade row) →
             first_unadmitted self.old.params batch.now ≡ Some (record { trade = trade; row = row }) }
-        ensures range { (fault : Fault) → result ≡ Err (SubmitFault.Range fault) →
+        ensures range { (fault : Fault) → result ≡ Err (BookFault.Range fault) →
             range self.old.params (rows_of (put_trades batch.now self.old.book)) ≡ Some fault }
-        ensures range_of_admitted { (fault : Fault) → result ≡ Err (SubmitFault.Range fault) →
+        ensures range_of_admitted { (fault : Fault) → result ≡ Err (BookFault.Range fault) →
             first_unadmitted self.old.params batch.now ≡ None }
         ensures unchanged { OnErr result (self.new ≡ self.old) }
     {
         let trades = batch.trades();
         if let Some(at) = first_unadmitted(&self.params, trades) {
-            return Err(SubmitFault::BucketUnknown {
+            return Err(BookFault::BucketUnknown {
                 trade: at.trade,
                 row: at.row,
             });
@@ -118,7 +120,7 @@ impl LiveMargin {
             trades,
         )?;
         if let Some(fault) = fault {
-            return Err(SubmitFault::Range(fault));
+            return Err(BookFault::Range(fault));
         }
         put_all(&mut self.trades, held);
         self.last = None;
@@ -235,8 +237,8 @@ impl LiveMargin {
         self.kept.dirty_count(&self.sums.factors)
     }
 
-    /// Whether the margin of the book is known: no batch and no withdrawal was accepted since it was last answered, or since the
-    /// live margin was made.
+    /// Whether the margin of the book is known: no batch, no withdrawal and no replacement of tables was accepted since it was last
+    /// answered, or since the live margin was made.
     pub fn is_fresh(&self) -> bool
         ensures { result ≡ self.now.is_fresh }
     {

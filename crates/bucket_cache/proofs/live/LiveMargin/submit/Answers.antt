@@ -4,8 +4,8 @@ use Rattle.book_margin.specs.SimmRules.declared.values.RangeFault.{RangeFault}
 use Rattle.book_margin.specs.SimmRules.Range.{range}
 use Rattle.book_margin.specs.FactorBook.Factors.{factors_of}
 use Rattle.book_margin.specs.KeptBuckets.Touched.{Forgets, SameElsewhere}
-use Rattle.bucket_cache.specs.declared.fault.SubmitFault.{SubmitFault}
-use Rattle.bucket_cache.specs.declared.fault.SubmitFault.TheVariants as submit
+use Rattle.bucket_cache.specs.declared.fault.BookFault.{BookFault}
+use Rattle.bucket_cache.specs.declared.fault.BookFault.TheVariants as fault
 use Rattle.bucket_cache.specs.Live.{Live, put_trades, rows_moved}
 use Rattle.bucket_cache.specs.Entries.{trades_of}
 use Rattle.bucket_cache.proofs.Keeping.{on_some, on_none, seen_still, held_still, summed_still, held_after}
@@ -15,7 +15,7 @@ always : {T E : Type 0} (r : Result T E) (P : Type 0) → P → OnErr r P
 always (Ok x) P h = tt
 always (Err e) P h = h
 
-same_fault : {T : Type 0} (one other : RangeFault) → ◌≡◌ {A = Result T SubmitFault} (Err (submit.Range one)) (Err (submit.Range other)) → one ≡ other
+same_fault : {T : Type 0} (one other : RangeFault) → ◌≡◌ {A = Result T BookFault} (Err (fault.Range one)) (Err (fault.Range other)) → one ≡ other
 same_fault one other h = cc
 
 pub invariant_of-self : goal.invariant_of-self

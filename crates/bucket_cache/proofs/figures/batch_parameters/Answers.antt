@@ -3,7 +3,7 @@ use Rattle.std.proofs.lemmas.Bool.{eqb-false}
 use Rattle.std.proofs.lemmas.List.{drop_all}
 use Rattle.bucket_cache.specs.Live.{rows_in}
 use Rattle.bucket_cache.proofs.Batches.{nameless_here, nameless_later}
-use Rattle.bucket_cache.proofs.batch.parameters_in.Goals as goal
+use Rattle.bucket_cache.proofs.figures.batch_parameters.Goals as goal
 
 pub returns-then-is_empty : goal.returns-then-is_empty
 returns-then-is_empty c =
