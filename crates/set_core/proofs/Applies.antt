@@ -18,6 +18,7 @@ use Rattle.collateral_ledger.specs.declared.fault.LedgerFault.TheVariants as fau
 use Rattle.collateral_ledger.specs.Holdings.{Holdings}
 use Rattle.collateral_ledger.specs.Booked.{total, booked_of, settled, counted as counted_held}
 use Rattle.collateral_ledger.specs.Refusals.{put_refusal, is_lot_value, is_full as is_full_of}
+use Rattle.params_file.specs.Texts.{ParamText}
 use Rattle.set_core.specs.declared.event.Event.{Event}
 use Rattle.side_events.specs.declared.side_event.SideEvent.TheVariants as side
 use Rattle.set_core.specs.declared.event.Event.TheVariants as event
@@ -28,11 +29,12 @@ use Rattle.set_core.specs.declared.refusal.Refusal.TheVariants as refusal
 use Rattle.set_core.specs.Book.{Silent, word_of_event, is_accepted, trades_of_event, accepted_trades, starts, book, with_rows_after}
 use Rattle.set_core.specs.Lots.{lots, is_there}
 use Rattle.set_core.specs.Calls.{made, outstanding, is_outstanding, booked}
-use Rattle.set_core.specs.Answer.{first_unknown, if_admitted, if_known, if_put, if_taken, if_closed, if_calling_day, answer, IsLegal}
+use Rattle.set_core.specs.Tables.{tables_with, tables}
+use Rattle.set_core.specs.Answer.{first_unknown, if_admitted, if_known, if_put, if_taken, if_closed, if_calling_day, answer_by, answer, IsLegal}
 use Rattle.set_core.specs.Events.{IsEvent}
 use Rattle.set_core.specs.Room.{event_rows, journal_rows, is_full}
 use Rattle.set_core.specs.Ledger.{held_lot, holdings, holdings_after, ledger_reply}
-use Rattle.set_core.specs.Live.{Traded, live_reply, live_book, Does}
+use Rattle.set_core.specs.Live.{Traded, live_reply, live_book, live_params, Does}
 use Rattle.set_core.specs.Kept.{AreDifferent, IsKept}
 use Rattle.set_core.proofs.Words.{Log}
 use Rattle.set_core.proofs.Puts.{different-map, map-map}
@@ -40,6 +42,7 @@ use Rattle.set_core.proofs.Calls.{made_few}
 use Rattle.set_core.proofs.Ledgers.{IsNew, has_lot-held, holdings_are}
 use Rattle.set_core.proofs.Books.{in_book, starts_different, book-silent, book-withdrawn, book-submitted}
 use Rattle.set_core.proofs.Legal.{legal-push}
+use Rattle.set_core.proofs.Tables.{tables-push}
 use Rattle.set_core.proofs.Batches.{different_trades}
 
 book_different : (log : Log) → AreDifferent (starts [] log) → AreDifferent (book log)
@@ -76,11 +79,12 @@ close_answer false = refl
 booked_is : (t : Agreement) (log : Log) → booked_of (holdings t log) ≡ booked t log
 booked_is t log = ap (λ values. total values +ℤ total (map settled (outstanding log))) (map-map (held_lot t) counted_held (lots log))
 
-pub answer_is : (p : Params) (t : Agreement) (log : Log) (e : Event) → AreDifferent (starts [] log) → IsEvent e → live_reply (record { params = p; book = book log }) (holdings t log) e ≡ answer p t log e
+pub answer_is : (p : Params) (t : Agreement) (log : Log) (e : Event) → AreDifferent (starts [] log) → IsEvent e → live_reply (record { params = p; book = book log }) (holdings t log) e ≡ answer_by p t log e
 answer_is p t log (event.Submit batch) d is =
     ap (λ trades. if_admitted (first_unadmitted p batch) (range p (rows_of trades))) (sym (book-submitted log 0 batch (different_trades batch is) (book_different log d)))
 answer_is p t log (event.Withdraw names) d is =
     ap (λ test. if_known (option_map (λ i. i + 1) (position test names))) (fun_ext (λ name. ap not (in_book log name)))
+answer_is p t log (event.Tables text) d is = refl
 answer_is p t log (event.OnSide (side.PutLot lot class value currency)) d is = put_is t log lot class value
 answer_is p t log (event.OnSide (side.TakeLot lot)) d is = ap (λ there. ledger_reply (cond there None (Some fault.LotUnknown))) (has_lot-held t lot (lots log)) ∙ take_answer (is_there log lot)
 answer_is p t log (event.OnSide (side.MarkLot lot value)) d is =
@@ -95,10 +99,11 @@ put_new : (there : Bool) (rest : Reply) → is_accepted (cond there (reply.Refus
 put_new true rest h = absurd (true≢false (sym h))
 put_new false rest h = refl
 
-is_new : (p : Params) (t : Agreement) (log : Log) (e : Event) (r : Reply) → r ≡ answer p t log e → is_accepted r ≡ true → IsNew (lots log) e
+is_new : (p : Params) (t : Agreement) (log : Log) (e : Event) (r : Reply) → r ≡ answer_by p t log e → is_accepted r ≡ true → IsNew (lots log) e
 is_new p t log (event.OnSide (side.PutLot lot class value currency)) r h accepted = put_new (is_there log lot) _ (sym (ap is_accepted h) ∙ accepted)
 is_new p t log (event.Submit batch) r h accepted = tt
 is_new p t log (event.Withdraw names) r h accepted = tt
+is_new p t log (event.Tables text) r h accepted = tt
 is_new p t log (event.OnSide (side.TakeLot lot)) r h accepted = tt
 is_new p t log (event.OnSide (side.MarkLot lot value)) r h accepted = tt
 is_new p t log (event.OnSide (side.CloseCall number)) r h accepted = tt
@@ -113,10 +118,10 @@ is_settled reply.Accepted = true
 is_settled (reply.Refused _) = true
 is_settled _ = false
 
-submit_settled : (at : Option RowPlace) (f : Option RangeFault) → is_settled (if_admitted at f) ≡ true
-submit_settled None None = refl
-submit_settled None (Some f) = refl
-submit_settled (Some at) f = refl
+book_settled : (at : Option RowPlace) (f : Option RangeFault) → is_settled (if_admitted at f) ≡ true
+book_settled None None = refl
+book_settled None (Some f) = refl
+book_settled (Some at) f = refl
 
 known_settled : (place : Option ℕ) → is_settled (if_known place) ≡ true
 known_settled None = refl
@@ -146,10 +151,30 @@ withdraw_book log caller names (reply.Margin b) h = absurd (true≢false (sym h)
 withdraw_book log caller names (reply.Called note) h = absurd (true≢false (sym h))
 withdraw_book log caller names (reply.NoCall excess margin booked) h = absurd (true≢false (sym h))
 
-pub book_is : (log : Log) (caller : ℕ) (e : Event) (r : Reply) (p : Params) (t : Agreement) → AreDifferent (starts [] log) → IsEvent e → r ≡ answer p t log e → live_book (book log) e r ≡ book (log ++ entry caller e r ∷ [])
-book_is log caller (event.Submit batch) r p t d is h = submit_book log caller batch r d is (ap is_settled h ∙ submit_settled (first_unadmitted p batch) (range p (rows_of (book (log ++ entry 0 (event.Submit batch) reply.Accepted ∷ [])))))
+pub book_is : (log : Log) (caller : ℕ) (e : Event) (r : Reply) (p : Params) (t : Agreement) → AreDifferent (starts [] log) → IsEvent e → r ≡ answer_by p t log e → live_book (book log) e r ≡ book (log ++ entry caller e r ∷ [])
+book_is log caller (event.Submit batch) r p t d is h = submit_book log caller batch r d is (ap is_settled h ∙ book_settled (first_unadmitted p batch) (range p (rows_of (book (log ++ entry 0 (event.Submit batch) reply.Accepted ∷ [])))))
 book_is log caller (event.Withdraw names) r p t d is h = withdraw_book log caller names r (ap is_settled h ∙ known_settled (first_unknown log names))
+book_is log caller (event.Tables text) r p t d is h = other_book log caller (event.Tables text) r (λ name. refl) refl
 book_is log caller (event.OnSide e) r p t d is h = other_book log caller (event.OnSide e) r (λ name. refl) refl
+
+-- ---- its tables are the journal's
+
+same_tables : (q : Params) (accepted : Bool) → q ≡ cond accepted q q
+same_tables q true = refl
+same_tables q false = refl
+
+brought : (q : Params) (text : ParamText) (r : Reply) → is_settled r ≡ true → live_params q (event.Tables text) r ≡ cond (is_accepted r) text.params q
+brought q text reply.Accepted h = refl
+brought q text (reply.Refused why) h = refl
+brought q text (reply.Margin b) h = absurd (true≢false (sym h))
+brought q text (reply.Called note) h = absurd (true≢false (sym h))
+brought q text (reply.NoCall excess margin booked) h = absurd (true≢false (sym h))
+
+pub tables_are : (q : Params) (t : Agreement) (log : Log) (caller : ℕ) (e : Event) (r : Reply) → r ≡ answer_by q t log e → live_params q e r ≡ tables_with q (entry caller e r)
+tables_are q t log caller (event.Submit batch) r h = same_tables q (is_accepted r)
+tables_are q t log caller (event.Withdraw names) r h = same_tables q (is_accepted r)
+tables_are q t log caller (event.Tables text) r h = brought q text r (ap is_settled h ∙ book_settled (first_unadmitted text.params (book log)) (range text.params (rows_of (book log))))
+tables_are q t log caller (event.OnSide e) r h = same_tables q (is_accepted r)
 
 -- ---- all of it
 
@@ -164,44 +189,45 @@ accepted_different e r caller is = at (is_accepted r) (of_event e is)
     at true d = d
     at false d = tt
 
-pub record Applied (l new : Traded) (h has : Holdings) (count caller : ℕ) (log : Log) (e : Event) (r : Reply) : Type 0 where
-  pub kept : IsKept new has (count + event_rows e) (log ++ entry caller e r ∷ [])
-  pub params : new.params ≡ l.params
+pub record Applied (p : Params) (new : Traded) (h has : Holdings) (count caller : ℕ) (log : Log) (e : Event) (r : Reply) : Type 0 where
+  pub kept : IsKept p new has (count + event_rows e) (log ++ entry caller e r ∷ [])
   pub terms : has.terms ≡ h.terms
-  pub value : r ≡ answer l.params h.terms log e
+  pub value : r ≡ answer p h.terms log e
 
-pub applied : (l new : Traded) (h has : Holdings) (count caller : ℕ) (log : Log) (e : Event) (r : Reply) → IsKept l h count log → is_full log e ≡ false → IsEvent e → Does l new h has e r → Applied l new h has count caller log e r
-applied l new h has count caller log e r kept room is does =
+pub applied : (p : Params) (l new : Traded) (h has : Holdings) (count caller : ℕ) (log : Log) (e : Event) (r : Reply) → IsKept p l h count log → is_full log e ≡ false → IsEvent e → Does l new h has e r → Applied p new h has count caller log e r
+applied p l new h has count caller log e r kept room is does =
+    let q : Params = tables p log in
     let longer : Log = log ++ entry caller e r ∷ [] in
     let room : (nat_le 65535 (length log) ≡ false) × (nat_lt 500000 (journal_rows log + event_rows e) ≡ false) = or_parts (nat_le 65535 (length log)) (nat_lt 500000 (journal_rows log + event_rows e)) room in
     let few : length log < 65535 = leb-false 65535 (length log) room.0 in
     let light : journal_rows log + event_rows e ≤ 500000 = ltb-false 500000 (journal_rows log + event_rows e) room.1 in
-    let same : l ≡ record { params = l.params; book = book log } = ap (λ b. record { params = l.params; book = b }) kept.book in
-    let value : r ≡ answer l.params h.terms log e =
-    does.value ∙ ap (λ m. live_reply m h e) same ∙ ap (λ held. live_reply (record { params = l.params; book = book log }) held e) kept.ledger
-    ∙ answer_is l.params h.terms log e kept.different is in
-    let params : new.params ≡ l.params = ap (λ m. m.params) does.live in
+    let same : l ≡ record { params = q; book = book log } = λ i. record { params = kept.tables i; book = kept.book i } in
+    let value : r ≡ answer p h.terms log e =
+    does.value ∙ ap (λ m. live_reply m h e) same ∙ ap (λ held. live_reply (record { params = q; book = book log }) held e) kept.ledger
+    ∙ answer_is q h.terms log e kept.different is in
     let terms : has.terms ≡ h.terms = ap (λ held. held.terms) does.ledger in
     let ledger : has ≡ holdings h.terms longer =
-    does.ledger ∙ ap (λ held. holdings_after held e r) kept.ledger ∙ holdings_are h.terms log caller e r (is_new l.params h.terms log e r value) in
+    does.ledger ∙ ap (λ held. holdings_after held e r) kept.ledger ∙ holdings_are h.terms log caller e r (is_new q h.terms log e r value) in
     let rows : journal_rows longer ≡ journal_rows log + event_rows e = sum_by-append (λ x. event_rows x.event) log (entry caller e r ∷ []) ∙ omega arith in
     record {
       kept = record {
         set = record {
           few = omega (arith, few, length-append log (entry caller e r ∷ []));
           light = omega (arith, light, rows);
-          legal = subst (λ p. IsLegal p has.terms longer) (sym params) (subst (λ t. IsLegal l.params t longer) (sym terms) (legal-push l.params h.terms log (entry caller e r) kept.set.legal value));
+          legal = subst (λ t. IsLegal p t longer) (sym terms) (legal-push p h.terms log (entry caller e r) kept.set.legal value);
         };
-        book = ap (λ m. m.book) does.live ∙ ap (λ b. live_book b e r) kept.book ∙ book_is log caller e r l.params h.terms kept.different is value;
+        tables =
+            ap (λ m. m.params) does.live ∙ ap (λ params. live_params params e r) kept.tables ∙ tables_are q h.terms log caller e r value
+            ∙ sym (tables-push p log (entry caller e r));
+        book = ap (λ m. m.book) does.live ∙ ap (λ b. live_book b e r) kept.book ∙ book_is log caller e r q h.terms kept.different is value;
         ledger = ledger ∙ ap (λ t. holdings t longer) (sym terms);
         rows = omega (arith, kept.rows, rows);
         different = starts_different log (entry caller e r) (accepted_different e r caller is) kept.different;
       };
-      params = params;
       terms = terms;
       value = value;
     }
 
 -- no more calls were added than the journal has entries
-pub few_calls : (l : Traded) (h : Holdings) (count : ℕ) (log : Log) → IsKept l h count log → h.added ≤ 65535
-few_calls l h count log kept = omega (arith, ap (λ held. held.added) kept.ledger, made_few log, kept.set.few)
+pub few_calls : (p : Params) (l : Traded) (h : Holdings) (count : ℕ) (log : Log) → IsKept p l h count log → h.added ≤ 65535
+few_calls p l h count log kept = omega (arith, ap (λ held. held.added) kept.ledger, made_few log, kept.set.few)

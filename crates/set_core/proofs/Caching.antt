@@ -1,29 +1,37 @@
 -- What a live margin has kept, after one event more.
-use Rattle.std.proofs.Common.{◌≡◌, ℕ, List, [], ◌∷◌, ◌++◌, Bool, true, false, ◌&&◌, not, Option, Some, None, Result, Ok, Err, IfOk, OnOk, OnErr, refl, sym, ap, ◌∙◌, subst, append_assoc, append-nil}
+use Rattle.std.proofs.Common.{◌≡◌, ℕ, List, [], ◌∷◌, ◌++◌, Bool, true, false, ◌&&◌, not, is_some, Option, Some, None, Result, Ok, Err, IfOk, OnOk, OnErr, refl, sym, ap, ◌∙◌, subst, append_assoc, append-nil}
 use Rattle.std.proofs.lemmas.Bool.{and_parts, false≢true, true≢false}
 use Rattle.std.specs.declared.alloc.AllocError.{AllocError}
+use Rattle.collateral_ledger.specs.SimmKinds.declared.kinds.Measure.{Measure}
+use Rattle.collateral_ledger.specs.SimmKinds.declared.row.CrifRow.{CrifRow}
 use Rattle.collateral_ledger.specs.SimmKinds.declared.row.TradeRows.{TradeRows}
 use Rattle.collateral_ledger.specs.SimmKinds.Batch.{rows_of}
 use Rattle.bucket_cache.specs.SimmRules.declared.values.Breakdown.{Breakdown}
+use Rattle.bucket_cache.specs.SimmRules.Params.{Params}
 use Rattle.collateral_ledger.specs.CsaTerms.Terms.{Agreement}
 use Rattle.bucket_cache.specs.FactorBook.Factors.{factors_of}
 use Rattle.bucket_cache.specs.FactorBook.Places.{factors_at}
+use Rattle.bucket_cache.specs.FactorBook.declared.at.BucketAt.{BucketAt}
+use Rattle.bucket_cache.specs.FactorBook.declared.place.Place.{Place}
+use Rattle.bucket_cache.specs.KeptBuckets.declared.value.KeptValue.{KeptValue}
 use Rattle.bucket_cache.specs.KeptBuckets.Cached.{is_measured, place_in}
 use Rattle.bucket_cache.specs.KeptBuckets.Touched.{Forgets, SameElsewhere}
 use Rattle.bucket_cache.specs.Cached.{touches, is_cached, IsCached}
 use Rattle.bucket_cache.specs.Live.{Live}
-use Rattle.bucket_cache.proofs.Standing.{elsewhere_cached, cached_untouched}
+use Rattle.bucket_cache.proofs.Standing.{elsewhere_cached, cached_untouched, part_none}
 use Rattle.collateral_ledger.specs.declared.fault.LedgerFault.{LedgerFault}
 use Rattle.collateral_ledger.specs.Holdings.{Holdings}
 use Rattle.held_cell.specs.declared.entry.Entry.{Entry}
 use Rattle.held_cell.specs.Entries.{entry}
+use Rattle.params_file.specs.Texts.{ParamText}
 use Rattle.set_core.specs.declared.event.Event.{Event}
+use Rattle.set_core.specs.declared.event.Event.TheVariants as event
 use Rattle.set_core.specs.declared.reply.Reply.{Reply}
 use Rattle.set_core.specs.declared.reply.Reply.TheVariants as reply
 use Rattle.set_core.specs.declared.refusal.Refusal.{Refusal}
 use Rattle.set_core.specs.Book.{book}
 use Rattle.set_core.specs.Set.{Set, KeepsMore}
-use Rattle.set_core.specs.Cached.{rows_moved_by, moves_trades, is_kept, is_known, known_after, is_margin_known, is_value_known, AreCached}
+use Rattle.set_core.specs.Cached.{touched_by, touches_margin, is_kept, is_known, known_after, is_margin_known, is_value_known, AreCached}
 use Rattle.set_core.specs.Ledger.{refusal_of, if_allowed, ledger_reply}
 use Rattle.set_core.specs.Live.{Traded, traded, live_reply, Does, IsWorkedOut, StaysKept, Carries, IfAsked, Caches}
 use Rattle.set_core.proofs.Applies.{is_settled}
@@ -51,10 +59,10 @@ if_asked (reply.NoCall excess margin booked) P h = h
 
 pub caches_all : (old new : Live) (e : Event) (r : Reply) → is_settled r ≡ false → traded new ≡ traded old → IsWorkedOut new → StaysKept old new → Caches old new e r
 caches_all old new e r asked same out stays = record {
-  fresh = out.fresh ∙ sym (asked_is old.is_fresh (moves_trades e) true r asked);
+  fresh = out.fresh ∙ sym (asked_is old.is_fresh (touches_margin e) true r asked);
   cached = λ at measure.
       out.cached at measure ∙ ap (λ (l : Traded). touches at measure (rows_of l.book)) same
-      ∙ sym (asked_is (is_cached old.kept.values at measure) (touches at measure (rows_moved_by old.book e)) (touches at measure (rows_of old.book)) r asked);
+      ∙ sym (asked_is (is_cached old.kept.values at measure) (touched_by at measure old.book e) (touches at measure (rows_of old.book)) r asked);
   kept = λ at measure was h known. out.kept at measure;
   asked = if_asked r (StaysKept old new) stays;
 }
@@ -86,15 +94,26 @@ and_true true = refl
 and_true false = refl
 
 -- rows are moved
-pub caches_moved : (old new : Live) (e : Event) → moves_trades e ≡ true → new.is_fresh ≡ false → Forgets (rows_moved_by old.book e) old.kept new.kept
-    → SameElsewhere (rows_moved_by old.book e) (factors_of (rows_of old.book)) (factors_of (rows_of new.book)) → Caches old new e reply.Accepted
-caches_moved old new e moves stale forgets same = record {
+pub caches_moved : (old new : Live) (e : Event) (rows : List CrifRow) → touches_margin e ≡ true → ((at : BucketAt) (measure : Measure) → touched_by at measure old.book e ≡ touches at measure rows)
+    → new.is_fresh ≡ false → Forgets rows old.kept new.kept → SameElsewhere rows (factors_of (rows_of old.book)) (factors_of (rows_of new.book)) → Caches old new e reply.Accepted
+caches_moved old new e rows moves touched stale forgets same = record {
   fresh = stale ∙ sym (ap (λ b. old.is_fresh && not b) moves ∙ and_false old.is_fresh);
-  cached = cached_untouched (rows_moved_by old.book e) old.kept new.kept forgets;
+  cached = λ at measure. cached_untouched rows old.kept new.kept forgets at measure ∙ ap (λ b. is_cached old.kept.values at measure && not b) (sym (touched at measure));
   kept = λ at measure was h known.
-      let touched = touches at measure (rows_moved_by old.book e) in
-      let parts = and_parts was (not touched) known in
-      elsewhere_cached old new (rows_moved_by old.book e) forgets same at measure (untouched touched parts.1) (h parts.0);
+      let parts = and_parts was (not (touched_by at measure old.book e)) known in
+      elsewhere_cached old new rows forgets same at measure (sym (touched at measure) ∙ untouched (touched_by at measure old.book e) parts.1) (h parts.0);
+  asked = tt;
+}
+
+none_cached : (at : BucketAt) (measure : Measure) → is_cached [] at measure ≡ false
+none_cached at measure = ap (λ o. is_measured at measure && is_some o) (part_none measure) ∙ and_false (is_measured at measure)
+
+-- tables are replaced
+pub caches_none : (old new : Live) (text : ParamText) → new.is_fresh ≡ false → new.kept.values ≡ [] → Caches old new (event.Tables text) reply.Accepted
+caches_none old new text stale none = record {
+  fresh = stale ∙ sym (and_false old.is_fresh);
+  cached = λ at measure. ap (λ (values : List (Place × KeptValue)). is_cached values at measure) none ∙ none_cached at measure ∙ sym (and_false (is_cached old.kept.values at measure));
+  kept = λ at measure was h known. absurd (false≢true (sym (and_false was) ∙ known));
   asked = tt;
 }
 
@@ -128,18 +147,17 @@ pub ledger_settled : (fault : Option LedgerFault) → is_settled (ledger_reply f
 ledger_settled None = refl
 ledger_settled (Some f) = allowed_settled (refusal_of f)
 
--- an event that moves no trades
-pub caches_beside : (old new : Holdings) (live : Live) (e : Event) (result : Result Reply AllocError) → moves_trades e ≡ false → rows_moved_by live.book e ≡ []
+-- an event beside the trades
+pub caches_beside : (old new : Holdings) (live : Live) (e : Event) (result : Result Reply AllocError) → touches_margin e ≡ false → ((at : BucketAt) (measure : Measure) → touched_by at measure live.book e ≡ false)
     → is_settled (live_reply (traded live) old e) ≡ true → IfOk result (λ r. (m : Traded) → Does m m old new e r) → IfOk result (Caches live live e)
 caches_beside old new live e (Err _) idle none settled is = tt
 caches_beside old new live e (Ok r) idle none settled is =
     let so : is_settled r ≡ true = ap is_settled (is (traded live)).value ∙ settled in
     record {
-      fresh = left live.is_fresh (moves_trades e) true r so idle;
+      fresh = left live.is_fresh (touches_margin e) true r so idle;
       cached = λ at measure.
-          left (is_cached live.kept.values at measure) (touches at measure (rows_moved_by live.book e)) (touches at measure (rows_of live.book)) r so
-          (ap (touches at measure) none ∙ and_false (is_measured at measure));
-      kept = λ at measure. carries (IsCached at measure) (touches at measure (rows_moved_by live.book e)) live r so;
+          left (is_cached live.kept.values at measure) (touched_by at measure live.book e) (touches at measure (rows_of live.book)) r so (none at measure);
+      kept = λ at measure. carries (IsCached at measure) (touched_by at measure live.book e) live r so;
       asked = unless_asked r (StaysKept live live) so;
     }
 
@@ -148,6 +166,10 @@ caches_beside old new live e (Ok r) idle none settled is =
 pub both_so : {T E : Type 0} (result : Result T E) (P Q R : Type 0) → OnOk result P → OnOk result Q → (P → Q → R) → OnOk result R
 both_so (Ok x) P Q R p q h = h p q
 both_so (Err e) P Q R p q h = tt
+
+pub three_so : {T E : Type 0} (result : Result T E) (P Q R S : Type 0) → OnOk result P → OnOk result Q → OnOk result R → (P → Q → R → S) → OnOk result S
+three_so (Ok x) P Q R S p q r h = h p q r
+three_so (Err e) P Q R S p q r h = tt
 
 pub either_so : {T E : Type 0} (result : Result T E) (P Q R : Type 0) → OnOk result P → OnErr result Q → (P → R) → (Q → R) → R
 either_so (Ok x) P Q R p q ok err = ok p
@@ -177,11 +199,11 @@ pub cached_next : (old new : Live) (caller : ℕ) (log : Log) (e : Event) (r : R
 cached_next old new caller log e r same cached caches = record {
   fresh = λ known.
       caches.fresh
-      ∙ known_from (is_margin_known log) old.is_fresh (moves_trades e) r cached.fresh (sym (known_push (λ trades event. moves_trades event) true [] log (entry caller e r)) ∙ known);
+      ∙ known_from (is_margin_known log) old.is_fresh (touches_margin e) r cached.fresh (sym (known_push (λ trades event. touches_margin event) true [] log (entry caller e r)) ∙ known);
   kept = λ at measure known.
       caches.kept at measure (is_value_known at measure log) (cached.kept at measure)
-      (ap (λ trades. is_known (is_value_known at measure log) (touches at measure (rows_moved_by trades e)) r) same
-      ∙ sym (known_push (λ trades event. touches at measure (rows_moved_by trades event)) true [] log (entry caller e r)) ∙ known);
+      (ap (λ trades. is_known (is_value_known at measure log) (touched_by at measure trades e) r) same
+      ∙ sym (known_push (touched_by at measure) true [] log (entry caller e r)) ∙ known);
 }
 
 pub cached_still : (old new : Live) (log : Log) → AreCached old log → StaysKept old new → AreCached new log
@@ -195,13 +217,13 @@ cached_none live none fresh = record {
 
 -- ---- a set
 
-abbrev pub seen : Live → Agreement → Log → ℕ → Set
-seen live t log spare = record { params = live.params; terms = t; journal = log; is_fresh = live.is_fresh; kept = live.kept.values; spare = spare }
+abbrev pub seen : Params → Live → Agreement → Log → ℕ → Set
+seen p live t log spare = record { params = p; terms = t; journal = log; is_fresh = live.is_fresh; kept = live.kept.values; spare = spare }
 
-pub keeps_more : (old : Set) (was new : Live) (t u : Agreement) (log longer : Log) (spare : ℕ) → seen was t log spare ≡ old → traded new ≡ traded was → u ≡ t → longer ≡ log → StaysKept was new → KeepsMore old (seen new u longer spare)
-keeps_more old was new t u log longer spare is same terms journal stays =
-    subst (λ (s : Set). KeepsMore s (seen new u longer spare)) is (record {
-      stands = λ i. record { params = (same i).params; terms = terms i; journal = journal i; is_fresh = new.is_fresh; kept = new.kept.values; spare = spare };
+pub keeps_more : (old : Set) (p : Params) (was new : Live) (t u : Agreement) (log longer : Log) (spare : ℕ) → seen p was t log spare ≡ old → u ≡ t → longer ≡ log → StaysKept was new → KeepsMore old (seen p new u longer spare)
+keeps_more old p was new t u log longer spare is terms journal stays =
+    subst (λ (s : Set). KeepsMore s (seen p new u longer spare)) is (record {
+      stands = λ i. record { params = p; terms = terms i; journal = journal i; is_fresh = new.is_fresh; kept = new.kept.values; spare = spare };
       fresh = stays.fresh;
       cached = stays.cached;
     })

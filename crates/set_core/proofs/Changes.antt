@@ -2,6 +2,7 @@
 use Rattle.std.proofs.Common.{◌≡◌, List, Option, None, Some, is_some, Result, Ok, Err, OnOk, OnErr, IfOk, MatchResult, sym, ap, ◌∙◌}
 use Rattle.std.proofs.lemmas.Bool.{true≢false}
 use Rattle.std.specs.declared.alloc.AllocError.{AllocError}
+use Rattle.bucket_cache.specs.SimmRules.Params.{Params}
 use Rattle.bucket_cache.specs.Live.{Live}
 use Rattle.collateral_ledger.specs.declared.fault.LedgerFault.{LedgerFault}
 use Rattle.collateral_ledger.specs.declared.fault.LedgerFault.TheVariants as fault
@@ -13,26 +14,26 @@ use Rattle.set_core.specs.declared.reply.Reply.{Reply}
 use Rattle.set_core.specs.declared.reply.Reply.TheVariants as reply
 use Rattle.set_core.specs.declared.refusal.Refusal.{Refusal}
 use Rattle.set_core.specs.Ledger.{Replies, refusal_of, if_allowed, ledger_reply, holdings_after}
-use Rattle.set_core.specs.Live.{Traded, traded, live_reply, live_book, Does}
+use Rattle.set_core.specs.Live.{Traded, traded, live_reply, live_book, live_params, Does}
 
 -- A change of a ledger, which is made or has its cause to refuse, does the event whose reply it has.
 pub change_does : (Cause : LedgerFault → Type 0) (old new after : Holdings) (refusal : Option LedgerFault) (e : Event)
     → ((f : LedgerFault) (why : Refusal) → refusal_of f ≡ Some why → Cause f → refusal ≡ Some f)
     → ((l : Traded) → live_reply l old e ≡ ledger_reply refusal)
-    → ((l : Traded) (r : Reply) → l ≡ record l { book = live_book l.book e r })
+    → ((l : Traded) (r : Reply) → l ≡ record { params = live_params l.params e r; book = live_book l.book e r })
     → after ≡ holdings_after old e reply.Accepted
     → ((why : Refusal) → old ≡ holdings_after old e (reply.Refused why))
     → (change : Result (Unit {0}) LedgerFault) → MatchResult change (λ _. refusal ≡ None) Cause → OnOk change (new ≡ after) → OnErr change (new ≡ old)
     → (result : Result Reply AllocError) → IfOk result (λ r. Replies change r) → IfOk result (λ r. (l : Traded) → Does l l old new e r)
-change_does Cause old new after refusal e cause value book made refused change answer ok err (Err _) is = tt
-change_does Cause old new after refusal e cause value book made refused (Ok _) answer ok err (Ok r) is = λ l. record {
+change_does Cause old new after refusal e cause value trades made refused change answer ok err (Err _) is = tt
+change_does Cause old new after refusal e cause value trades made refused (Ok _) answer ok err (Ok r) is = λ l. record {
   value = is ∙ ap ledger_reply (sym answer) ∙ sym (value l);
-  live = book l r;
+  live = trades l r;
   ledger = ok ∙ made ∙ ap (holdings_after old e) (sym is);
 }
-change_does Cause old new after refusal e cause value book made refused (Err f) answer ok err (Ok r) is = λ l. record {
+change_does Cause old new after refusal e cause value trades made refused (Err f) answer ok err (Ok r) is = λ l. record {
   value = is.2 ∙ ap if_allowed (sym is.1) ∙ ap ledger_reply (sym (cause f is.0 is.1 answer)) ∙ sym (value l);
-  live = book l r;
+  live = trades l r;
   ledger = err ∙ refused is.0 ∙ ap (holdings_after old e) (sym is.2);
 }
 
@@ -60,3 +61,7 @@ same_trades new old params book = λ i. record { params = params i; book = book 
 -- of the same parameters, and another book
 pub other_trades : (new old : Live) (trades : List TradeRows) → new.params ≡ old.params → new.book ≡ trades → traded new ≡ record (traded old) { book = trades }
 other_trades new old trades params book = λ i. record { params = params i; book = book i }
+
+-- of other parameters, and the same book
+pub other_tables : (new old : Live) (params : Params) → new.params ≡ params → new.book ≡ old.book → traded new ≡ record (traded old) { params = params }
+other_tables new old params is book = λ i. record { params = is i; book = book i }

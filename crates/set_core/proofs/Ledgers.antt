@@ -93,6 +93,7 @@ lots_at t ls (event.OnSide (side.MarkLot lot value)) r false h new =
     ∙ ap (λ accepted. cond accepted (with_value lot value (map (held_lot t) ls)) (map (held_lot t) ls)) (sym h)
 lots_at t ls (event.Submit trades) r accepted h new = nothing_put t ls (event.Submit trades) (λ a. others_same (event.Submit trades) (λ name. refl) (λ name value. refl) a ls) refl (is_accepted r)
 lots_at t ls (event.Withdraw names) r accepted h new = nothing_put t ls (event.Withdraw names) (λ a. others_same (event.Withdraw names) (λ name. refl) (λ name value. refl) a ls) refl (is_accepted r)
+lots_at t ls (event.Tables text) r accepted h new = nothing_put t ls (event.Tables text) (λ a. others_same (event.Tables text) (λ name. refl) (λ name value. refl) a ls) refl (is_accepted r)
 lots_at t ls (event.OnSide (side.CloseCall number)) r accepted h new = nothing_put t ls (event.OnSide (side.CloseCall number)) (λ a. others_same (event.OnSide (side.CloseCall number)) (λ name. refl) (λ name value. refl) a ls) refl (is_accepted r)
 lots_at t ls (event.OnSide side.AskMargin) r accepted h new = nothing_put t ls (event.OnSide side.AskMargin) (λ a. others_same (event.OnSide side.AskMargin) (λ name. refl) (λ name value. refl) a ls) refl (is_accepted r)
 lots_at t ls (event.OnSide (side.AskCall moment)) r accepted h new = nothing_put t ls (event.OnSide (side.AskCall moment)) (λ a. others_same (event.OnSide (side.AskCall moment)) (λ name. refl) (λ name value. refl) a ls) refl (is_accepted r)
@@ -112,6 +113,7 @@ closed_at cs (event.OnSide (side.CloseCall number)) r = at (is_accepted r)
     at false = refused_open (event.OnSide (side.CloseCall number)) cs
 closed_at cs (event.Submit trades) r = others_open (event.Submit trades) (λ number. refl) (is_accepted r) cs
 closed_at cs (event.Withdraw names) r = others_open (event.Withdraw names) (λ number. refl) (is_accepted r) cs
+closed_at cs (event.Tables text) r = others_open (event.Tables text) (λ number. refl) (is_accepted r) cs
 closed_at cs (event.OnSide (side.PutLot lot class value currency)) r = others_open (event.OnSide (side.PutLot lot class value currency)) (λ number. refl) (is_accepted r) cs
 closed_at cs (event.OnSide (side.TakeLot lot)) r = others_open (event.OnSide (side.TakeLot lot)) (λ number. refl) (is_accepted r) cs
 closed_at cs (event.OnSide (side.MarkLot lot value)) r = others_open (event.OnSide (side.MarkLot lot value)) (λ number. refl) (is_accepted r) cs

@@ -2,6 +2,7 @@ pub mod Filters
 pub mod Start
 pub mod Names
 pub mod Words
+pub mod Tables
 pub mod Puts
 pub mod Lots
 pub mod Calls
@@ -13,5 +14,6 @@ pub mod Changes
 pub mod Demands
 pub mod Applies
 pub mod Caching
+pub mod BookReplies
 pub mod Steps
 pub use Rattle.held_cell.proofs as HeldCell

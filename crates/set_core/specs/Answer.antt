@@ -26,6 +26,7 @@ use Rattle.set_core.specs.declared.reply.Reply.{Reply}
 use Rattle.set_core.specs.declared.reply.Reply.TheVariants as reply
 use Rattle.set_core.specs.declared.refusal.Refusal.TheVariants as refusal
 use Rattle.set_core.specs.Book.{is_current, book}
+use Rattle.set_core.specs.Tables.{tables}
 use Rattle.set_core.specs.Lots.{lots, is_there}
 use Rattle.set_core.specs.Calls.{made, is_outstanding, booked}
 
@@ -103,23 +104,29 @@ if_calling_day t made margin booked moment =
 
 -- ---- all events
 
--- lots and calls as above; a margin is that of the written rule, and a call is made of it and of what is booked
+-- lots and calls as above; a margin is that of the written rule by the tables q, and a call is made of it and of what is booked
 abbrev pub answer_side : Params → Agreement → List (Entry Event Reply) → SideEvent → Reply
-answer_side p t log (side.PutLot lot class value currency) = if_put t log lot class value
-answer_side p t log (side.TakeLot lot) = if_taken (is_there log lot)
-answer_side p t log (side.MarkLot lot value) = if_marked (is_there log lot) value
-answer_side p t log (side.CloseCall number) = if_closed (is_outstanding log number)
-answer_side p t log side.AskMargin = reply.Margin (simm p (rows_of (book log)))
-answer_side p t log (side.AskCall moment) =
-    if_calling_day t (made log) (simm p (rows_of (book log))).total.0 (booked t log) moment
+answer_side q t log (side.PutLot lot class value currency) = if_put t log lot class value
+answer_side q t log (side.TakeLot lot) = if_taken (is_there log lot)
+answer_side q t log (side.MarkLot lot value) = if_marked (is_there log lot) value
+answer_side q t log (side.CloseCall number) = if_closed (is_outstanding log number)
+answer_side q t log side.AskMargin = reply.Margin (simm q (rows_of (book log)))
+answer_side q t log (side.AskCall moment) =
+    if_calling_day t (made log) (simm q (rows_of (book log))).total.0 (booked t log) moment
 
--- A submit is refused where a row isn't admitted, and then where the book with it is out of range; a withdrawal where a name isn't
--- current.
+-- By the tables q: a submit is refused where a row isn't admitted, and then where the book with it is out of range; a withdrawal where a
+-- name isn't current. Other tables are refused by the same two tests of the book, by themselves.
+abbrev pub answer_by : Params → Agreement → List (Entry Event Reply) → Event → Reply
+answer_by q t log (event.Submit trades) =
+    if_admitted (first_unadmitted q trades) (range q (rows_of (book_with log (event.Submit trades))))
+answer_by q t log (event.Withdraw names) = if_known (first_unknown log names)
+answer_by q t log (event.Tables text) =
+    if_admitted (first_unadmitted text.params (book log)) (range text.params (rows_of (book log)))
+answer_by q t log (event.OnSide e) = answer_side q t log e
+
+-- by the tables that the journal leaves, which opened with p
 abbrev pub answer : Params → Agreement → List (Entry Event Reply) → Event → Reply
-answer p t log (event.Submit trades) =
-    if_admitted (first_unadmitted p trades) (range p (rows_of (book_with log (event.Submit trades))))
-answer p t log (event.Withdraw names) = if_known (first_unknown log names)
-answer p t log (event.OnSide e) = answer_side p t log e
+answer p t log e = answer_by (tables p log) t log e
 
 -- each entry's reply is the answer to its event after the entries before it
 abbrev pub IsLegal : Params → Agreement → List (Entry Event Reply) → Type 0

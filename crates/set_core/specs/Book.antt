@@ -27,6 +27,7 @@ is_named names name = list_any (same_name name) names
 abbrev pub word_of_event : List ℕ → Event → Word
 word_of_event name (event.Submit trades) = word_of_batch name trades
 word_of_event name (event.Withdraw names) = if is_named names name then Taken else Silent
+word_of_event name (event.Tables text) = Silent
 word_of_event name (event.OnSide e) = Silent
 
 -- an entry is accepted where its reply is no refusal; a question that is answered is accepted too
@@ -70,6 +71,7 @@ with_rows_after log t = record { trade = t.trade; rows = rows_given (last_word t
 abbrev pub trades_of_event : Event → List TradeRows
 trades_of_event (event.Submit trades) = trades
 trades_of_event (event.Withdraw names) = []
+trades_of_event (event.Tables text) = []
 trades_of_event (event.OnSide e) = []
 
 abbrev pub accepted_trades : Entry Event Reply → List TradeRows

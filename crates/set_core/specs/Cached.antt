@@ -1,8 +1,7 @@
 -- What a live margin has kept after a journal: all that was worked out at the last question that was answered, but where rows
--- moved since.
+-- moved since; and nothing where tables came since.
 use Rattle.std.specs.Prelude.{◌≡◌, List, [], ◌∷◌, ◌++◌, Bool, true, false, ◌&&◌, not}
 use Rattle.collateral_ledger.specs.SimmKinds.declared.kinds.Measure.{Measure}
-use Rattle.collateral_ledger.specs.SimmKinds.declared.row.CrifRow.{CrifRow}
 use Rattle.collateral_ledger.specs.SimmKinds.declared.row.TradeRows.{TradeRows}
 use Rattle.collateral_ledger.specs.SimmKinds.Batch.{rows_of}
 use Rattle.bucket_cache.specs.FactorBook.declared.at.BucketAt.{BucketAt}
@@ -15,16 +14,20 @@ use Rattle.set_core.specs.declared.reply.Reply.{Reply}
 use Rattle.set_core.specs.declared.reply.Reply.TheVariants as reply
 use Rattle.set_core.specs.Book.{book}
 
--- the rows that an event adds to a book, replaces or removes, where it is accepted
-abbrev pub rows_moved_by : List TradeRows → Event → List CrifRow
-rows_moved_by trades (event.Submit batch) = rows_moved batch trades
-rows_moved_by trades (event.Withdraw names) = rows_of (named names trades)
-rows_moved_by trades (event.OnSide e) = []
+-- whether an event touches the value of a bucket in a measure, where it is accepted: a row lies there that it adds to a book, replaces
+-- or removes, or it brings tables
+abbrev pub touched_by : BucketAt → Measure → List TradeRows → Event → Bool
+touched_by at measure trades (event.Submit batch) = touches at measure (rows_moved batch trades)
+touched_by at measure trades (event.Withdraw names) = touches at measure (rows_of (named names trades))
+touched_by at measure trades (event.Tables text) = true
+touched_by at measure trades (event.OnSide e) = false
 
-abbrev pub moves_trades : Event → Bool
-moves_trades (event.Submit batch) = true
-moves_trades (event.Withdraw names) = true
-moves_trades (event.OnSide e) = false
+-- whether it changes what the margin is of: trades, or the tables
+abbrev pub touches_margin : Event → Bool
+touches_margin (event.Submit batch) = true
+touches_margin (event.Withdraw names) = true
+touches_margin (event.Tables text) = true
+touches_margin (event.OnSide e) = false
 
 -- Whether what may be kept is kept after a reply: an accepted event leaves it where it doesn't touch it, a refused one leaves it, and a
 -- question that is answered keeps it where there is something to keep.
@@ -43,13 +46,14 @@ known_after touched was before [] = was
 known_after touched was before (e ∷ after) =
     known_after touched (is_known was (touched (book before) e.event) e.reply) (before ++ e ∷ []) after
 
--- the margin is known: since the last question that was answered, or else from the beginning, no accepted event moved trades
+-- the margin is known: since the last question that was answered, or else from the beginning, no accepted event changed trades or
+-- tables
 abbrev pub is_margin_known : List (Entry Event Reply) → Bool
-is_margin_known log = known_after (λ trades event. moves_trades event) true [] log
+is_margin_known log = known_after (λ trades event. touches_margin event) true [] log
 
--- the value of a bucket in a measure is known: since then no accepted event moved a row that lies there
+-- the value of a bucket in a measure is known: since then no accepted event touched it
 abbrev pub is_value_known : BucketAt → Measure → List (Entry Event Reply) → Bool
-is_value_known at measure log = known_after (λ trades event. touches at measure (rows_moved_by trades event)) true [] log
+is_value_known at measure log = known_after (touched_by at measure) true [] log
 
 -- what is known after the journal is kept
 pub record AreCached (live : Live) (log : List (Entry Event Reply)) : Type 0 where

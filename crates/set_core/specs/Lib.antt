@@ -1,4 +1,5 @@
 pub mod Book
+pub mod Tables
 pub mod Lots
 pub mod Calls
 pub mod Answer
@@ -15,3 +16,4 @@ pub mod Text
 pub use Rattle.bucket_cache.specs.SimmRules as SimmRules
 pub use Rattle.held_cell.specs as HeldCell
 pub use Rattle.bucket_cache.specs as BucketCache
+pub use Rattle.params_file.specs as ParamsFile

@@ -1,5 +1,5 @@
 -- What a live margin and a ledger make of an event.
-use Rattle.std.specs.Prelude.{◌≡◌, List, Bool, true}
+use Rattle.std.specs.Prelude.{◌≡◌, List, Bool, true, Result, Ok, Err}
 use Rattle.collateral_ledger.specs.SimmKinds.declared.row.TradeRows.{TradeRows}
 use Rattle.collateral_ledger.specs.SimmKinds.Batch.{rows_of}
 use Rattle.bucket_cache.specs.SimmRules.Params.{Params}
@@ -7,6 +7,8 @@ use Rattle.bucket_cache.specs.SimmRules.Range.{range}
 use Rattle.bucket_cache.specs.SimmRules.Simm.{simm}
 use Rattle.collateral_ledger.specs.SimmKinds.declared.kinds.Measure.{Measure}
 use Rattle.bucket_cache.specs.FactorBook.declared.at.BucketAt.{BucketAt}
+use Rattle.bucket_cache.specs.declared.fault.BookFault.{BookFault}
+use Rattle.bucket_cache.specs.declared.fault.BookFault.TheVariants as book_fault
 use Rattle.bucket_cache.specs.Cached.{touches, is_cached, IsCached}
 use Rattle.bucket_cache.specs.Live.{Live, put_trades, without, first_unadmitted, first_unknown}
 use Rattle.collateral_ledger.specs.Holdings.{Holdings}
@@ -18,9 +20,10 @@ use Rattle.set_core.specs.declared.event.Event.{Event}
 use Rattle.set_core.specs.declared.event.Event.TheVariants as event
 use Rattle.set_core.specs.declared.reply.Reply.{Reply}
 use Rattle.set_core.specs.declared.reply.Reply.TheVariants as reply
+use Rattle.set_core.specs.declared.refusal.Refusal.TheVariants as refusal
 use Rattle.set_core.specs.Answer.{if_admitted, if_known, if_calling_day}
 use Rattle.set_core.specs.Ledger.{holdings_after, ledger_reply}
-use Rattle.set_core.specs.Cached.{rows_moved_by, moves_trades, is_kept, is_known}
+use Rattle.set_core.specs.Cached.{touched_by, touches_margin, is_kept, is_known}
 
 -- what a live margin has of its trades: the parameters of their margin, and the book
 pub record Traded : Type 0 where
@@ -42,6 +45,7 @@ side_reply l h (side.AskCall moment) = if_calling_day h.terms h.added (simm l.pa
 abbrev pub live_reply : Traded → Holdings → Event → Reply
 live_reply l h (event.Submit trades) = if_admitted (first_unadmitted l.params trades) (range l.params (rows_of (put_trades trades l.book)))
 live_reply l h (event.Withdraw names) = if_known (first_unknown names l.book)
+live_reply l h (event.Tables text) = if_admitted (first_unadmitted text.params l.book) (range text.params (rows_of l.book))
 live_reply l h (event.OnSide e) = side_reply l h e
 
 -- the book after the event and its reply
@@ -50,9 +54,21 @@ live_book book (event.Submit trades) reply.Accepted = put_trades trades book
 live_book book (event.Withdraw names) reply.Accepted = without names book
 live_book book _ _ = book
 
+-- and the tables
+abbrev pub live_params : Params → Event → Reply → Params
+live_params p (event.Tables text) reply.Accepted = text.params
+live_params p _ _ = p
+
+-- the reply to a change of the book, or of its tables, that was made or refused
+abbrev pub BookReplies : Result (Unit {0}) BookFault → Reply → Type 0
+BookReplies (Ok _) r = r ≡ reply.Accepted
+BookReplies (Err (book_fault.BucketUnknown trade row)) r = r ≡ reply.Refused (refusal.BucketUnknown trade row)
+BookReplies (Err (book_fault.Range fault)) r = r ≡ reply.Refused (refusal.Range fault)
+BookReplies (Err book_fault.Memory) r = ⊥
+
 pub record Does (old new : Traded) (had has : Holdings) (e : Event) (r : Reply) : Type 0 where
   pub value : r ≡ live_reply old had e
-  pub live : new ≡ record old { book = live_book old.book e r }
+  pub live : new ≡ record { params = live_params old.params e r; book = live_book old.book e r }
   pub ledger : has ≡ holdings_after had e r
 
 -- ---- what a live margin has kept
@@ -80,8 +96,8 @@ IfAsked _ P = P
 
 -- just what is known after the event and its reply is kept; a question forgets nothing
 pub record Caches (old new : Live) (e : Event) (r : Reply) : Type 0 where
-  pub fresh : new.is_fresh ≡ is_known old.is_fresh (moves_trades e) r
+  pub fresh : new.is_fresh ≡ is_known old.is_fresh (touches_margin e) r
   pub cached : (at : BucketAt) (measure : Measure) → is_cached new.kept.values at measure
-      ≡ is_kept (is_cached old.kept.values at measure) (touches at measure (rows_moved_by old.book e)) (touches at measure (rows_of old.book)) r
-  pub kept : (at : BucketAt) (measure : Measure) → Carries (IsCached at measure) (touches at measure (rows_moved_by old.book e)) old new r
+      ≡ is_kept (is_cached old.kept.values at measure) (touched_by at measure old.book e) (touches at measure (rows_of old.book)) r
+  pub kept : (at : BucketAt) (measure : Measure) → Carries (IsCached at measure) (touched_by at measure old.book e) old new r
   pub asked : IfAsked r (StaysKept old new)

@@ -1,4 +1,4 @@
--- When a journal is full: 65,535 entries, or 500,000 rows of all submits, refused ones too.
+-- When a journal is full: 65,535 entries, or 500,000 rows of all submits, refused ones too; tables weigh as 10,000 rows.
 use Rattle.std.specs.Prelude.{◌≡◌, ℕ, ◌+◌, List, length, Bool, true, ◌||◌, nat_le, nat_lt, sum_by}
 use Rattle.collateral_ledger.specs.SimmKinds.Batch.{rows_of}
 use Rattle.held_cell.specs.declared.entry.Entry.{Entry}
@@ -9,6 +9,7 @@ use Rattle.set_core.specs.declared.reply.Reply.{Reply}
 abbrev pub event_rows : Event → ℕ
 event_rows (event.Submit trades) = length (rows_of trades)
 event_rows (event.Withdraw names) = 0
+event_rows (event.Tables text) = 10000
 event_rows (event.OnSide e) = 0
 
 abbrev pub journal_rows : List (Entry Event Reply) → ℕ

@@ -16,10 +16,10 @@ use Rattle.set_core.specs.declared.event.Event.{Event}
 use Rattle.set_core.specs.declared.reply.Reply.{Reply}
 use Rattle.set_core.specs.Answer.{answer, IsLegal}
 use Rattle.set_core.specs.Book.{book}
-use Rattle.set_core.specs.Cached.{rows_moved_by, moves_trades, is_kept, is_known}
+use Rattle.set_core.specs.Cached.{touched_by, touches_margin, is_kept, is_known}
 use Rattle.set_core.specs.Room.{journal_rows, is_full}
 
--- the parameters of its margins, the terms of its agreement, and all calls with their answers; whether its margin is known, and the
+-- the tables that it opened with, the terms of its agreement, and all calls with their answers; whether its margin is known, and the
 -- values of buckets that are kept; for how many entries more room was put by
 pub record Set : Type 0 where
   pub params : Params
@@ -38,16 +38,16 @@ abbrev pub base_of : Set → Params × Agreement
 base_of s = (s.params, s.terms)
 
 -- Of which buckets the value is kept after an event that was answered: after an accepted one exactly of those that it was kept of and
--- that no row lies in which the event moves; after a refused one of the same; after a question of those that a row of the book lies in.
+-- that the event does not touch; after a refused one of the same; after a question of those that a row of the book lies in.
 abbrev pub cached_after : Set → Event → Reply → BucketAt → Measure → Bool
 cached_after s event reply at measure =
-    is_kept (is_cached s.kept at measure) (touches at measure (rows_moved_by (book s.journal) event)) (touches at measure (rows_of (book s.journal))) reply
+    is_kept (is_cached s.kept at measure) (touched_by at measure (book s.journal) event) (touches at measure (rows_of (book s.journal))) reply
 
 -- the set after an event that was answered, by what is kept of its buckets then; its entry takes of the room that was put by
 abbrev pub with_entry : Set → ℕ → Event → Reply → List (Place × KeptValue) → Set
 with_entry s caller event reply kept = record s {
   journal = s.journal ++ entry caller event reply ∷ [];
-  is_fresh = is_known s.is_fresh (moves_trades event) reply;
+  is_fresh = is_known s.is_fresh (touches_margin event) reply;
   kept = kept;
   spare = s.spare - 1;
 }

@@ -1,9 +1,9 @@
 //! What a live margin and a ledger make of an event, each kind by a function of its own.
-ghost use Rattle.std.specs.Prelude.{◌≡◌, ◌+◌, ◌<◌, ◌≤◌, true, false, IfOk, IsOk, OnErr};
+ghost use Rattle.std.specs.Prelude.{◌≡◌, ◌+◌, ◌<◌, ◌≤◌, true, false, IfOk, IsErr, IsOk, OnErr};
 ghost use Rattle.collateral_ledger.specs.SimmKinds.Batch.{rows_of};
 ghost use Rattle.set_core.specs.Events.{if_side};
 ghost use Rattle.set_core.specs.Reserved.{is_at_hand, LeavesRoom};
-ghost use Rattle.set_core.specs.Live.{Caches, Does, StaysKept, traded};
+ghost use Rattle.set_core.specs.Live.{BookReplies, Caches, Does, StaysKept, traded};
 ghost use Rattle.collateral_ledger.specs.Holdings.{Holdings};
 ghost use Rattle.set_core.specs.declared.event.Event.TheVariants as events;
 
@@ -12,9 +12,10 @@ use crate::calling::ask_call;
 use crate::collateral::{close, mark, put, take};
 use crate::put_by::PutBy;
 use crate::{Event, Refusal, Reply, SharedMargin};
-use bucket_cache::{LiveMargin, SubmitFault, WithdrawFault};
+use bucket_cache::{BookFault, LiveMargin, WithdrawFault};
 use collateral_ledger::Ledger;
 use collateral_ledger::simm_kinds::{Batch, Name};
+use params_file::ParamText;
 use side_events::SideEvent;
 use std::alloc::{AllocError, Global};
 
@@ -66,6 +67,7 @@ fn answer(
     match event {
         Event::Submit(batch) => submit(alloc, live, batch),
         Event::Withdraw(names) => withdraw(alloc, live, names.as_slice()),
+        Event::Tables(text) => replace_tables(alloc, live, text),
         Event::OnSide(event) => answer_side(alloc, live, ledger, put_by, event),
     }
 }
@@ -111,14 +113,8 @@ fn submit(alloc: Global, live: &mut LiveMargin, batch: &Batch) -> Result<Reply, 
     ensures caches { IfOk result (Caches live.old live.new (events.Submit batch.now)) }
     ensures unchanged { OnErr result (live.new ≡ live.old) }
 {
-    match live.submit(alloc, batch) {
-        Ok(()) => Ok(Reply::Accepted),
-        Err(SubmitFault::BucketUnknown { trade, row }) => {
-            Ok(Reply::Refused(Refusal::BucketUnknown { trade, row }))
-        }
-        Err(SubmitFault::Range(fault)) => Ok(Reply::Refused(Refusal::Range(fault))),
-        Err(SubmitFault::Memory) => Err(AllocError),
-    }
+    let change = live.submit(alloc, batch);
+    book_reply(change)
 }
 
 fn withdraw(alloc: Global, live: &mut LiveMargin, names: &[Name]) -> Result<Reply, AllocError>
@@ -132,5 +128,33 @@ fn withdraw(alloc: Global, live: &mut LiveMargin, names: &[Name]) -> Result<Repl
             Ok(Reply::Refused(Refusal::UnknownTrade { place }))
         }
         Err(WithdrawFault::Memory) => Err(AllocError),
+    }
+}
+
+fn replace_tables(
+    alloc: Global,
+    live: &mut LiveMargin,
+    text: &ParamText,
+) -> Result<Reply, AllocError>
+    ensures does { IfOk result (λ reply. (h : Holdings) → Does (traded live.old) (traded live.new) h h (events.Tables text.now) reply) }
+    ensures caches { IfOk result (Caches live.old live.new (events.Tables text.now)) }
+    ensures unchanged { OnErr result (live.new ≡ live.old) }
+{
+    let change = live.replace_tables(alloc, text.params());
+    book_reply(change)
+}
+
+/// The reply to a change of the book, or of its tables, that was made or refused.
+fn book_reply(change: Result<(), BookFault>) -> Result<Reply, AllocError>
+    ensures replies { IfOk result (BookReplies change) }
+    ensures refused { OnErr result (IsErr change) }
+{
+    match change {
+        Ok(()) => Ok(Reply::Accepted),
+        Err(BookFault::BucketUnknown { trade, row }) => {
+            Ok(Reply::Refused(Refusal::BucketUnknown { trade, row }))
+        }
+        Err(BookFault::Range(fault)) => Ok(Reply::Refused(Refusal::Range(fault))),
+        Err(BookFault::Memory) => Err(AllocError),
     }
 }

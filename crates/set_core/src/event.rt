@@ -4,7 +4,11 @@ ghost use Rattle.set_core.specs.Room.{event_rows};
 ghost use Rattle.set_core.specs.Events.{IsEvent};
 
 use collateral_ledger::simm_kinds::{Batch, Listed, Name, TradeRows};
+use params_file::ParamText;
 use side_events::SideEvent;
+
+/// What the journal counts for tables, in rows.
+const TABLES_ROWS: usize = 10_000;
 
 /// What a caller asks of a netting set.
 #[derive(Drop)]
@@ -13,6 +17,8 @@ pub enum Event {
     Submit(Batch),
     /// Takes out each trade that is named.
     Withdraw(Listed<Name>),
+    /// Puts tables in the place of those by which margins are worked out.
+    Tables(ParamText),
     /// Something beside the trades: of a lot, of a call, or of the margin.
     OnSide(SideEvent),
 }
@@ -27,12 +33,13 @@ impl Event {
         }
     }
 
-    /// How many rows a submit has; 0 for every other event. It takes no memory.
+    /// How many rows the journal counts for it: those of a submit, 10,000 for tables, and none for every other event. It takes no memory.
     pub fn row_count(&self) -> usize
         ensures { result ≡ event_rows self.now }
     {
         match self {
             Event::Submit(batch) => count_rows(batch.trades()),
+            Event::Tables(_) => TABLES_ROWS,
             Event::Withdraw(_) | Event::OnSide(_) => 0,
         }
     }

@@ -1,5 +1,5 @@
-//! A netting set: trades are submitted, replaced and withdrawn, lots of collateral are put, taken and marked, its margin is
-//! asked and collateral is called for, and a journal holds each event with its answer. Each answer is the written rule, from
+//! A netting set: trades are submitted, replaced and withdrawn, its tables are replaced, lots of collateral are put, taken and marked,
+//! its margin is asked and collateral is called for, and a journal holds each event with its answer. Each answer is the written rule, from
 //! scratch, over the journal's earlier accepted entries.
 #![tactic(auto)]
 
@@ -31,4 +31,5 @@ pub use bucket_cache;
 pub use bucket_cache::{pair_sum, simm_params};
 pub use collateral_ledger::csa_terms;
 pub use held_cell;
+pub use params_file;
 pub use side_events;

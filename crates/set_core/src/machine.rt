@@ -1,4 +1,5 @@
-//! A netting set as a machine that its callers share: it works on its parameters and its terms, and its journal weighs its rows.
+//! A netting set as a machine that its callers share: it works on the tables that it opened with and its terms, and its journal weighs
+//! its rows.
 ghost use Rattle.std.proofs.Common.{lit≤};
 ghost use Rattle.held_cell.proofs.Empty.{no_entry};
 ghost use Rattle.set_core.specs.Room.{journal_rows, IsFull};

@@ -4,6 +4,7 @@ ghost use Rattle.collateral_ledger.specs.SimmKinds.declared.kinds.Measure.{Measu
 ghost use Rattle.bucket_cache.specs.FactorBook.declared.at.BucketAt.{BucketAt};
 ghost use Rattle.bucket_cache.specs.Cached.{IsCached};
 ghost use Rattle.set_core.specs.Book.{book};
+ghost use Rattle.set_core.specs.Tables.{tables};
 ghost use Rattle.set_core.specs.Cached.{is_margin_known, is_value_known};
 ghost use Rattle.held_cell.specs.Halts.{Explains};
 ghost use Rattle.set_core.specs.Room.{journal_rows, event_rows, is_full_for, IsFull};
@@ -20,13 +21,15 @@ use collateral_ledger::csa_terms::SetTerms;
 use std::alloc::{AllocError, Global};
 use std::marker::Model;
 
-/// A netting set: what it works on, its current trades, its lots and outstanding calls, and the journal of its calls. Contracts see the parameters, the
-/// terms, the journal, for how many entries more room was put by, and of what is kept of its margin whether it is known and the values of buckets; all
+/// A netting set: what it works on, its current trades, its lots and outstanding calls, and the journal of its calls. Contracts see the tables that it
+/// opened with, the terms, the journal, for how many entries more room was put by, and of what is kept of its margin whether it is known and the values of buckets; all
 /// else is the written rule over the journal.
 /// It keeps the allocator that it was made with.
 #[derive(Drop)]
 pub struct SetState {
     alloc: Global,
+    // those that it opened with
+    params: Params,
     live: LiveMargin,
     ledger: Ledger,
     journal: Vec<Entry>,
@@ -47,7 +50,7 @@ impl Model for SetState {
     ghost Value = { Set };
 
     ghost view = { λ s. record {
-      params = s.live.params;
+      params = s.params;
       terms = s.ledger.terms;
       journal = s.journal.items;
       is_fresh = s.live.is_fresh;
@@ -55,14 +58,14 @@ impl Model for SetState {
       spare = s.spare;
     } };
 
-    ghost invariant = { λ s. IsKept (traded s.live) s.ledger s.rows s.journal.items × AreCached s.live s.journal.items
+    ghost invariant = { λ s. IsKept s.params (traded s.live) s.ledger s.rows s.journal.items × AreCached s.live s.journal.items
         × HasRoom s.spare s.put_by (vec_len s.journal) (vec_capacity s.journal) };
 }
 
 /// How many entries a journal has at most.
 const MOST_ENTRIES: usize = 65_535;
 
-/// How many rows the submits of a journal have at most, refused ones too.
+/// How many rows the submits of a journal have at most, refused ones too; tables count as 10,000.
 const MOST_ROWS: usize = 500_000;
 
 impl SetState {
@@ -74,9 +77,11 @@ impl SetState {
     pub fn new(alloc: Global, params: Params, terms: SetTerms) -> Result<SetState, AllocError>
         ensures { IfOk result (λ set. set ≡ start params terms) }
     {
-        let live = LiveMargin::new(alloc, params)?;
+        let opened = params.share()?;
+        let live = LiveMargin::new(alloc, opened)?;
         Ok(SetState {
             alloc,
+            params,
             live,
             ledger: Ledger::new(alloc, terms),
             journal: Vec::new(alloc),
@@ -88,8 +93,8 @@ impl SetState {
 
     /// Answers an event by the written rule over the journal so far, and adds it to the journal with its reply. An event
     /// that is refused changes nothing else. Of the values of buckets that are kept an accepted batch or withdrawal forgets
-    /// just those of the buckets in which a row lies that it adds, replaces or removes; after a question that is answered
-    /// the value of each bucket is kept in which a row lies.
+    /// just those of the buckets in which a row lies that it adds, replaces or removes, and tables that are accepted forget all;
+    /// after a question that is answered the value of each bucket is kept in which a row lies.
     ///
     /// # Errors
     ///
@@ -136,8 +141,8 @@ impl SetState {
     }
 
     /// Puts room by for this many entries at least. While there is any, of which each event that is answered takes one entry's, no
-    /// event is answered want of memory that takes or marks a lot, closes a call, or asks the margin where no accepted event moved
-    /// trades since it was last answered, or since the set was made.
+    /// event is answered want of memory that takes or marks a lot, closes a call, or asks the margin where no accepted event changed
+    /// trades or tables since it was last answered, or since the set was made.
     ///
     /// # Errors
     ///
@@ -166,7 +171,7 @@ impl SetState {
         self.journal.len() as u32
     }
 
-    /// How many rows the submits of the journal have, refused ones too.
+    /// How many rows the submits of the journal have, refused ones too, with 10,000 for each time that tables were brought.
     pub fn rows(&self) -> u32
         ensures { result ≡ journal_rows self.now.journal }
     {
@@ -188,11 +193,11 @@ impl SetState {
         self.journal.get(index as usize)
     }
 
-    /// Lends the live margin, whose book is that of the journal, with just what the set keeps of it. What was worked out at the last question that was answered
-    /// is kept, but the values of the buckets in which a row lies that an accepted event moved since; a refused event leaves
-    /// them. The margin is known where no accepted event moved trades since.
+    /// Lends the live margin, whose tables and book are those of the journal, with just what the set keeps of it. What was worked out at the last question that was answered
+    /// is kept, but the values of the buckets in which a row lies that an accepted event moved since, and all where tables were accepted
+    /// since; a refused event leaves them. The margin is known where no accepted event changed trades or tables since.
     pub fn live(&self) -> &LiveMargin
-        ensures params { result.now.params ≡ self.now.params }
+        ensures params { result.now.params ≡ tables self.now.params self.now.journal }
         ensures book { result.now.book ≡ book self.now.journal }
         ensures is_fresh { result.now.is_fresh ≡ self.now.is_fresh }
         ensures values { result.now.kept.values ≡ self.now.kept }

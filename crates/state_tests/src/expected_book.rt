@@ -1,8 +1,10 @@
-//! What a live margin is to hold and to keep, by the rule of what the rows of an event touch.
+//! What a set is to hold and to keep, by the rule of what an event touches.
 ghost use Rattle.std.specs.Prelude.{◌<◌, IfSome, vec_len};
 
+use crate::makers::TABLES;
 use crate::random_places::PLACES;
-use crif_reader::simm_kinds::Measure;
+use crate::random_requests::Request;
+use crif_reader::simm_kinds::{Measure, RiskClass};
 use std::process::Abort;
 
 /// A row of a factor at a place, and its amount in dollars.
@@ -28,9 +30,10 @@ pub struct Mark {
     pub is_kept: bool,
 }
 
-/// What a live margin is to hold: its trades, and which values it keeps.
+/// What a set is to hold: its tables by their place in `TABLES`, its trades, and which values it keeps.
 #[derive(Drop)]
 pub struct Book {
+    pub tables: usize,
     pub trades: Vec<Trade>,
     pub marks: Vec<Mark>,
 }
@@ -39,8 +42,27 @@ fn touches(rows: &[Row], mark: &Mark) -> bool {
     rows.iter().any(|row| row.place == mark.place)
 }
 
+fn is_equity(row: &Row) -> bool {
+    match PLACES.get(row.place) {
+        Some(place) => place.class == RiskClass::Equity,
+        None => false,
+    }
+}
+
+fn has_equities(trades: &[Trade]) -> bool {
+    trades.iter().any(|trade| trade.rows.iter().any(is_equity))
+}
+
+/// Whether the tables at a place list the bucket of each row.
+fn admit(tables: usize, trades: &[Trade]) -> bool {
+    match TABLES.get(tables) {
+        Some(tables) => tables.lists_equities || !has_equities(trades),
+        None => false,
+    }
+}
+
 impl Book {
-    /// No trades, and nothing kept.
+    /// The first tables, no trades, and nothing kept.
     pub fn new(rt: &(impl Abort + AllocGlobal)) -> Book {
         let mut marks = Vec::new(rt.alloc());
         for (index, place) in PLACES.iter().enumerate() {
@@ -54,6 +76,7 @@ impl Book {
             }
         }
         Book {
+            tables: 0,
             trades: Vec::new(rt.alloc()),
             marks,
         }
@@ -65,6 +88,13 @@ impl Book {
             if touches(rows, mark) {
                 mark.is_kept = false;
             }
+        }
+    }
+
+    /// No value is kept any longer.
+    fn forget(&mut self) {
+        for mark in self.marks.iter_mut() {
+            mark.is_kept = false;
         }
     }
 
@@ -83,11 +113,16 @@ impl Book {
         }
     }
 
-    /// Takes a trade in, in place of the one of its name.
+    /// Takes a trade in: in the place of the one of its name, or else last.
     fn put(&mut self, rt: &impl Abort, trade: Trade) {
-        self.take(trade.name);
         self.touch(&trade.rows);
-        self.trades.push(trade).ok().expect(rt, "memory");
+        if let Some(index) = self.index_of(trade.name) {
+            let old = self.trades[index];
+            self.trades[index] = trade;
+            self.touch(&old.rows);
+        } else {
+            self.trades.push(trade).ok().expect(rt, "memory");
+        }
     }
 
     /// Whether a row lies where a value is.
@@ -95,20 +130,20 @@ impl Book {
         self.trades.iter().any(|trade| touches(&trade.rows, mark))
     }
 
-    pub fn put_all(&mut self, rt: &impl Abort, trades: &[Trade]) {
+    fn put_all(&mut self, rt: &impl Abort, trades: &[Trade]) {
         for trade in trades {
             self.put(rt, *trade);
         }
     }
 
-    pub fn take_all(&mut self, names: &[&'static str]) {
+    fn take_all(&mut self, names: &[&'static str]) {
         for name in names {
             self.take(name);
         }
     }
 
     /// Whether each of these names is of a trade.
-    pub fn has_all(&self, names: &[&'static str]) -> bool {
+    fn has_all(&self, names: &[&'static str]) -> bool {
         names.iter().all(|name| self.index_of(name).is_some())
     }
 
@@ -122,10 +157,34 @@ impl Book {
     }
 
     /// A question was answered: just the values of the buckets that have a row are kept.
-    pub fn renew(&mut self) {
+    fn renew(&mut self) {
         let trades = &self.trades;
         for mark in self.marks.iter_mut() {
             mark.is_kept = trades.iter().any(|trade| touches(&trade.rows, mark));
+        }
+    }
+
+    /// Whether what is asked is accepted: of a withdrawal each name is of a trade; of a batch each row is in a bucket that the
+    /// tables list, and of tables each row of the trades in one that these list.
+    pub fn accepts(&self, request: &Request) -> bool {
+        match request {
+            Request::Margin => true,
+            Request::Submit(trades) => admit(self.tables, trades.as_slice()),
+            Request::Withdraw(names) => self.has_all(names.as_slice()),
+            Request::Tables(tables) => admit(*tables, self.trades.as_slice()),
+        }
+    }
+
+    /// What is asked was accepted.
+    pub fn take_in(&mut self, rt: &impl Abort, request: &Request) {
+        match request {
+            Request::Margin => self.renew(),
+            Request::Submit(trades) => self.put_all(rt, trades.as_slice()),
+            Request::Withdraw(names) => self.take_all(names.as_slice()),
+            Request::Tables(tables) => {
+                self.tables = *tables;
+                self.forget();
+            }
         }
     }
 }

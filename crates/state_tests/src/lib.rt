@@ -1,17 +1,19 @@
-//! Tests of the libraries from parameters and terms up to a netting set, over calls that no command reaches: what a live margin
-//! and a netting set keep of their buckets, a reply as a text of its own, room that is put by for entries.
+//! Tests of the libraries from parameters and terms up to a netting set, over calls that no command reaches: what a netting
+//! set answers and keeps of its buckets at random, a reply as a text of its own, room that is put by for entries.
 #![tactic(auto)]
 
 #[cfg(test)]
-mod asking;
+mod events_at_random;
 #[cfg(test)]
 mod expected_book;
 #[cfg(test)]
-mod kept_buckets_at_random;
-#[cfg(test)]
 mod makers;
 #[cfg(test)]
+mod random;
+#[cfg(test)]
 mod random_places;
+#[cfg(test)]
+mod random_requests;
 #[cfg(test)]
 mod reserved_entries;
 #[cfg(test)]

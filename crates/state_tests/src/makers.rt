@@ -1,13 +1,60 @@
 //! What the tests are made of: names, rows, batches, parameters, terms.
+use crif_reader::mh_units::Bytes;
 use crif_reader::read_batch;
 use crif_reader::simm_kinds::{Batch, Name};
-use params_file::read_params;
+use params_file::ParamText;
 use params_file::simm_params::Params;
 use set_core::csa_terms::{SetTerms, read_terms};
 use std::process::Abort;
 
-/// The correlation of two regular currencies is 0.5, of a regular one and one of high volatility 0.25, of two of high
-/// volatility -1.
+/// Lines of parameters, and whether they list the bucket of equities in which rows lie.
+pub struct Tables {
+    pub lines: &'static str,
+    pub lists_equities: bool,
+}
+
+/// Weights, volatility ratios and the bucket of equities, each of which differs. The first are those of `params`.
+pub static TABLES: [Tables; 3] = [
+    Tables {
+        lines: r#"fx.weight = ["7.4", "10"]
+ir.inflation_weight = "50"
+ir.vrw = "0.2"
+credit_q.base_weight = "10"
+equity.hvr = "0.6"
+equity.bucket = [
+  { id = "1", weight = "10", threshold = 1000000, vega_threshold = 10000000, rho = "0.4", sigma = "50", vrw = "0.5", curvature = true },
+]
+"#,
+        lists_equities: true,
+    },
+    Tables {
+        lines: r#"fx.weight = ["8", "9.5"]
+ir.inflation_weight = "61"
+ir.vrw = "0.3"
+credit_q.base_weight = "12"
+equity.hvr = "0.7"
+equity.bucket = [
+  { id = "1", weight = "11", threshold = 1000000, vega_threshold = 10000000, rho = "0.3", sigma = "40", vrw = "0.6", curvature = true },
+]
+"#,
+        lists_equities: true,
+    },
+    Tables {
+        lines: r#"fx.weight = ["7.5", "11"]
+ir.inflation_weight = "45"
+ir.vrw = "0.1"
+credit_q.base_weight = "9"
+equity.hvr = "0.5"
+equity.bucket = [
+  { id = "2", weight = "10", threshold = 1000000, vega_threshold = 10000000, rho = "0.4", sigma = "50", vrw = "0.5", curvature = true },
+]
+"#,
+        lists_equities: false,
+    },
+];
+
+/// The other lines of parameters. The correlation of two regular currencies is 0.5, of a regular one and one of high volatility
+/// 0.25, of two of high volatility -1.
 const PARAMS: &str = r#"calculation_currency = "USD"
 lambda_base = "5.634897"
 psi = [
@@ -23,7 +70,6 @@ ir.regular = ["USD", "EUR", "GBP"]
 ir.weight.regular = ["50", "50", "50", "50", "50", "50", "50", "50", "50", "50", "50", "50"]
 ir.weight.low = ["15", "15", "15", "15", "15", "15", "15", "15", "15", "15", "15", "15"]
 ir.weight.high = ["100", "100", "100", "100", "100", "100", "100", "100", "100", "100", "100", "100"]
-ir.inflation_weight = "50"
 ir.basis_weight = "20"
 ir.rho = [
   ["1", "0", "0", "0", "0", "0", "0", "0", "0", "0", "0", "0"],
@@ -43,12 +89,10 @@ ir.phi = "0.98"
 ir.inflation_rho = "0.4"
 ir.basis_rho = "0.01"
 ir.gamma = "0.5"
-ir.vrw = "0.2"
 ir.hvr = "0.5"
 ir.other.threshold = 910000
 ir.other.vega_threshold = 10000000
 fx.high = ["BRL", "TRY"]
-fx.weight = ["7.4", "10"]
 fx.rho = ["0.5", "0.25", "-1"]
 fx.first = ["EUR"]
 fx.second = ["GBP", "BRL"]
@@ -70,17 +114,12 @@ credit_nq.bucket = [
   { id = "1", weight = "10", threshold = 1000000, vega_threshold = 10000000, rho = "0.4", same = "0.5", vrw = "0.5", curvature = true },
 ]
 credit_nq.gamma = [["1"]]
-equity.bucket = [
-  { id = "1", weight = "10", threshold = 1000000, vega_threshold = 10000000, rho = "0.4", sigma = "50", vrw = "0.5", curvature = true },
-]
-equity.hvr = "0.6"
 equity.gamma = [["1"]]
 commodity.bucket = [
   { id = "1", weight = "10", threshold = 1000000, vega_threshold = 10000000, rho = "0.4", sigma = "50", vrw = "0.5", curvature = true },
 ]
 commodity.hvr = "0.6"
 commodity.gamma = [["1"]]
-credit_q.base_weight = "10"
 credit_q.base_rho = "0.3"
 "#;
 
@@ -120,10 +159,30 @@ pub fn batch(rt: &(impl Abort + AllocGlobal), trade: &str, currency: &str, amoun
     rows(rt, row.as_str())
 }
 
-pub fn params(rt: &(impl Abort + AllocGlobal)) -> Params {
-    read_params(rt.alloc(), PARAMS.as_bytes())
+/// The parameters with the lines of these tables, and their text.
+fn text_of(rt: &(impl Abort + AllocGlobal), tables: &Tables) -> ParamText {
+    let lines = tables.lines;
+    let text = format!(in rt.alloc(); "{PARAMS}{lines}");
+    let text = text.ok().expect(rt, "memory");
+    let bytes = Bytes::from_slice(rt.alloc(), text.as_bytes());
+    let bytes = bytes.ok().expect(rt, "memory");
+    ParamText::read(rt.alloc(), bytes)
         .ok()
         .expect(rt, "parameters")
+}
+
+/// Each of the tables, read once.
+pub fn read_tables(rt: &(impl Abort + AllocGlobal)) -> Vec<ParamText> {
+    let mut texts = Vec::new(rt.alloc());
+    for tables in &TABLES {
+        texts.push(text_of(rt, tables)).ok().expect(rt, "memory");
+    }
+    texts
+}
+
+pub fn params(rt: &(impl Abort + AllocGlobal)) -> Params {
+    let text = text_of(rt, TABLES.first().expect(rt, "tables"));
+    text.params().share().ok().expect(rt, "memory")
 }
 
 pub fn set_terms(rt: &(impl Abort + AllocGlobal)) -> SetTerms {

@@ -55,12 +55,12 @@ returns-in-PutLot-clause-caches c =
     let put : ℤ → SideEvent = λ value. side.PutLot c.in-PutLot.lot c.in-PutLot.class value c.in-PutLot.currency in
     let value = to_z w64 (of_z w64 c.in-PutLot.value) in
     subst (λ e. IfOk c.put.result (Caches c.args.live.now c.args.live.now (event.OnSide e))) (ap put (same64 c.in-PutLot.value fits) ∙ sym c.in-PutLot.is)
-    (caches_beside c.args.ledger.now c.put.new.ledger c.args.live.now (event.OnSide (put value)) c.put.result refl refl (ledger_settled (put_refusal c.args.ledger.now c.in-PutLot.lot c.in-PutLot.class value)) c.put.ensures.does)
+    (caches_beside c.args.ledger.now c.put.new.ledger c.args.live.now (event.OnSide (put value)) c.put.result refl (λ at measure. refl) (ledger_settled (put_refusal c.args.ledger.now c.in-PutLot.lot c.in-PutLot.class value)) c.put.ensures.does)
 
 pub returns-in-TakeLot-clause-caches : goal.returns-in-TakeLot-clause-caches
 returns-in-TakeLot-clause-caches c =
     subst (λ e. IfOk c.take.result (Caches c.args.live.now c.args.live.now (event.OnSide e))) (sym c.in-TakeLot.is)
-    (caches_beside c.args.ledger.now c.take.new.ledger c.args.live.now (event.OnSide (side.TakeLot c.in-TakeLot.lot)) c.take.result refl refl (ledger_settled (take_refusal c.args.ledger.now c.in-TakeLot.lot)) c.take.ensures.does)
+    (caches_beside c.args.ledger.now c.take.new.ledger c.args.live.now (event.OnSide (side.TakeLot c.in-TakeLot.lot)) c.take.result refl (λ at measure. refl) (ledger_settled (take_refusal c.args.ledger.now c.in-TakeLot.lot)) c.take.ensures.does)
 
 pub returns-in-MarkLot-clause-caches : goal.returns-in-MarkLot-clause-caches
 returns-in-MarkLot-clause-caches c =
@@ -68,9 +68,9 @@ returns-in-MarkLot-clause-caches c =
     let mark : ℤ → SideEvent = λ value. side.MarkLot c.in-MarkLot.lot value in
     let value = to_z w64 (of_z w64 c.in-MarkLot.value) in
     subst (λ e. IfOk c.mark.result (Caches c.args.live.now c.args.live.now (event.OnSide e))) (ap mark (same64 c.in-MarkLot.value fits) ∙ sym c.in-MarkLot.is)
-    (caches_beside c.args.ledger.now c.mark.new.ledger c.args.live.now (event.OnSide (mark value)) c.mark.result refl refl (ledger_settled (mark_refusal c.args.ledger.now c.in-MarkLot.lot value)) c.mark.ensures.does)
+    (caches_beside c.args.ledger.now c.mark.new.ledger c.args.live.now (event.OnSide (mark value)) c.mark.result refl (λ at measure. refl) (ledger_settled (mark_refusal c.args.ledger.now c.in-MarkLot.lot value)) c.mark.ensures.does)
 
 pub returns-in-CloseCall-clause-caches : goal.returns-in-CloseCall-clause-caches
 returns-in-CloseCall-clause-caches c =
     subst (λ e. IfOk c.close.result (Caches c.args.live.now c.args.live.now (event.OnSide e))) (sym c.in-CloseCall.is)
-    (caches_beside c.args.ledger.now c.close.new.ledger c.args.live.now (event.OnSide (side.CloseCall c.in-CloseCall.number)) c.close.result refl refl (ledger_settled (close_refusal c.args.ledger.now c.in-CloseCall.number)) c.close.ensures.does)
+    (caches_beside c.args.ledger.now c.close.new.ledger c.args.live.now (event.OnSide (side.CloseCall c.in-CloseCall.number)) c.close.result refl (λ at measure. refl) (ledger_settled (close_refusal c.args.ledger.now c.in-CloseCall.number)) c.close.ensures.does)

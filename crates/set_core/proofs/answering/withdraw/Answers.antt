@@ -1,4 +1,6 @@
 use Rattle.std.proofs.Common.{refl, sym, ap, Err}
+use Rattle.collateral_ledger.specs.SimmKinds.Batch.{rows_of}
+use Rattle.bucket_cache.specs.Live.{named}
 use Rattle.set_core.specs.Answer.{if_known}
 use Rattle.set_core.specs.Live.{traded}
 use Rattle.set_core.specs.declared.event.Event.TheVariants as events
@@ -21,4 +23,6 @@ returns-in-Err-UnknownTrade-clause-does c = λ h. record {
 }
 
 pub returns-in-Ok-clause-caches : goal.returns-in-Ok-clause-caches
-returns-in-Ok-clause-caches c = caches_moved c.args.live.now c.withdraw.new.self (events.Withdraw c.args.names.now) refl c.in-Ok.ensures.stale c.in-Ok.ensures.kept c.in-Ok.ensures.elsewhere
+returns-in-Ok-clause-caches c =
+    caches_moved c.args.live.now c.withdraw.new.self (events.Withdraw c.args.names.now) (rows_of (named c.args.names.now c.args.live.now.book)) refl (λ at measure. refl)
+    c.in-Ok.ensures.stale c.in-Ok.ensures.kept c.in-Ok.ensures.elsewhere

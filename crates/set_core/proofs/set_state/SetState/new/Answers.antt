@@ -1,4 +1,4 @@
-use Rattle.std.proofs.Common.{[], refl, sym, subst, arith}
+use Rattle.std.proofs.Common.{[], refl, sym, ◌∙◌, subst, arith}
 use Rattle.bucket_cache.specs.SimmRules.Params.{Params}
 use Rattle.collateral_ledger.specs.CsaTerms.Terms.{Agreement}
 use Rattle.collateral_ledger.specs.Holdings.{Holdings}
@@ -16,9 +16,10 @@ live_none p = record { params = p; book = [] }
 abbrev held_none : Agreement → Holdings
 held_none t = record { terms = t; lots = []; calls = []; added = 0 }
 
-kept_none : (p : Params) (t : Agreement) → IsKept (live_none p) (held_none t) 0 []
+kept_none : (p : Params) (t : Agreement) → IsKept p (live_none p) (held_none t) 0 []
 kept_none p t = record {
   set = set_none p t;
+  tables = refl;
   book = refl;
   ledger = refl;
   rows = refl;
@@ -27,16 +28,16 @@ kept_none p t = record {
 
 pub invariant_of-result : goal.invariant_of-result
 invariant_of-result c = (
-  subst (λ (live : Traded). IsKept live c.new-2.result 0 c.new-3.result.items) (λ i. record { params = sym c.in_ok-live.ensures.params i; book = sym c.in_ok-live.ensures.book i })
-      (subst (λ (held : Holdings). IsKept (live_none c.args.params) held 0 c.new-3.result.items) (sym c.new-2.ensures)
-      (subst (λ (log : Log). IsKept (live_none c.args.params) (held_none c.args.terms) 0 log) (sym c.new-3.ensures.items) (kept_none c.args.params c.args.terms))),
+  subst (λ (live : Traded). IsKept c.args.params live c.new-2.result 0 c.new-3.result.items) (λ i. record { params = sym (c.in_ok-live.ensures.params ∙ c.in_ok-opened.ensures) i; book = sym c.in_ok-live.ensures.book i })
+      (subst (λ (held : Holdings). IsKept c.args.params (live_none c.args.params) held 0 c.new-3.result.items) (sym c.new-2.ensures)
+      (subst (λ (log : Log). IsKept c.args.params (live_none c.args.params) (held_none c.args.terms) 0 log) (sym c.new-3.ensures.items) (kept_none c.args.params c.args.terms))),
   subst (λ (log : Log). AreCached c.in_ok-live.live log) (sym c.new-3.ensures.items) (cached_none c.in_ok-live.live c.in_ok-live.ensures.book c.in_ok-live.ensures.fresh),
   record { entries = omega (arith, c.new-3.result.ok.0, c.new-3.ensures.len); margins_twice = omega arith },
 )
 
 pub returns : goal.returns
 returns c = λ i. record {
-  params = c.in_ok-live.ensures.params i;
+  params = c.args.params;
   terms = (c.new-2.ensures i).terms;
   journal = c.new-3.ensures.items i;
   is_fresh = c.in_ok-live.ensures.fresh i;
