@@ -4,7 +4,6 @@ use Rattle.std.specs.List.{AllByRecursion}
 use Rattle.mh_io.specs.Source.{SourceSeen}
 use Rattle.mh_io.specs.Lines as cut
 use Rattle.mh_io.specs.Lined.{Lined, CanCome, Took, Gave, IsStopped, is_ended, lines_with, lines_now}
-use Rattle.mh_io.specs.declared.lines_answer.Supply.TheVariants as supply
 use Rattle.mh_io.specs.Limits.{most_bytes}
 use Rattle.feed_reader.specs.declared.message.Fed.{Fed}
 use Rattle.feed_reader.specs.declared.fault.FeedFault.{FeedFault}
@@ -15,10 +14,6 @@ use Rattle.feed_reader.specs.Line.{IsBegun}
 -- the items that come, once these bytes are taken too
 abbrev pub feed_with : {S : Type 0} → Lined S → List ℕ → Bool → FeedRun
 feed_with held later ended = items_from (held.given + 1) (lines_with held later ended)
-
--- lines of which nothing was taken yet
-abbrev pub fresh : {S : Type 0} → S → Lined S
-fresh source = record { source = source; pending = []; passed = 0; given = 0; supply = supply.Open }
 
 -- these items, and then only such as begin in this line or behind it
 abbrev pub GoesOn : List Item → ℕ → List Item → Type 0

@@ -23,6 +23,7 @@ opening kind fields = do
 -- the message that a block of a set is
 abbrev pub block_message : BlockKind → List ℕ → List ℕ → Message
 block_message block.Crif set lines = message.Crif set lines
+block_message block.Tables set lines = message.Tables set lines
 
 -- WITHDRAW: the set, and at least one trade
 unfoldable pub withdrawal : List (List ℕ) → Option Meaning
@@ -42,5 +43,6 @@ on_side word fields = do
 -- the fields behind each word
 abbrev pub by_word : Word → List (List ℕ) → Option Meaning
 by_word word.Crif = opening block.Crif
+by_word word.Tables = opening block.Tables
 by_word word.Withdraw = withdrawal
 by_word (word.Side of) = on_side of

@@ -7,6 +7,8 @@ use side_events::csa_terms::simm_kinds::{Listed, Name};
 pub enum Message {
     /// `CRIF` and the set, then lines, then `END`: `block` has the lines between, each with LF.
     Crif { set: Name, block: Bytes },
+    /// `TABLES` and the set, then lines, then `END`: `block` has the lines between, each with LF.
+    Tables { set: Name, block: Bytes },
     /// `WITHDRAW`, the set and at least one trade.
     Withdraw { set: Name, names: Listed<Name> },
     /// A word, the set, and what the word has beside: `PUT` a lot of collateral, its class, its value, and `same` or `other` for
@@ -29,6 +31,8 @@ pub struct Fed {
 pub(crate) enum BlockKind {
     /// A CRIF file.
     Crif,
+    /// A parameter file.
+    Tables,
 }
 
 /// What a line outside a block is, where it isn't passed over.

@@ -50,6 +50,7 @@ pub(crate) fn read_by_word(
 {
     match word {
         Word::Crif => read_opening(alloc, BlockKind::Crif, fields),
+        Word::Tables => read_opening(alloc, BlockKind::Tables, fields),
         Word::Withdraw => read_withdraw(alloc, fields),
         Word::Side(word) => read_on_side(alloc, word, fields),
     }

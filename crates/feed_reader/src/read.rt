@@ -36,6 +36,7 @@ fn block_message(kind: BlockKind, set: Name, block: Bytes) -> Message
 {
     match kind {
         BlockKind::Crif => Message::Crif { set, block },
+        BlockKind::Tables => Message::Tables { set, block },
     }
 }
 

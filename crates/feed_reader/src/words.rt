@@ -7,6 +7,7 @@ ghost use Rattle.feed_reader.specs.Words.{side_word_text, word_text, word_of};
 #[derive(Clone, Copy)]
 pub(crate) enum Word {
     Crif,
+    Tables,
     Withdraw,
     Side(SideWord),
 }
@@ -38,8 +39,9 @@ impl SideWord {
 }
 
 impl Word {
-    const ALL: [Word; 8] = [
+    const ALL: [Word; 9] = [
         Word::Crif,
+        Word::Tables,
         Word::Withdraw,
         Word::Side(SideWord::Put),
         Word::Side(SideWord::Take),
@@ -54,6 +56,7 @@ impl Word {
     {
         match self {
             Word::Crif => "CRIF",
+            Word::Tables => "TABLES",
             Word::Withdraw => "WITHDRAW",
             Word::Side(word) => word.text(),
         }

@@ -1,0 +1,3 @@
+pub mod Zips
+pub mod Supplies
+pub mod SourceLines
