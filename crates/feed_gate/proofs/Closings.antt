@@ -12,7 +12,7 @@ use Rattle.set_core.specs.declared.reply.Reply.{Reply}
 use Rattle.set_core.specs.Set.{Set}
 use Rattle.feed_gate.specs.Seats.{Cell, Seat}
 use Rattle.feed_gate.specs.Share.{IsFor, AreCellRows, AreLasts, AreCut, Holds, Gathers, AreKeptIn}
-use Rattle.feed_gate.proofs.Zips.{zip_get, zip_length, behind_front}
+use Rattle.feed_runs.proofs.Zips.{zip_get, zip_length, behind_front}
 
 -- ---- a list without what stands at a place and behind it
 

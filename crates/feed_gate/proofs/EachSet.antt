@@ -7,17 +7,19 @@ use Rattle.std.proofs.lemmas.Bool.{cases_lt}
 use Rattle.std.proofs.lemmas.List.{take_at}
 use Rattle.std.proofs.lemmas.Option.{same_Some, slice_get_within, slice_get-get_or}
 use Rattle.crif_reader.specs.SimmKinds.Order.{same_name}
-use Rattle.crif_reader.specs.declared.fault.CrifFault.{CrifFault}
 use Rattle.feed_reader.specs.declared.message.Fed.{Fed}
 use Rattle.feed_reader.specs.Feed.{Sent}
 use Rattle.set_core.specs.declared.event.Event.{Event}
 use Rattle.feed_gate.specs.declared.fate.Call.{Call}
 use Rattle.feed_gate.specs.declared.fate.Fate.{Fate}
 use Rattle.feed_gate.specs.declared.fate.Fate.TheVariants as fate
+use Rattle.feed_gate.specs.declared.block.BlockFault.{BlockFault}
+use Rattle.feed_gate.specs.declared.block.BlockFault.TheVariants as block
 use Rattle.feed_gate.specs.declared.report.RefusedMessage.{RefusedMessage}
 use Rattle.feed_gate.specs.declared.report.RefusedMessage.TheVariants as refused
 use Rattle.feed_gate.specs.Calls.{set_of, event_of, call_on}
-use Rattle.feed_gate.specs.Fates.{place_of, by_event, by_place, fate_of}
+use Rattle.set_core.specs.ParamsFile.declared.text_fault.ParamTextFault.TheVariants as text
+use Rattle.feed_gate.specs.Fates.{place_of, refused_block, by_event, by_place, fate_of}
 use Rattle.feed_gate.specs.Seats.{Cell, Seat, AreNamed, AreSeats, Sees, FindsFull, AllSee, ChangesOne, OfEachSet}
 use Rattle.feed_gate.specs.Met.{Met, MayBeFull, IsMetBy, IsMet, CallsSeat, MeetsFate, IsWithin, StepsBy, Steps}
 use Rattle.feed_gate.specs.Jobs.{RanOnSet}
@@ -122,6 +124,8 @@ IsOther (refused.BadLine line) = Unit {0}
 IsOther (refused.UnknownSet line) = Unit {0}
 IsOther (refused.BadBatch line fault) = Unit {0}
 IsOther (refused.Full line set entries rows) = ⊥
+IsOther (refused.BadTables line fault) = Unit {0}
+IsOther (refused.LongTables line bytes) = Unit {0}
 
 seat_rests : (o : Option Event) (why : RefusedMessage) (a b : Seat) → IsOther why → b ≡ a → StepsBy o (Some why) a b
 seat_rests None why a b other is = is
@@ -129,6 +133,13 @@ seat_rests (Some e) (refused.BadLine line) a b other is = is
 seat_rests (Some e) (refused.UnknownSet line) a b other is = is
 seat_rests (Some e) (refused.BadBatch line fault) a b other is = is
 seat_rests (Some e) (refused.Full line set entries rows) a b other is = absurd other
+seat_rests (Some e) (refused.BadTables line fault) a b other is = is
+seat_rests (Some e) (refused.LongTables line bytes) a b other is = is
+
+block_other : (line : ℕ) (fault : BlockFault) → IsOther (refused_block line fault)
+block_other line (block.Batch fault) = tt
+block_other line (block.Tables (text.Long bytes)) = tt
+block_other line (block.Tables (text.Param fault)) = tt
 
 pub all_rest : (names : List (List ℕ)) (m : Met) (old new : List Seat) (why : RefusedMessage) → IsOther why → m.refused ≡ Some why → new ≡ old → OfEachSet (Steps m) names old new
 all_rest names m old new why other refused is = record {
@@ -174,9 +185,9 @@ meets_set names fed f r old new apart is h =
     let it = by_name (place_of (set_of fed.message) names) refl (subst (λ x. MeetsFate x r old new) is h) in
     record { met = it.0; sets = it.1 }
   where
-    by_read : (place : ℕ) → place_of (set_of fed.message) names ≡ Some place → (read : Result Event CrifFault) → event_of fed.message ≡ read → MeetsFate (by_event fed.line place read) r old new
+    by_read : (place : ℕ) → place_of (set_of fed.message) names ≡ Some place → (read : Result Event BlockFault) → event_of fed.message ≡ read → MeetsFate (by_event fed.line place read) r old new
         → IsMetBy (by_event fed.line place read) r × OfEachSet (Steps (record { item = Sent fed; refused = r })) names old new
-    by_read place found (Err fault) read h = (h.0, all_rest names (record { item = Sent fed; refused = r }) old new (refused.BadBatch fed.line fault) tt h.0 h.1)
+    by_read place found (Err fault) read h = (h.0, all_rest names (record { item = Sent fed; refused = r }) old new (refused_block fed.line fault) (block_other fed.line fault) h.0 h.1)
     by_read place found (Ok e) read h = (h.0, one_calls names fed e place r old new apart found read h.1)
 
     by_name : (place : Option ℕ) → place_of (set_of fed.message) names ≡ place → MeetsFate (by_place fed place) r old new → IsMetBy (by_place fed place) r × OfEachSet (Steps (record { item = Sent fed; refused = r })) names old new
@@ -187,7 +198,7 @@ meets_set names fed f r old new apart is h =
 pub fate_within : (names : List (List ℕ)) (fed : Fed) (f : Fate) → f ≡ fate_of names (Sent fed) → IsWithin (length names) f
 fate_within names fed f is = subst (IsWithin (length names)) (sym is) (by_name (place_of (set_of fed.message) names) refl)
   where
-    by_read : (place : ℕ) → place < length names → (read : Result Event CrifFault) → IsWithin (length names) (by_event fed.line place read)
+    by_read : (place : ℕ) → place < length names → (read : Result Event BlockFault) → IsWithin (length names) (by_event fed.line place read)
     by_read place within (Err fault) = tt
     by_read place within (Ok e) = within
 
@@ -204,5 +215,7 @@ refusal_sees (fate.Refused other) why old new h = subst (λ seats. AllSee old se
 refusal_sees (fate.Calls call) (refused.BadLine line) old new h = absurd h.0
 refusal_sees (fate.Calls call) (refused.UnknownSet line) old new h = absurd h.0
 refusal_sees (fate.Calls call) (refused.BadBatch line fault) old new h = absurd h.0
+refusal_sees (fate.Calls call) (refused.BadTables line fault) old new h = absurd h.0
+refusal_sees (fate.Calls call) (refused.LongTables line bytes) old new h = absurd h.0
 refusal_sees (fate.Calls call) (refused.Full line set entries rows) old new h =
     one_sees call.place old new (changes_so (FindsFull call.event entries rows) (λ a b. Sees a b) call.place old new (λ a b found. record { sees = found.sees; all = λ _. found.all }) h.1)

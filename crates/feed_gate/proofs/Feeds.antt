@@ -11,9 +11,10 @@ use Rattle.feed_reader.specs.MhIo.declared.lines_answer.Supply.{Supply}
 use Rattle.feed_reader.specs.MhIo.declared.lines_answer.Supply.TheVariants as supply
 use Rattle.feed_reader.specs.Feed as message
 use Rattle.feed_reader.specs.Feed.{Item, FeedRun, AreItems, items_of, feed}
-use Rattle.feed_reader.specs.Answers.{TellsItems, ComesTo, GoesOn, fresh}
-use Rattle.feed_gate.specs.declared.report.FeedEnd.{FeedEnd}
-use Rattle.feed_gate.specs.declared.report.FeedEnd.TheVariants as end_at
+use Rattle.feed_reader.specs.Answers.{TellsItems, ComesTo, GoesOn}
+use Rattle.feed_runs.specs.Untaken.{fresh}
+use Rattle.feed_runs.specs.declared.feed_end.FeedEnd.{FeedEnd}
+use Rattle.feed_runs.specs.declared.feed_end.FeedEnd.TheVariants as end_at
 use Rattle.feed_gate.specs.Run.{EndsAt, BreaksAt, IsEnd}
 
 -- nothing more comes
@@ -21,11 +22,6 @@ nothing_more : (s : Supply) → CanCome s [] (is_ended s)
 nothing_more supply.Open = tt
 nothing_more supply.Ended = (refl, refl)
 nothing_more supply.Failed = (refl, refl)
-
-pub ended_supply : (s : Supply) → is_ended s ≡ true → s ≡ supply.Ended
-ended_supply supply.Open h = absurd (false≢true h)
-ended_supply supply.Ended h = refl
-ended_supply supply.Failed h = absurd (false≢true h)
 
 abbrev is_whole : FeedEnd → Bool
 is_whole end_at.End = true

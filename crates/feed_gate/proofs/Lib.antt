@@ -4,7 +4,6 @@ pub mod Feeds
 pub mod OneSet
 pub mod EachSet
 pub mod ManyFeeds
-pub mod Zips
 pub mod Starting
 pub mod Shares
 pub mod Closings

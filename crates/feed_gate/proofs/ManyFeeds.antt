@@ -14,7 +14,7 @@ use Rattle.feed_reader.specs.Answers.{TellsItems, ComesTo}
 use Rattle.feed_gate.specs.declared.fate.Fate.{Fate}
 use Rattle.feed_gate.specs.declared.report.RefusedMessage.{RefusedMessage}
 use Rattle.feed_gate.specs.declared.report.RefusedMessage.TheVariants as refused
-use Rattle.feed_gate.specs.declared.report.FeedEnd.{FeedEnd}
+use Rattle.feed_runs.specs.declared.feed_end.FeedEnd.{FeedEnd}
 use Rattle.feed_gate.specs.declared.report.FeedReport.{FeedReport}
 use Rattle.feed_gate.specs.declared.job.FeedJob.{FeedJob}
 use Rattle.feed_gate.specs.Run.{no_report, Reports, EndsAt}

@@ -27,6 +27,8 @@ front_longer first count xs ys pre before (Some e) None h = tt
 front_longer first count xs ys pre before (Some e) (Some (refused.BadLine line)) h = tt
 front_longer first count xs ys pre before (Some e) (Some (refused.UnknownSet line)) h = tt
 front_longer first count xs ys pre before (Some e) (Some (refused.BadBatch line fault)) h = tt
+front_longer first count xs ys pre before (Some e) (Some (refused.BadTables line fault)) h = tt
+front_longer first count xs ys pre before (Some e) (Some (refused.LongTables line bytes)) h = tt
 front_longer first count xs ys pre before (Some e) (Some (refused.Full line set entries rows)) h =
     record { front = h.front; begins = prefix_trans h.front xs ys h.begins pre; entries = h.entries; rows = h.rows; full = h.full; own = h.own }
 
@@ -105,6 +107,8 @@ moves (Some e) None old new h = enters e old new h
 moves (Some e) (Some (refused.BadLine line)) old new is = rests (Some e) (Some (refused.BadLine line)) old new is refl (λ seen. tt)
 moves (Some e) (Some (refused.UnknownSet line)) old new is = rests (Some e) (Some (refused.UnknownSet line)) old new is refl (λ seen. tt)
 moves (Some e) (Some (refused.BadBatch line fault)) old new is = rests (Some e) (Some (refused.BadBatch line fault)) old new is refl (λ seen. tt)
+moves (Some e) (Some (refused.BadTables line fault)) old new is = rests (Some e) (Some (refused.BadTables line fault)) old new is refl (λ seen. tt)
+moves (Some e) (Some (refused.LongTables line bytes)) old new is = rests (Some e) (Some (refused.LongTables line bytes)) old new is refl (λ seen. tt)
 moves (Some e) (Some (refused.Full line set entries rows)) old new h = finds_full e line set entries rows old new h
 
 -- ---- the messages so far

@@ -4,9 +4,6 @@ use Rattle.std.specs.List.{AllZip}
 use Rattle.std.proofs.lemmas.List.{get_or_at, get_or-drop, map-append, length-map}
 use Rattle.set_core.specs.HeldCell.Entries.{own_of}
 use Rattle.set_core.specs.HeldCell.Seats.{left_seat, right_seat}
-use Rattle.feed_reader.specs.Answers.{fresh}
-use Rattle.feed_reader.specs.MhIo.Lined.{Lined}
-use Rattle.feed_gate.specs.declared.job.FeedJob.{FeedJob}
 use Rattle.feed_gate.specs.Seats.{Cell, Seat}
 use Rattle.feed_gate.specs.Share.{IsUnused, AreRows}
 
@@ -58,22 +55,3 @@ rows_more cells rows row items caller many all here =
     let place : caller ≡ 0 + length (map items rows) = omega (arith, many, length-map rows items) in
     subst (AreRows cells 0) (sym (map-append items rows (row ∷ [])))
     (rows_push cells 0 (map items rows) (items row) all (subst (λ n. AllZip (IsUnused n 1) cells (items row)) place here))
-
--- ---- sources go back
-
-module _ {S : Type 0} where
-  sources_of : (jobs : List (FeedJob S)) → map (λ (l : Lined S). l.source) (map (λ (job : FeedJob S). job.lines) jobs) ≡ map (λ (job : FeedJob S). job.lines.source) jobs
-  sources_of [] = refl
-  sources_of (job ∷ jobs) = ap (λ xs. job.lines.source ∷ xs) (sources_of jobs)
-
-  fresh_sources : (sources : List S) → map (λ (l : Lined S). l.source) (map fresh sources) ≡ sources
-  fresh_sources [] = refl
-  fresh_sources (s ∷ sources) = ap (λ xs. s ∷ xs) (fresh_sources sources)
-
-  -- lines of which nothing was taken have the sources that they were made of
-  pub back_of : (jobs : List (FeedJob S)) (waiting sources : List S) → map (λ job. job.lines) jobs ++ map fresh waiting ≡ map fresh sources → map (λ job. job.lines.source) jobs ++ waiting ≡ sources
-  back_of jobs waiting sources is =
-      ap (λ xs. xs ++ waiting) (sym (sources_of jobs))
-      ∙ ap (λ xs. map (λ (l : Lined S). l.source) (map (λ (job : FeedJob S). job.lines) jobs) ++ xs) (sym (fresh_sources waiting))
-      ∙ sym (map-append (λ (l : Lined S). l.source) (map (λ (job : FeedJob S). job.lines) jobs) (map fresh waiting))
-      ∙ ap (map (λ (l : Lined S). l.source)) is ∙ fresh_sources sources

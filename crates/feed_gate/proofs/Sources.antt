@@ -12,7 +12,7 @@ use Rattle.set_core.specs.HeldCell.declared.entry.Entry.{Entry}
 use Rattle.set_core.specs.declared.event.Event.{Event}
 use Rattle.set_core.specs.declared.reply.Reply.{Reply}
 use Rattle.set_core.specs.Set.{Set}
-use Rattle.feed_reader.specs.Answers.{fresh}
+use Rattle.feed_runs.specs.Untaken.{fresh}
 use Rattle.feed_gate.specs.declared.job.FeedJob.{FeedJob}
 use Rattle.feed_gate.specs.Run.{EndsAt}
 use Rattle.feed_gate.specs.Sets.{AreApart}
@@ -21,8 +21,9 @@ use Rattle.feed_gate.specs.Met.{Met, events_of, events_done, ShowFronts}
 use Rattle.feed_gate.specs.Jobs.{RanOnSet, RanFeed}
 use Rattle.feed_gate.specs.Share.{Starts, IsFor, IsUnused, AreRows, AreCellRows, Holds, Closes, AreKeptIn}
 use Rattle.feed_gate.specs.SetsRun.{IsRun, IsFedBy, RanSource, AllRan, RanOnSets}
-use Rattle.feed_gate.proofs.Zips.{some_at, zip_length, zip_get, zip_at, zip_places}
-use Rattle.feed_gate.proofs.Feeds.{Ended, ended, ended_supply}
+use Rattle.feed_runs.proofs.Zips.{some_at, zip_length, zip_get, zip_at, zip_places}
+use Rattle.feed_runs.proofs.Supplies.{ended_supply}
+use Rattle.feed_gate.proofs.Feeds.{Ended, ended}
 use Rattle.feed_gate.proofs.OneSet.{fronts_longer}
 
 abbrev name_of : Set → List ℕ

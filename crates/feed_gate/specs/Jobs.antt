@@ -9,8 +9,8 @@ use Rattle.set_core.specs.HeldCell.Calls.{IsSameSeat}
 use Rattle.feed_reader.specs.Feed.{Item, line_of}
 use Rattle.feed_reader.specs.Answers.{TellsItems}
 use Rattle.feed_gate.specs.declared.report.RefusedMessage.{RefusedMessage}
-use Rattle.feed_gate.specs.declared.report.FeedEnd.{FeedEnd}
-use Rattle.feed_gate.specs.declared.report.FeedEnd.TheVariants as end_at
+use Rattle.feed_runs.specs.declared.feed_end.FeedEnd.{FeedEnd}
+use Rattle.feed_runs.specs.declared.feed_end.FeedEnd.TheVariants as end_at
 use Rattle.feed_gate.specs.declared.job.FeedJob.{FeedJob}
 use Rattle.feed_gate.specs.Run.{with_answer, EndsAt}
 use Rattle.feed_gate.specs.Seats.{Seat, AllSee, OfEachSet}

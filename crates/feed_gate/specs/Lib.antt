@@ -1,5 +1,6 @@
 pub mod Numbers
 pub mod Calls
+pub mod Blocks
 pub mod Sets
 pub mod Run
 pub mod Fates

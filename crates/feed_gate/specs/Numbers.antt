@@ -8,3 +8,5 @@ refused_number (refused.BadLine line) = 1
 refused_number (refused.UnknownSet line) = 2
 refused_number (refused.BadBatch line fault) = 3
 refused_number (refused.Full line set entries rows) = 4
+refused_number (refused.BadTables line fault) = 5
+refused_number (refused.LongTables line bytes) = 6

@@ -10,8 +10,8 @@ use Rattle.feed_reader.specs.Feed as message
 use Rattle.feed_reader.specs.Feed.{Item, items_of, feed}
 use Rattle.feed_reader.specs.Answers.{ComesTo, ReadsFeed, GoesOn}
 use Rattle.feed_gate.specs.declared.report.RefusedMessage.{RefusedMessage}
-use Rattle.feed_gate.specs.declared.report.FeedEnd.{FeedEnd}
-use Rattle.feed_gate.specs.declared.report.FeedEnd.TheVariants as end_at
+use Rattle.feed_runs.specs.declared.feed_end.FeedEnd.{FeedEnd}
+use Rattle.feed_runs.specs.declared.feed_end.FeedEnd.TheVariants as end_at
 use Rattle.feed_gate.specs.declared.report.FeedReport.{FeedReport}
 
 -- nothing is done yet

@@ -1,18 +1,14 @@
 -- What running feeds side by side on sets does, from each feed's first byte to its end.
-use Rattle.std.specs.Prelude.{◌≡◌, ℕ, ◌+◌, ◌≤◌, List, [], ◌∷◌, length, map, Bool, true}
+use Rattle.std.specs.Prelude.{◌≡◌, ℕ, List, [], length, map, Bool}
 use Rattle.std.specs.List.{AllByRecursion, AllZip}
-use Rattle.std.specs.Io.KnownBytes.{IsAtEnd}
 use Rattle.feed_reader.specs.MhIo.Source.{SourceSeen}
-use Rattle.feed_reader.specs.MhIo.Source as source
-use Rattle.feed_reader.specs.MhIo.Faults.{Rises}
-use Rattle.feed_reader.specs.MhIo.Limits.{most_bytes}
 use Rattle.set_core.specs.HeldCell.declared.entry.Entry.{Entry}
 use Rattle.set_core.specs.HeldCell.Entries.{own_of}
 use Rattle.set_core.specs.declared.event.Event.{Event}
 use Rattle.set_core.specs.declared.reply.Reply.{Reply}
 use Rattle.set_core.specs.Set.{Set, IsSet}
-use Rattle.feed_gate.specs.declared.report.FeedEnd.TheVariants as end_at
 use Rattle.feed_gate.specs.declared.report.FeedReport.{FeedReport}
+use Rattle.feed_runs.specs.Ran.{RanFrom, EachRan}
 use Rattle.feed_gate.specs.Run.{IsEnd}
 use Rattle.feed_gate.specs.Met.{Met, IsMet, refused_of, done_of, events_of, events_done, ShowFronts}
 
@@ -41,25 +37,13 @@ pub record RanOver (feed : ℕ) (taken : List ℕ) (ended : Bool) (sets : List S
   pub each : AllByRecursion (λ s. IsFedBy feed mets s.terms.name s.journal) sets
 
 module _ {S : Type 0} (seen : S → SourceSeen) where
-  -- a source that was run: the bytes that were taken from it are done, all of them where it ended, and they are no more
-  -- than 33,554,433; it failed only where a fault was met
-  pub record RanSource (sets : List Set) (feed : ℕ) (old new : S) (r : FeedReport) : Type 0 where
-    pub taken : List ℕ
-    pub ended : Bool
-    pub takes : source.Takes (seen old) (seen new) taken
-    pub few : length taken ≤ most_bytes + 1
-    pub count : (seen old).faults ≤ (seen new).faults
-    pub named : (seen new).name ≡ (seen old).name
-    pub ran : RanOver feed taken ended sets r
-    pub at_end : ended ≡ true → IsAtEnd (seen new).left
-    pub whole : r.end ≡ end_at.End → ended ≡ true
-    pub failed : r.end ≡ end_at.ReadFault → Rises (seen old).faults (seen new).faults
+  -- a source that was run, by the rule of sets
+  abbrev pub RanSource : List Set → ℕ → S → S → FeedReport → Type 0
+  RanSource sets feed old new r = RanFrom seen (λ taken ended. RanOver feed taken ended sets r) r.end old new
 
   -- each source was run, with its report, as the feed of the next number
   abbrev pub AllRan : List Set → ℕ → List S → List S → List FeedReport → Type 0
-  AllRan sets from [] [] [] = Unit {0}
-  AllRan sets from (old ∷ olds) (new ∷ news) (r ∷ reports) = RanSource sets from old new r × AllRan sets (from + 1) olds news reports
-  AllRan sets from _ _ _ = ⊥
+  AllRan sets from olds news reports = EachRan (RanSource sets) from olds news reports
 
   pub record RanOnSets (old_sets new_sets : List Set) (old new : List S) (reports : List FeedReport) : Type 0 where
     pub sets : AllZip (IsRun (length old)) old_sets new_sets

@@ -1,19 +1,20 @@
 //! What a message comes to, before any set is called.
-ghost use Rattle.std.specs.Prelude.{◌≡◌, ◌≢◌, ◌≤◌, length, IfOk, OnOk};
-ghost use Rattle.crif_reader.specs.declared.fault.CrifFault.TheVariants as crif;
-ghost use Rattle.crif_reader.specs.Reads.{Gives};
+ghost use Rattle.std.specs.Prelude.{◌≡◌, ◌≤◌, false, length, IfOk, OnOk};
+ghost use Rattle.set_core.specs.ParamsFile.Faults.{is_memory as is_param_memory};
 ghost use Rattle.feed_reader.specs.Feed.{Sent};
+ghost use Rattle.feed_gate.specs.Blocks.{Gives, is_batch_memory, is_memory};
 ghost use Rattle.feed_gate.specs.declared.fate.Fate.TheVariants as fate;
 ghost use Rattle.feed_gate.specs.declared.report.RefusedMessage.TheVariants as refused;
-ghost use Rattle.feed_gate.specs.Calls.{set_of, submit_of, event_of};
-ghost use Rattle.feed_gate.specs.Fates.{place_of, fate_of};
+ghost use Rattle.feed_gate.specs.Calls.{set_of, event_of};
+ghost use Rattle.feed_gate.specs.Fates.{place_of, fate_of, refused_block};
 
 use crate::RefusedMessage;
+use crate::block::{BlockFault, submit_of, tables_of};
+use crif_reader::CrifFault;
 use crif_reader::simm_kinds::Name;
-use crif_reader::{CrifFault, read_batch};
-use feed_reader::mh_units::Bytes;
 use feed_reader::{Fed, Message};
 use set_core::Event;
+use set_core::params_file::{ParamFault, ParamTextFault};
 use std::alloc::{AllocError, Global};
 
 /// A call on the set at a place, from 0, of the message that begins in a line.
@@ -54,8 +55,10 @@ fn set_of(message: &Message) -> &Name
     ensures { result.now ≡ set_of message.now }
 {
     match message {
-        Message::Crif { set, .. } | Message::Withdraw { set, .. } | Message::OnSide { set, .. } =>
-            set,
+        Message::Crif { set, .. }
+        | Message::Tables { set, .. }
+        | Message::Withdraw { set, .. }
+        | Message::OnSide { set, .. } => set,
     }
 }
 
@@ -65,32 +68,50 @@ fn find_set(names: &[Name], name: &Name) -> Option<usize>
     names.iter().position(|known| name.cmp(known).is_eq())
 }
 
-/// The event of a message; the fault is that of its block, which is no batch.
-fn event_of(alloc: Global, message: Message) -> Result<Event, CrifFault>
-    ensures { Gives (λ e. e) result (event_of message) }
+/// The event of a message; the fault is that of its block, which is no batch or no tables.
+fn event_of(alloc: Global, message: Message) -> Result<Event, BlockFault>
+    ensures { Gives result (event_of message) }
 {
     match message {
         Message::Crif { block, .. } => submit_of(alloc, &block),
+        Message::Tables { block, .. } => tables_of(alloc, block),
         Message::Withdraw { names, .. } => Ok(Event::Withdraw(names)),
         Message::OnSide { event, .. } => Ok(Event::OnSide(event)),
     }
 }
 
-/// The submit of a block of CRIF records.
-fn submit_of(alloc: Global, block: &Bytes) -> Result<Event, CrifFault>
-    ensures { Gives (λ e. e) result (submit_of block.now) }
+/// Refuses a block for the first fault of its grammar. Want of memory is none of these.
+fn refuse_block(line: u32, fault: BlockFault) -> Result<Fate, AllocError>
+    ensures refused { IfOk result (λ answer. answer ≡ fate.Refused (refused_block line fault)) }
+    ensures read { OnOk result (is_memory fault ≡ false) }
 {
-    let read = read_batch(alloc, block.as_slice())?;
-    Ok(Event::Submit(read.batch))
+    match fault {
+        BlockFault::Batch(fault) => refuse_batch(line, fault),
+        BlockFault::Tables(ParamTextFault::Long { bytes }) => {
+            Ok(Fate::Refused(RefusedMessage::LongTables { line, bytes }))
+        }
+        BlockFault::Tables(ParamTextFault::Param(fault)) => refuse_tables(line, fault),
+    }
 }
 
-/// Refuses a block for the first fault of its records. Want of memory is none of theirs.
-fn refuse_block(line: u32, fault: CrifFault) -> Result<Fate, AllocError>
+/// Refuses a block of CRIF records.
+fn refuse_batch(line: u32, fault: CrifFault) -> Result<Fate, AllocError>
     ensures refused { IfOk result (λ answer. answer ≡ fate.Refused (refused.BadBatch line fault)) }
-    ensures read { OnOk result (fault ≢ crif.Memory) }
+    ensures read { OnOk result (is_batch_memory fault ≡ false) }
 {
     match fault {
         CrifFault::Memory => Err(AllocError),
         _ => Ok(Fate::Refused(RefusedMessage::BadBatch { line, fault })),
+    }
+}
+
+/// Refuses a block of tables.
+fn refuse_tables(line: u32, fault: ParamFault) -> Result<Fate, AllocError>
+    ensures refused { IfOk result (λ answer. answer ≡ fate.Refused (refused.BadTables line fault)) }
+    ensures read { OnOk result (is_param_memory fault ≡ false) }
+{
+    match fault {
+        ParamFault::Memory => Err(AllocError),
+        fault => Ok(Fate::Refused(RefusedMessage::BadTables { line, fault })),
     }
 }

@@ -10,10 +10,11 @@ ghost use Rattle.feed_gate.specs.Jobs.{Takes, Meets, RanFeed};
 
 use crate::fate::fate_of;
 use crate::set_call::make_call;
-use crate::{FeedEnd, FeedJob, FeedReport, Gate, RefusedMessage};
+use crate::{FeedJob, FeedReport, RefusedMessage};
 use crif_reader::simm_kinds::Name;
 use feed_reader::mh_io::Source;
 use feed_reader::{Fed, FeedFault, next_message};
+use feed_runs::{FeedEnd, Gate};
 use set_core::SetState;
 use set_core::held_cell::HeldCell;
 use std::alloc::Global;

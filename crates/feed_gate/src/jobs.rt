@@ -4,10 +4,11 @@ ghost use Rattle.std.specs.List.{AllZip};
 ghost use Rattle.feed_gate.specs.Seats.{AreNamed, AreSeats};
 ghost use Rattle.feed_gate.specs.Jobs.{RanFeed};
 
+use crate::FeedJob;
 use crate::feed::run_feed;
-use crate::{FeedJob, Gate};
 use crif_reader::simm_kinds::Name;
 use feed_reader::mh_io::Source;
+use feed_runs::Gate;
 use set_core::SetState;
 use set_core::held_cell::HeldCell;
 use std::alloc::Global;

@@ -4,10 +4,10 @@
 //! What a feed did is told set by set and by its own entries, whatever the other feeds did.
 #![tactic(auto)]
 
+mod block;
 mod close;
 mod fate;
 mod feed;
-mod gate;
 mod job;
 mod jobs;
 mod report;
@@ -16,10 +16,9 @@ mod sets_run;
 mod share;
 mod start;
 
-pub use gate::{Gate, NoGate};
 pub use job::FeedJob;
 pub use jobs::run_feeds;
-pub use report::{FeedEnd, FeedReport, RefusedMessage};
+pub use report::{FeedReport, RefusedMessage};
 pub use sets_run::{SetsRun, run_on_sets};
 pub use start::make_sets;
 

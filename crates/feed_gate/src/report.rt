@@ -4,10 +4,12 @@ ghost use Rattle.feed_gate.specs.Run.{no_report};
 
 use crif_reader::CrifFault;
 use crif_reader::simm_kinds::Listed;
+use feed_runs::FeedEnd;
+use set_core::params_file::ParamFault;
 use std::alloc::Global;
 
 /// A message that made no call. `line` is the number of its first line, from 1.
-#[derive(Clone, Copy)]
+#[derive(Drop)]
 pub enum RefusedMessage {
     /// It is no message.
     BadLine {
@@ -30,37 +32,32 @@ pub enum RefusedMessage {
         entries: u32,
         rows: u32,
     },
+    /// Its block of tables is no parameter file: the first fault. It is never want of memory, which ends the feed.
+    BadTables {
+        line: u32,
+        fault: ParamFault,
+    },
+    /// Its block of tables has so many bytes, which is more than 1,048,576.
+    LongTables {
+        line: u32,
+        bytes: u64,
+    },
 }
 
 impl RefusedMessage {
     /// The number in printed text.
-    pub fn number(self) -> u8
-        ensures { result ≡ refused_number self }
+    pub fn number(&self) -> u8
+        ensures { result ≡ refused_number self.now }
     {
         match self {
             RefusedMessage::BadLine { .. } => 1,
             RefusedMessage::UnknownSet { .. } => 2,
             RefusedMessage::BadBatch { .. } => 3,
             RefusedMessage::Full { .. } => 4,
+            RefusedMessage::BadTables { .. } => 5,
+            RefusedMessage::LongTables { .. } => 6,
         }
     }
-}
-
-/// How a feed ended. Lines are counted from 1.
-#[derive(Clone, Copy, PartialEq, Eq)]
-pub enum FeedEnd {
-    /// All of it was read.
-    End,
-    /// It ended inside the block that begins at this line.
-    Cut { line: u32 },
-    /// This line is too long.
-    LineLong { line: u32 },
-    /// It has more bytes than are read; so many were taken.
-    TooLong { taken: u64 },
-    /// It couldn't be read to its end.
-    ReadFault,
-    /// Memory ran out in the message that begins in this line, or at this line, which would have been given next.
-    Memory { line: u32 },
 }
 
 /// What became of a feed's messages.

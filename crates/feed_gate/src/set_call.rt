@@ -4,8 +4,9 @@ ghost use Rattle.set_core.specs.HeldCell.Seats.{IsSeatOf};
 ghost use Rattle.feed_gate.specs.Seats.{AreSeats, AllSee, Sees};
 ghost use Rattle.feed_gate.specs.Met.{MayBeFull, CallsSeat, MeetsFate, IsWithin};
 
+use crate::RefusedMessage;
 use crate::fate::{Call, Fate};
-use crate::{Gate, RefusedMessage};
+use feed_runs::Gate;
 use set_core::SetState;
 use set_core::held_cell::{HeldCell, Outcome, Seat};
 use std::alloc::AllocError;

@@ -1,17 +1,18 @@
 //! Feeds from their first byte to their end, on sets that they share.
-ghost use Rattle.std.specs.Prelude.{◌≡◌, ◌+◌, ◌<◌, ◌≤◌, [], ◌++◌, length, map, All, IfOk, IfErr};
+ghost use Rattle.std.specs.Prelude.{◌≡◌, ◌<◌, ◌≤◌, [], length, map, All, IfOk, IfErr};
 ghost use Rattle.std.specs.List.{AllZip};
 ghost use Rattle.std.specs.Vec.{vec_len, vec_capacity};
-ghost use Rattle.std.specs.VecDeque.{deque_len, deque_capacity};
-ghost use Rattle.feed_reader.specs.Answers.{fresh};
+ghost use Rattle.std.specs.VecDeque.{deque_capacity};
+ghost use Rattle.feed_runs.specs.Untaken.{fresh};
 ghost use Rattle.feed_gate.specs.Sets.{AreApart};
 ghost use Rattle.feed_gate.specs.Share.{AreCellRows, Closes, AreKeptIn};
 ghost use Rattle.feed_gate.specs.SetsRun.{RanOnSets};
 
 use crate::close::close_sets;
 use crate::share::{Shared, share_sets};
-use crate::{FeedJob, FeedReport, Gate, run_feeds};
-use feed_reader::mh_io::{MemoryBack, Source, lines_of};
+use crate::{FeedJob, FeedReport, run_feeds};
+use feed_reader::mh_io::{MemoryBack, Source};
+use feed_runs::{Gate, lines_of_all};
 use set_core::SetState;
 use set_core::held_cell::{HeldCell, Seat};
 use std::alloc::{AllocError, Global};
@@ -141,41 +142,12 @@ fn make_jobs<S: Source>(
     let Ok(mut jobs) = Vec::with_capacity(alloc, sources.len()) else {
         return Err(MemoryBack { back: sources });
     };
-    let mut waiting = VecDeque::from_vec(sources);
+    let mut waiting = VecDeque::from_vec(lines_of_all(alloc, sources)?);
     let mut rows_left = VecDeque::from_vec(rows);
-    while let Some(source) = waiting.pop_front() {
-        match lines_of(alloc, source) {
-            Ok(lines) => {
-                let number = jobs.len() as u32;
-                let row = rows_left.pop_front().unwrap();
-                jobs.push_reserved(FeedJob::new(alloc, number, lines, row));
-            }
-            Err(memory) => {
-                waiting.push_front_reserved(memory.back);
-                return Err(MemoryBack {
-                    back: hand_back(waiting, jobs),
-                });
-            }
-        }
+    while let Some(lines) = waiting.pop_front() {
+        let number = jobs.len() as u32;
+        let row = rows_left.pop_front().unwrap();
+        jobs.push_reserved(FeedJob::new(alloc, number, lines, row));
     }
     Ok(jobs)
-}
-
-/// Hands the sources of jobs that weren't run back, before those that have no job yet.
-fn hand_back<S: Source>(waiting: VecDeque<S>, jobs: Vec<FeedJob<S>>) -> Vec<S>
-    requires { deque_len waiting + vec_len jobs ≤ deque_capacity waiting }
-    ensures { result.items ≡ map (λ job. job.lines.source) jobs.items ++ waiting.items }
-{
-    let mut sources = waiting;
-    let mut made = jobs;
-    while let Some(job) = made.pop() {
-        let FeedJob {
-            number: _,
-            lines,
-            seats: _,
-            report: _,
-        } = job;
-        sources.push_front_reserved(lines.give_back());
-    }
-    Vec::from(sources)
 }

@@ -1,6 +1,6 @@
 use Rattle.std.proofs.Common.{arith, slice_index_or, subst}
 use Rattle.feed_gate.specs.Jobs.{RanFeed}
-use Rattle.feed_gate.proofs.Zips.{zip_each}
+use Rattle.feed_runs.proofs.Zips.{zip_each}
 use Rattle.feed_gate.proofs.jobs.run_feeds.Goals as goal
 
 pub returns : goal.returns

@@ -1,19 +1,18 @@
 use Rattle.std.proofs.Common.{◌≡◌, ◌+◌, ◌≤◌, ◌++◌, map}
 use Rattle.std.specs.Vec.{vec_len, vec_capacity}
-use Rattle.std.specs.VecDeque.{deque_len, deque_capacity}
-use Rattle.feed_reader.specs.Answers.{fresh}
+use Rattle.std.specs.VecDeque.{deque_len}
+use Rattle.feed_runs.specs.Untaken.{fresh}
 use Rattle.feed_gate.proofs.sets_run.make_jobs.Given as goal
 
--- the sources so far have their jobs, with their rows
-abbrev pub invariant-loop-source : goal.invariant-loop-source
-invariant-loop-source g l = record {
-  lines : map (λ job. job.lines) l.jobs.items ++ map fresh l.waiting.items ≡ map fresh l.fn.sources.items;
+-- the lines so far have their jobs, with their rows
+abbrev pub invariant-loop-lines : goal.invariant-loop-lines
+invariant-loop-lines g l = record {
+  lines : map (λ job. job.lines) l.jobs.items ++ l.waiting.items ≡ map fresh l.fn.sources.items;
   seats : map (λ job. job.seats.items) l.jobs.items ++ map (λ row. row.items) l.rows_left.items ≡ map (λ row. row.items) l.fn.rows.items;
   as_many : deque_len l.rows_left ≡ deque_len l.waiting;
   count : vec_len l.jobs + deque_len l.waiting ≡ vec_len l.fn.sources;
   room : vec_len l.fn.sources ≤ vec_capacity l.jobs;
-  place : vec_len l.fn.sources ≤ deque_capacity l.waiting;
 }
 
-abbrev pub decreases-loop-source : goal.decreases-loop-source
-decreases-loop-source g l = deque_len l.waiting
+abbrev pub decreases-loop-lines : goal.decreases-loop-lines
+decreases-loop-lines g l = deque_len l.waiting

@@ -1,12 +1,12 @@
 use Rattle.std.proofs.Common.{◌≡◌, arith, length, map, drop, sym, ap, ◌∙◌, subst, All}
 use Rattle.std.specs.List.{AllZip}
 use Rattle.std.proofs.lemmas.List.{take_at}
-use Rattle.feed_reader.specs.Answers.{fresh}
+use Rattle.feed_runs.specs.Untaken.{fresh}
 use Rattle.feed_gate.specs.Seats.{AreSeats}
 use Rattle.feed_gate.specs.Jobs.{RanFeed}
 use Rattle.feed_gate.specs.Share.{Starts, AreRows, AreCellRows, AreKeptIn}
 use Rattle.feed_gate.specs.SetsRun.{RanOnSets}
-use Rattle.feed_gate.proofs.Zips.{zip_length, map_lengths}
+use Rattle.feed_runs.proofs.Zips.{zip_length, map_lengths}
 use Rattle.feed_gate.proofs.Sources.{named_of, callers_of, all_seats, rows_after, ran_on_sets}
 use Rattle.feed_gate.proofs.sets_run.run_on_sets.Goals as goal
 

@@ -3,7 +3,7 @@ use Rattle.std.specs.List.{AllZip}
 use Rattle.std.proofs.lemmas.List.{length_push}
 use Rattle.set_core.specs.HeldCell.Seats.{IsSeatOf, right_seat}
 use Rattle.feed_gate.specs.Share.{IsUnused, AreRows}
-use Rattle.feed_gate.proofs.Zips.{zip_weaker}
+use Rattle.feed_runs.proofs.Zips.{zip_weaker}
 use Rattle.feed_gate.proofs.Shares.{left_unused, right_unused, rows_more}
 use Rattle.feed_gate.proofs.share.share_seats.Goals as goal
 

@@ -1,7 +1,7 @@
 use Rattle.std.proofs.Common.{rules, ◌≡◌, [], ◌∷◌, ◌++◌, append_assoc, sym, ap, ◌∙◌, subst}
 use Rattle.std.specs.List.{AllZip}
 use Rattle.feed_gate.specs.Share.{Starts, IsUnused}
-use Rattle.feed_gate.proofs.Zips.{zip_append}
+use Rattle.feed_runs.proofs.Zips.{zip_append}
 use Rattle.feed_gate.proofs.Shares.{taken}
 use Rattle.feed_gate.proofs.share.start_cells.Goals as goal
 

@@ -3,7 +3,7 @@ use Rattle.std.specs.List.{AllZip}
 use Rattle.std.specs.Vec.{vec_len}
 use Rattle.std.proofs.lemmas.List.{nil_from_length}
 use Rattle.feed_gate.specs.Share.{Closes}
-use Rattle.feed_gate.proofs.Zips.{map_lengths}
+use Rattle.feed_runs.proofs.Zips.{map_lengths}
 use Rattle.feed_gate.proofs.sets_run.Room.fill.Goals as goal
 use Rattle.feed_gate.proofs.sets_run.Room.fill.Goals.{In_default}
 
