@@ -1,0 +1,3 @@
+pub mod ManyFields
+pub mod FedLines
+pub mod FedAnswers

@@ -1,0 +1,5 @@
+pub mod Values
+pub mod Requests
+pub mod Items
+pub mod Answers
+pub use Rattle.feed_reader.specs as FeedReader
