@@ -2,3 +2,4 @@ pub mod FileLemmas
 pub mod AfterParamsLemmas
 pub mod KnownFiles
 pub mod PrintLemmas
+pub mod TextLemmas

@@ -4,6 +4,7 @@ pub mod Files
 pub mod Grammars
 pub mod FaultLine
 pub mod Printed
+pub mod Texts
 pub mod Ending
 pub mod AfterParams
 pub mod Complete

@@ -3,6 +3,8 @@ use Rattle.std.specs.Prelude.{ℕ, ◌≡◌, ◌<◌, ◌≤◌, List, length, 
 use Rattle.std.specs.Io.KnownBytes.{append_known}
 use Rattle.mh_io.specs.Faults.{Rises}
 use Rattle.mh_io.specs.Sink.{SinkSeen, BreaksOff}
+use Rattle.command_files.specs.declared.status.Status.{Status}
+use Rattle.command_files.specs.declared.status.Status.TheVariants as status
 
 -- the sink got the whole text
 abbrev pub Got : SinkSeen → SinkSeen → List ℕ → Type 0
@@ -13,6 +15,12 @@ pub record GotFront (old new : SinkSeen) (text : List ℕ) : Type 0 where
   pub put : ℕ
   pub breaks : BreaksOff old new text put
   pub rose : Rises old.faults new.faults
+
+-- what printing a text does, by its status
+abbrev pub Prints : List ℕ → SinkSeen → SinkSeen → Status → Type 0
+Prints text old new status.Done = Got old new text
+Prints text old new status.Write = GotFront old new text
+Prints text old new _ = ⊥
 
 -- the sink got the text, or a front of it where its count of faults rose
 pub record GotLine (old new : SinkSeen) (text : List ℕ) : Type 0 where

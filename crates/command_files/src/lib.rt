@@ -9,11 +9,13 @@ mod fault_line;
 mod file;
 mod printing;
 mod status;
+mod texts;
 mod value_files;
 
 pub use fault::{Fault, FileFault, InputFile};
 pub use fault_line::FaultLine;
 pub use file::read_file;
-pub use printing::{end_at_fault, print_line};
+pub use printing::{end_at_fault, print_line, print_text};
 pub use status::Status;
+pub use texts::{Printed, put_texts};
 pub use value_files::{read_crif_file, read_param_file, read_terms_file};

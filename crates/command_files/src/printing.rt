@@ -1,7 +1,7 @@
 ghost use Rattle.std.specs.Prelude.{◌≡◌, ◌≤◌, ◌++◌};
 ghost use Rattle.fault_text.specs.Fields.{last_field};
 ghost use Rattle.command_files.specs.FaultLine.{line_text};
-ghost use Rattle.command_files.specs.Printed.{GotLine};
+ghost use Rattle.command_files.specs.Printed.{GotLine, Prints};
 ghost use Rattle.command_files.specs.Ending.{status_of, line_of};
 
 use crate::fault::Fault;
@@ -17,6 +17,17 @@ pub fn end_at_fault<K: Sink>(out: &mut K, fault: &Fault) -> Status
 {
     print_line(out, fault.line());
     fault.status()
+}
+
+/// Prints a text: `Done`, or `Write` where the sink fails, which has a front of it then. It takes no memory.
+pub fn print_text<K: Sink>(out: &mut K, text: &[u8]) -> Status
+    ensures count { (K.seen out.old).faults ≤ (K.seen out.new).faults }
+    ensures printed { Prints text.now (K.seen out.old) (K.seen out.new) result }
+{
+    match put_all(out, text) {
+        Ok(()) => Status::Done,
+        Err(_) => Status::Write,
+    }
 }
 
 /// Prints the line of a fault, or a front of it where the sink fails. It takes no memory.

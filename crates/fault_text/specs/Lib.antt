@@ -2,3 +2,4 @@ pub mod Fields
 pub mod ParamsLine
 pub mod TermsLine
 pub mod CrifLine
+pub mod FeedFields

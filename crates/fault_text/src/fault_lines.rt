@@ -83,7 +83,7 @@ pub fn begun_line(alloc: Global, word: &[u8]) -> Result<Text, AllocError>
 }
 
 /// Adds a fault's number and what stands behind it, up to the end of the line.
-fn push_params_fields(line: &mut Text, number: u8, fault: &ParamFault) -> Result<(), AllocError>
+pub fn push_params_fields(line: &mut Text, number: u8, fault: &ParamFault) -> Result<(), AllocError>
     ensures { OnOk result (line.new ≡ line.old ++ params_fields number fault.now) }
 {
     match fault {

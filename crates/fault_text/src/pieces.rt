@@ -41,7 +41,14 @@ pub fn push_last_number<N: Integer>(text: &mut Text, number: N) -> Result<(), Al
 pub fn push_amount(text: &mut Text, cents: i64) -> Result<(), AllocError>
     ensures { OnOk result (text.new ≡ text.old ++ field (money_text cents)) }
 {
-    push_cents(text, Cents(i128::from(cents)))?;
+    push_sum(text, i128::from(cents))
+}
+
+/// Adds an amount, in cents, that may be a sum of many, as a field that another follows.
+pub fn push_sum(text: &mut Text, cents: i128) -> Result<(), AllocError>
+    ensures { OnOk result (text.new ≡ text.old ++ field (money_text cents)) }
+{
+    push_cents(text, Cents(cents))?;
     text.push(b'\t')
 }
 

@@ -1,1 +1,4 @@
 pub mod SourceLemmas
+pub mod LongLines
+pub mod FedLemmas
+pub mod EndLemmas

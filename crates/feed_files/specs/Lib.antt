@@ -1,2 +1,4 @@
 pub mod Sources
 pub mod Unrun
+pub mod Ends
+pub mod Fed
