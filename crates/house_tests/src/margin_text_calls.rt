@@ -1,4 +1,5 @@
-use feed_gate::{FeedEnd, FeedReport};
+use feed_gate::FeedReport;
+use feed_runs::FeedEnd;
 use margin_text::push_report;
 use mh_units::Text;
 use simm_kinds::Listed;

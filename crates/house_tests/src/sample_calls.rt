@@ -1,5 +1,5 @@
 use command_files::Status;
-use feed_gate::Gate;
+use feed_runs::Gate;
 use margin_sample::{SamplePlan, sample};
 use mh_io::MemSink;
 use std::alloc::AllocError;

@@ -46,7 +46,7 @@ same_trades pn cn old new out_old out_new w bytes trades whole read =
     one_batch (crif_of w.crif_bytes) trades w.trades (subst (λ b. GivesTrades b trades) same read) w.crif_read
 
 -- no fault comes but want of memory
-only_memory : (pn cn : List ℕ) (old new : FolderSeen) (out_old out_new : SinkSeen)
+pub only_memory : (pn cn : List ℕ) (old new : FolderSeen) (out_old out_new : SinkSeen)
     → IsWell pn cn old new out_old out_new → (f : Fault) → CalcCause pn cn old new f → status_of f ≡ status.Memory
 only_memory pn cn old new out_old out_new w (fault.OfFile input.Params name f) h =
     ap (λ e. status_of (fault.OfFile input.Params name e))

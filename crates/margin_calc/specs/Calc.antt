@@ -1,5 +1,5 @@
 -- What a margin calculation does: for each status what happened, and what was printed.
-use Rattle.std.specs.Prelude.{ℕ, ◌≡◌, List, None, ◌⊎◌, Result, Ok, Err, codes}
+use Rattle.std.specs.Prelude.{ℕ, ◌≡◌, List, None, Some, ◌⊎◌, Result, Ok, Err, codes}
 use Rattle.mh_io.specs.Folder.{FolderSeen}
 use Rattle.mh_io.specs.Sink.{SinkSeen}
 use Rattle.simm_kinds.specs.declared.row.TradeRows.{TradeRows}
@@ -8,12 +8,14 @@ use Rattle.simm_rules.specs.declared.values.Breakdown.{Breakdown}
 use Rattle.simm_rules.specs.Params.{Params}
 use Rattle.simm_rules.specs.Simm.{simm}
 use Rattle.simm_rules.specs.Range.{range}
+use Rattle.set_core.specs.BucketCache.declared.fault.BookFault.{BookFault}
+use Rattle.set_core.specs.BucketCache.declared.fault.BookFault.TheVariants as book
 use Rattle.set_core.specs.BucketCache.Live.{first_unadmitted}
 use Rattle.set_core.specs.declared.refusal.Refusal.{Refusal}
 use Rattle.set_core.specs.declared.reply.Reply.TheVariants as reply
 use Rattle.set_core.specs.Answer.{if_admitted}
-use Rattle.margin_text.specs.Margins.{margin_text}
-use Rattle.margin_text.specs.RefusalLine.{refusal_fault}
+use Rattle.breakdown_text.specs.Margins.{margin_text}
+use Rattle.margin_calc.specs.RefusalLine.{refusal_fault}
 use Rattle.command_files.specs.declared.status.Status.{Status}
 use Rattle.command_files.specs.declared.status.Status.TheVariants as status
 use Rattle.command_files.specs.declared.fault.InputFile.TheVariants as input
@@ -24,6 +26,7 @@ use Rattle.command_files.specs.Grammars.{RefusesParams, GivesTrades, RefusesTrad
 use Rattle.command_files.specs.Printed.{Got, GotFront}
 use Rattle.command_files.specs.Ending.{EndsAtFault}
 use Rattle.command_files.specs.AfterParams.{HasParams, FailsAfterParams}
+use Rattle.margin_calc.specs.declared.files.CalcInput.{CalcInput}
 
 -- both files were read whole; the one has these parameters, the other these trades
 pub record HasBoth (params_name crif_name : List ℕ) (old new : FolderSeen) (p : Params) (trades : List TradeRows) : Type 0 where
@@ -61,10 +64,24 @@ TellsRefusal why (fault.OfFile file name f) = ⊥
 TellsRefusal why (fault.Refused line) = line ≡ refusal_fault why
 TellsRefusal why fault.Memory = Unit {0}
 
--- what a batch comes to under the parameters: its margin, a refusal, or no memory
+-- a batch has no margin under the parameters: it is refused, with the line of the refusal, or memory ran out
+abbrev pub BatchFails : Params → List TradeRows → Fault → Type 0
+BatchFails p trades f = (f ≡ fault.Memory) ⊎ ((why : Refusal) × (if_admitted (first_unadmitted p trades) (range p (rows_of trades)) ≡ reply.Refused why) × TellsRefusal why f)
+
+-- what the fault of a batch says of it
+abbrev pub Says : Params → List TradeRows → BookFault → Type 0
+Says p trades (book.BucketUnknown trade row) = first_unadmitted p trades ≡ Some (record { trade = trade; row = row })
+Says p trades (book.Range f) = (first_unadmitted p trades ≡ None) × (range p (rows_of trades) ≡ Some f)
+Says p trades book.Memory = Unit {0}
+
+-- what a batch comes to under the parameters, where it is admitted and in range: something of this kind; or why there is none
+abbrev pub BatchComesTo : {A : Type 0} → (A → Type 0) → Params → List TradeRows → Result A Fault → Type 0
+BatchComesTo IsIts p trades (Ok x) = (first_unadmitted p trades ≡ None) × (range p (rows_of trades) ≡ None) × IsIts x
+BatchComesTo IsIts p trades (Err f) = BatchFails p trades f
+
+-- its margin
 abbrev pub BatchEnds : Params → List TradeRows → Result Breakdown Fault → Type 0
-BatchEnds p trades (Ok b) = (first_unadmitted p trades ≡ None) × (range p (rows_of trades) ≡ None) × (b ≡ simm p (rows_of trades))
-BatchEnds p trades (Err f) = (f ≡ fault.Memory) ⊎ ((why : Refusal) × (if_admitted (first_unadmitted p trades) (range p (rows_of trades)) ≡ reply.Refused why) × TellsRefusal why f)
+BatchEnds p trades result = BatchComesTo (λ b. b ≡ simm p (rows_of trades)) p trades result
 
 -- both files were read, and then memory ran out, for the margin or for the line of a refusal
 pub record IsStarved (params_name crif_name : List ℕ) (old new : FolderSeen) : Type 0 where
@@ -81,6 +98,11 @@ CalcCause params_name crif_name old new (fault.OfFile input.Crif name f) =
 CalcCause params_name crif_name old new (fault.OfFile _ name f) = ⊥
 CalcCause params_name crif_name old new (fault.Refused line) = IsRefused params_name crif_name old new line
 CalcCause params_name crif_name old new fault.Memory = IsStarved params_name crif_name old new
+
+-- what reading both files does: the values of both, or why there are none
+abbrev pub BothEnd : List ℕ → List ℕ → FolderSeen → FolderSeen → Result CalcInput Fault → Type 0
+BothEnd params_name crif_name old new (Ok input) = HasBoth params_name crif_name old new input.params input.batch
+BothEnd params_name crif_name old new (Err f) = CalcCause params_name crif_name old new f
 
 -- what working out a margin does: the margin, or why there is none
 abbrev pub MarginEnds : List ℕ → List ℕ → FolderSeen → FolderSeen → Result Breakdown Fault → Type 0

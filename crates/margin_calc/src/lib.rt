@@ -2,7 +2,12 @@
 #![tactic(auto)]
 
 mod calculation;
+mod files;
 mod margin_of;
 mod printing;
+mod refusal;
+mod refused_batch;
 
 pub use calculation::calc;
+pub use files::{CalcInput, read_both};
+pub use refusal::batch_fault;

@@ -1,8 +1,8 @@
 ghost use Rattle.std.specs.Prelude.{◌≤◌};
 ghost use Rattle.margin_calc.specs.Calc.{MarginPrints};
 
+use breakdown_text::margin_lines;
 use command_files::Status;
-use margin_text::margin_lines;
 use mh_io::{Sink, put_all};
 use simm_rules::Breakdown;
 use std::alloc::Global;

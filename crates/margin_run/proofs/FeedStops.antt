@@ -7,7 +7,7 @@ use Rattle.mh_io.specs.Limits.{most_bytes}
 use Rattle.feed_reader.specs.Line.{is_passed_over, meaning_of, is_end}
 use Rattle.feed_reader.specs.Messages.{block_message}
 use Rattle.feed_reader.specs.Feed.{Sent, FeedStop, FeedRun, Whole, Cut, LineLong, TooLong, Open, no_items, with_items, stop_outside, stop_inside, block_of, block_at, by_meaning, items_of, feed}
-use Rattle.margin_run.proofs.LongLines.{whole_ended, over_long, line_stays_long}
+use Rattle.feed_files.proofs.LongLines.{whole_ended, over_long, line_stays_long}
 
 -- how the lines stop of a feed that stops so
 line_stop : FeedStop → cut.Stop

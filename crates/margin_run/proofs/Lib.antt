@@ -1,6 +1,5 @@
 pub mod RunLemmas
 pub mod FeedLemmas
-pub mod LongLines
 pub mod FeedStops
 pub mod DeskLemmas
 pub mod NoticeLemmas

@@ -8,8 +8,8 @@ use Rattle.mh_io.specs.Limits.{most_bytes}
 use Rattle.feed_reader.specs.Feed as message
 use Rattle.feed_reader.specs.Feed.{Item, FeedRun, feed}
 use Rattle.set_core.specs.Set.{Set}
-use Rattle.feed_gate.specs.declared.report.FeedEnd.{FeedEnd}
-use Rattle.feed_gate.specs.declared.report.FeedEnd.TheVariants as end_at
+use Rattle.feed_runs.specs.declared.feed_end.FeedEnd.{FeedEnd}
+use Rattle.feed_runs.specs.declared.feed_end.FeedEnd.TheVariants as end_at
 use Rattle.feed_gate.specs.declared.report.FeedReport.{FeedReport}
 use Rattle.feed_gate.specs.Run.{IsEnd}
 use Rattle.command_files.specs.declared.status.Status.{Status}
@@ -19,16 +19,18 @@ use Rattle.command_files.specs.declared.fault.FileFault.TheVariants as why
 use Rattle.command_files.specs.declared.fault.Fault.{Fault}
 use Rattle.command_files.specs.declared.fault.Fault.TheVariants as fault
 use Rattle.command_files.specs.Files.{Deeds, no_deeds, with_reading, told_after}
-use Rattle.margin_run.specs.Fed.{IsFed, AllFed}
+use Rattle.feed_files.specs.Ends.{status_of_end}
+use Rattle.margin_run.specs.Fed.{IsFed}
 use Rattle.command_files.specs.Grammars.{RefusesParams, RefusesTerms}
 use Rattle.command_files.specs.Ending.{status_of}
 use Rattle.margin_run.specs.Notices.{notices}
 use Rattle.margin_run.specs.Desks.{Desks}
-use Rattle.margin_run.specs.Run.{HasRun, RunCause, RunLeaves, RunEnds, status_of_end, first_end, end_of}
+use Rattle.margin_run.specs.Run.{HasRun, RunCause, RunLeaves, RunEnds, end_of}
 use Rattle.command_files.specs.Complete.{EndsWell}
 use Rattle.margin_run.specs.Complete.{IsWellFeed, IsWellRun}
 use Rattle.command_files.proofs.FileLemmas.{rises_earlier}
 use Rattle.command_files.proofs.KnownFiles.{same_bytes, front_bytes, only_memory_for, params_taken, terms_taken}
+use Rattle.feed_files.proofs.EndLemmas.{ends_whole, read_failed}
 use Rattle.margin_run.proofs.FeedStops.{not_cut, not_long, not_over}
 use Rattle.margin_run.proofs.DeskLemmas.{none_failed}
 
@@ -56,44 +58,10 @@ fed_whole old new sets feed name r reading t told well fed e =
     let ran = fed.ran in
     whole_end r.end (map (λ m. m.item) ran.mets) reading.taken front.0 well.bytes fed.ended ran.stop front.1 all well.fits well.whole e
 
--- how feeds end that all stop whole
-ends_whole : (old new : FolderSeen) (sets : List Set) (from : ℕ) (names : List (List ℕ)) (reports : List FeedReport) (readings : List Reading) (t : Telling) → old.told ≡ Some t → AllByRecursion (IsWellFeed t) names → AllFed old new sets from names reports readings → status_of_end (end_of reports) ≡ status.Feed → ⊥
-ends_whole old new sets from [] [] [] t told well fed e = cc e
-ends_whole old new sets from (n ∷ names) (r ∷ reports) (reading ∷ readings) t told well fed e = at (ends_whole old new sets (from + 1) names reports readings t told well.1 fed.1) r.end refl e
-  where
-    at : (status_of_end (end_of reports) ≡ status.Feed → ⊥) → (end : FeedEnd) → r.end ≡ end → status_of_end (first_end (end ∷ map (λ x. x.end) reports)) ≡ status.Feed → ⊥
-    at rest end_at.End is h = rest h
-    at rest (end_at.Cut line) is h = fed_whole old new sets from n r reading t told well.0 fed.0 (ap status_of_end is ∙ h)
-    at rest (end_at.LineLong line) is h = fed_whole old new sets from n r reading t told well.0 fed.0 (ap status_of_end is ∙ h)
-    at rest (end_at.TooLong taken) is h = fed_whole old new sets from n r reading t told well.0 fed.0 (ap status_of_end is ∙ h)
-    at rest end_at.ReadFault is h = cc h
-    at rest (end_at.Memory line) is h = cc h
-ends_whole old new sets from [] (r ∷ reports) readings t told well fed e = absurd fed
-ends_whole old new sets from [] [] (reading ∷ readings) t told well fed e = absurd fed
-ends_whole old new sets from (n ∷ names) [] readings t told well fed e = absurd fed
-ends_whole old new sets from (n ∷ names) (r ∷ reports) [] t told well fed e = absurd fed
-
 -- the files stand whatever was done
 well_after : (deeds : Deeds) (t : Telling) (names : List (List ℕ)) → AllByRecursion (IsWellFeed t) names → AllByRecursion (IsWellFeed (told_after deeds t)) names
 well_after deeds t [] well = tt
 well_after deeds t (n ∷ names) well = (record { bytes = (well.0).bytes; there = (well.0).there; fits = (well.0).fits; whole = (well.0).whole }, well_after deeds t names well.1)
-
--- where the first feed that didn't end whole couldn't be read, its source failed
-read_failed : (old new : FolderSeen) (sets : List Set) (from : ℕ) (names : List (List ℕ)) (reports : List FeedReport) (readings : List Reading) → AllFed old new sets from names reports readings → end_of reports ≡ end_at.ReadFault → Rises old.read_faults new.read_faults
-read_failed old new sets from [] [] [] fed e = absurd (cc e)
-read_failed old new sets from (n ∷ names) (r ∷ reports) (reading ∷ readings) fed e = at (read_failed old new sets (from + 1) names reports readings fed.1) r.end refl e
-  where
-    at : (end_of reports ≡ end_at.ReadFault → Rises old.read_faults new.read_faults) → (end : FeedEnd) → r.end ≡ end → first_end (end ∷ map (λ x. x.end) reports) ≡ end_at.ReadFault → Rises old.read_faults new.read_faults
-    at rest end_at.End is h = rest h
-    at rest (end_at.Cut line) is h = absurd (cc h)
-    at rest (end_at.LineLong line) is h = absurd (cc h)
-    at rest (end_at.TooLong taken) is h = absurd (cc h)
-    at rest end_at.ReadFault is h = (fed.0.failed is).1
-    at rest (end_at.Memory line) is h = absurd (cc h)
-read_failed old new sets from [] (r ∷ reports) readings fed e = absurd fed
-read_failed old new sets from [] [] (reading ∷ readings) fed e = absurd fed
-read_failed old new sets from (n ∷ names) [] readings fed e = absurd fed
-read_failed old new sets from (n ∷ names) (r ∷ reports) [] fed e = absurd fed
 
 module _ {B : Type 0} {pn tn : List ℕ} {fns : List (List ℕ)} {old new : FolderSeen} {out_old out_new : SinkSeen} {d : Desks B}
     (w : IsWellRun pn tn fns old new out_old out_new d) where
@@ -128,7 +96,9 @@ module _ {B : Type 0} {pn tn : List ℕ} {fns : List (List ℕ)} {old new : Fold
       let deeds = with_reading (with_reading no_deeds pn read.param_bytes read.param_faults) tn read.terms_bytes read.terms_faults in
       let told : (h.mid).told ≡ Some (told_after deeds w.t) = read.did ∙ ap (option_map (told_after deeds)) w.told in
       let fed = h.fed in
-      ends_whole h.mid new sets 0 fns reports fed.readings (told_after deeds w.t) told (well_after deeds w.t fns w.feeds) fed.feeds e
+      ends_whole (λ r. r.end) (IsFed h.mid new sets) (IsWellFeed (told_after deeds w.t))
+      (λ feed name r reading one well. fed_whole h.mid new sets feed name r reading (told_after deeds w.t) told well one)
+      0 fns reports fed.readings (well_after deeds w.t fns w.feeds) fed.feeds e
 
   -- what a run that reached its feeds leaves
   leaves_well : (sets : List Set) (reports : List FeedReport) (s : Status) → HasRun pn tn fns old new sets reports
@@ -139,7 +109,7 @@ module _ {B : Type 0} {pn tn : List ℕ} {fns : List (List ℕ)} {old new : Fold
   leaves_well sets reports status.Feed run h = absurd (to_the_end sets reports run h.0)
   leaves_well sets reports status.Read run h =
       let fed = run.fed in
-      let failed = read_failed run.mid new sets 0 fns reports fed.readings fed.feeds h.0 in
+      let failed = read_failed (λ r. r.end) (IsFed run.mid new sets) (Rises (run.mid).read_faults new.read_faults) (λ feed name r reading one is. (one.failed is).1) 0 fns reports fed.readings fed.feeds h.0 in
       absurd (w.reads_stood (rises_earlier old.read_faults (run.mid).read_faults new.read_faults (run.inputs).reads failed))
   leaves_well sets reports status.Desk run h =
       let one = h.2 in

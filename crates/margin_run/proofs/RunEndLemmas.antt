@@ -5,36 +5,24 @@ use Rattle.std.proofs.lemmas.List.{take_all}
 use Rattle.std.proofs.lemmas.Bool.Decides.{nat_tests}
 use Rattle.mh_io.specs.Sink.{SinkSeen}
 use Rattle.set_core.specs.Set.{Set}
-use Rattle.feed_gate.specs.declared.report.FeedEnd.{FeedEnd}
-use Rattle.feed_gate.specs.declared.report.FeedEnd.TheVariants as end_at
+use Rattle.feed_runs.specs.declared.feed_end.FeedEnd.{FeedEnd}
+use Rattle.feed_runs.specs.declared.feed_end.FeedEnd.TheVariants as end_at
 use Rattle.feed_gate.specs.declared.report.FeedReport.{FeedReport}
 use Rattle.call_desk.specs.declared.publishing.Published.{Published}
 use Rattle.call_desk.specs.Publish.{Outcome, Publishes}
 use Rattle.command_files.specs.declared.status.Status.{Status}
 use Rattle.command_files.specs.declared.status.Status.TheVariants as status
-use Rattle.margin_run.specs.declared.run_printing.Printed.{Printed}
-use Rattle.margin_run.specs.declared.run_printing.Printed.TheVariants as printed
-use Rattle.command_files.specs.Printed.{Got, GotLine}
+use Rattle.command_files.specs.declared.texts.Printed.{Printed}
+use Rattle.command_files.specs.declared.texts.Printed.TheVariants as printed
+use Rattle.command_files.specs.Printed.{Got}
+use Rattle.command_files.specs.Texts.{TextGoes}
 use Rattle.margin_run.specs.Notices.{notices}
 use Rattle.margin_run.specs.Desks.{Desks}
-use Rattle.margin_run.specs.Run.{run_text, status_of_end, end_of, RunLeaves}
-use Rattle.margin_run.specs.RunStages.{TextGoes, status_at_end}
+use Rattle.feed_files.specs.Ends.{status_of_end}
+use Rattle.margin_run.specs.Run.{run_text, end_of, RunLeaves}
+use Rattle.margin_run.specs.RunStages.{status_at_end}
+use Rattle.command_files.proofs.TextLemmas.{line_of}
 use Rattle.margin_run.proofs.DeskLemmas.{told, one_failed, one_wanted, all_stay}
-
--- all of the text went out, or a front of it where the sink failed
-pub line_of : (text : List ℕ) (old new : SinkSeen) (p : Printed) → TextGoes text old new p → GotLine old new text
-line_of text old new printed.Whole got = record {
-  put = length text;
-  front = got ∙ ap (append_known old.holds) (sym (take_all (length text) text (omega arith)));
-  within = omega arith;
-  cut = λ short. absurd (omega (arith, short));
-}
-line_of text old new printed.Cut front = record {
-  put = front.put;
-  front = (front.breaks).front;
-  within = let short = (front.breaks).short in omega arith;
-  cut = λ _. front.rose;
-}
 
 module _ {B : Type 0} (sets : List Set) (reports : List FeedReport) (old new : SinkSeen) (d : Desks B) (published : Published) (outcomes : List (Outcome B))
     (h : Publishes d.seen (notices sets) d.before d.after d.retired_before d.retired published outcomes) where

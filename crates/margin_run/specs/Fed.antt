@@ -1,34 +1,23 @@
 -- The feeds of a run: they are found in the order of the words, run, and handed back in that order.
-use Rattle.std.specs.Prelude.{ℕ, ◌≡◌, ◌+◌, ◌<◌, ◌≤◌, List, [], ◌∷◌, ◌++◌, length, Bool, true, Some, IfSome}
+use Rattle.std.specs.Prelude.{ℕ, List, length}
 use Rattle.std.specs.List.{AllZip}
-use Rattle.mh_io.specs.Faults.{Rises}
-use Rattle.mh_io.specs.Folder.{Reading, FolderSeen, file_of}
-use Rattle.mh_io.specs.Limits.{most_bytes}
+use Rattle.mh_io.specs.Folder.{Reading, FolderSeen}
 use Rattle.set_core.specs.Set.{Set}
-use Rattle.feed_gate.specs.declared.report.FeedEnd.TheVariants as end_at
 use Rattle.feed_gate.specs.declared.report.FeedReport.{FeedReport}
 use Rattle.feed_gate.specs.SetsRun.{IsRun, RanOver}
 use Rattle.command_files.specs.Files.{Did}
+use Rattle.feed_files.specs.Fed as file
+use Rattle.feed_files.specs.Fed.{EachFed}
 
--- The feed of this number and name was run: so much of it was taken, at most 33,554,433 bytes, and all of it where it ended.
--- What became of its items is the written rule (*RanOver*): the journal of each set holds its calls on that set, in its
--- order, whatever the other feeds did.
-pub record IsFed (old new : FolderSeen) (sets : List Set) (feed : ℕ) (name : List ℕ) (r : FeedReport) (reading : Reading) : Type 0 where
-  pub ended : Bool
-  pub named : reading.name ≡ name
-  pub few : length reading.taken ≤ most_bytes + 1
-  pub front : IfSome old.told (λ t. (rest : List ℕ) × (file_of t.files name ≡ Some (reading.taken ++ rest)))
-  pub all : ended ≡ true → IfSome old.told (λ t. file_of t.files name ≡ Some reading.taken)
-  pub ran : RanOver feed reading.taken ended sets r
-  pub whole : r.end ≡ end_at.End → ended ≡ true
-  pub failed : r.end ≡ end_at.ReadFault → (0 < reading.faults) × Rises old.read_faults new.read_faults
+-- The feed of this number and name was run: so much of it was taken, and all of it where it ended (*IsFed*). What became of its
+-- items is the written rule (*RanOver*): the journal of each set holds its calls on that set, in its order, whatever the other
+-- feeds did.
+abbrev pub IsFed : FolderSeen → FolderSeen → List Set → ℕ → List ℕ → FeedReport → Reading → Type 0
+IsFed old new sets feed name r reading = file.IsFed old new name (λ taken ended. RanOver feed taken ended sets r) r.end reading
 
 -- the feeds of these names from this number on
 abbrev pub AllFed : FolderSeen → FolderSeen → List Set → ℕ → List (List ℕ) → List FeedReport → List Reading → Type 0
-AllFed old new sets from [] [] [] = Unit {0}
-AllFed old new sets from (name ∷ names) (r ∷ reports) (reading ∷ readings) =
-    IsFed old new sets from name r reading × AllFed old new sets (from + 1) names reports readings
-AllFed old new sets from _ _ _ = ⊥
+AllFed old new sets from names reports readings = EachFed (IsFed old new sets) from names reports readings
 
 -- All feeds were found, run at the same time, and handed back. Each set has one journal, which is legal: each reply is the
 -- answer of the written rule, from scratch, over the entries before it; and all its entries are of these feeds.

@@ -7,8 +7,8 @@ use Rattle.simm_rules.specs.Params.{Params}
 use Rattle.csa_terms.specs.Grammar.{terms_of}
 use Rattle.csa_terms.specs.Terms.{Agreement}
 use Rattle.set_core.specs.Set.{Set, start}
-use Rattle.feed_gate.specs.declared.report.FeedEnd.{FeedEnd}
-use Rattle.feed_gate.specs.declared.report.FeedEnd.TheVariants as end_at
+use Rattle.feed_runs.specs.declared.feed_end.FeedEnd.{FeedEnd}
+use Rattle.feed_runs.specs.declared.feed_end.FeedEnd.TheVariants as end_at
 use Rattle.feed_gate.specs.declared.report.FeedReport.{FeedReport}
 use Rattle.margin_text.specs.Journal.{journal_text}
 use Rattle.margin_text.specs.Feeds.{feed_text}
@@ -18,6 +18,7 @@ use Rattle.command_files.specs.declared.fault.InputFile.TheVariants as input
 use Rattle.command_files.specs.declared.fault.Fault.{Fault}
 use Rattle.command_files.specs.declared.fault.Fault.TheVariants as fault
 use Rattle.command_files.specs.Files.{no_deeds, with_reading, Did, IsWhole, NoValue}
+use Rattle.feed_files.specs.Ends.{status_of_end, first_end}
 use Rattle.feed_files.specs.Unrun.{FeedsFail}
 use Rattle.margin_run.specs.Fed.{AreFed}
 use Rattle.command_files.specs.Grammars.{RefusesParams, RefusesTerms}
@@ -64,11 +65,6 @@ run_text sets reports =
     ++ feeds_text 0 (map (λ s. s.terms.name) sets) reports
 
 -- how the first feed ended that didn't end whole, or that all did
-abbrev pub first_end : List FeedEnd → FeedEnd
-first_end [] = end_at.End
-first_end (end_at.End ∷ ends) = first_end ends
-first_end (end ∷ ends) = end
-
 abbrev pub end_of : List FeedReport → FeedEnd
 end_of reports = first_end (map (λ r. r.end) reports)
 
@@ -94,15 +90,6 @@ RunCause params_name terms_name feed_names old new (fault.Refused line) = ⊥
 RunCause params_name terms_name feed_names old new fault.Memory = RunFails params_name terms_name feed_names old new fault.Memory
 
 -- ---- the ends of a run, by its status
-
--- the status of a feed's end where all is printed
-abbrev pub status_of_end : FeedEnd → Status
-status_of_end end_at.End = status.Done
-status_of_end (end_at.Cut line) = status.Feed
-status_of_end (end_at.LineLong line) = status.Feed
-status_of_end (end_at.TooLong taken) = status.Feed
-status_of_end end_at.ReadFault = status.Read
-status_of_end (end_at.Memory line) = status.Memory
 
 -- Want of memory at the end: for the text, of which then nothing is printed, or for the notices. No desk was told.
 pub record IsStarvedAtEnd {B : Type 0} (sets : List Set) (reports : List FeedReport) (old new : SinkSeen) (d : Desks B) : Type 0 where

@@ -1,9 +1,8 @@
 -- The stages of a run, each by itself.
 use Rattle.std.specs.Prelude.{ℕ, ◌≡◌, ◌≤◌, List, length, map, Result, Ok, Err, nat_lt, if◌then◌else◌}
 use Rattle.mh_io.specs.Folder.{FolderSeen}
-use Rattle.mh_io.specs.Sink.{SinkSeen}
 use Rattle.set_core.specs.Set.{Set}
-use Rattle.feed_gate.specs.declared.report.FeedEnd.{FeedEnd}
+use Rattle.feed_runs.specs.declared.feed_end.FeedEnd.{FeedEnd}
 use Rattle.call_desk.specs.declared.publishing.Published.{Published}
 use Rattle.command_files.specs.declared.status.Status.{Status}
 use Rattle.command_files.specs.declared.status.Status.TheVariants as status
@@ -11,12 +10,12 @@ use Rattle.margin_run.specs.declared.feeds_run.FeedsRun.{FeedsRun}
 use Rattle.margin_run.specs.declared.run_files.Inputs.{Inputs}
 use Rattle.margin_run.specs.declared.run_files.Outcome.{Outcome}
 use Rattle.command_files.specs.declared.fault.Fault.{Fault}
-use Rattle.margin_run.specs.declared.run_printing.Printed.{Printed}
-use Rattle.margin_run.specs.declared.run_printing.Printed.TheVariants as printed
+use Rattle.command_files.specs.declared.texts.Printed.{Printed}
+use Rattle.command_files.specs.declared.texts.Printed.TheVariants as printed
+use Rattle.feed_files.specs.Ends.{status_of_end}
 use Rattle.feed_files.specs.Unrun.{FeedsFail}
 use Rattle.margin_run.specs.Fed.{AreFed}
-use Rattle.command_files.specs.Printed.{Got, GotFront}
-use Rattle.margin_run.specs.Run.{HasInputs, HasRun, RunCause, status_of_end}
+use Rattle.margin_run.specs.Run.{HasInputs, HasRun, RunCause}
 
 -- what running the feeds does
 abbrev pub FeedsEnd : FolderSeen → FolderSeen → List (List ℕ) → List Set → Result FeedsRun Fault → Type 0
@@ -34,11 +33,6 @@ RunFilesEnd params_name terms_name feed_names old new (Ok run) =
     HasRun params_name terms_name feed_names old new run.sets.items run.reports.items
     × (run.terms ≡ map (λ s. s.terms) run.sets.items) × (length run.sets.items ≤ 16)
 RunFilesEnd params_name terms_name feed_names old new (Err f) = RunCause params_name terms_name feed_names old new f
-
--- what putting the text out does
-abbrev pub TextGoes : List ℕ → SinkSeen → SinkSeen → Printed → Type 0
-TextGoes text old new printed.Whole = Got old new text
-TextGoes text old new printed.Cut = GotFront old new text
 
 -- the status of desks that were told
 abbrev pub status_of_desks : Published → Status

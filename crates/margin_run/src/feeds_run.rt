@@ -7,7 +7,8 @@ ghost use Rattle.margin_run.specs.RunStages.{FeedsEnd};
 
 use command_files::Fault;
 use feed_files::{find_feeds, take_all_back};
-use feed_gate::{FeedReport, Gate, SetsRun, run_on_sets};
+use feed_gate::{FeedReport, SetsRun, run_on_sets};
+use feed_runs::Gate;
 use mh_io::Folder;
 use set_core::SetState;
 use std::alloc::Global;

@@ -2,30 +2,20 @@
 ghost use Rattle.std.specs.Prelude.{◌≡◌, ◌<◌, ◌≤◌, ◌^◌, map, length};
 ghost use Rattle.std.specs.Vec.{vec_len};
 ghost use Rattle.margin_run.specs.Desks.{desks_of};
-ghost use Rattle.margin_run.specs.Run.{status_of_end, end_of, RunLeaves};
+ghost use Rattle.margin_run.specs.Run.{end_of, RunLeaves};
 ghost use Rattle.margin_run.specs.RunStages.{status_of_desks, status_at_end};
 
 use crate::run_files::Outcome;
-use crate::run_printing::{Printed, print_run};
+use crate::run_printing::print_run;
 use crate::telling::tell_desks;
 use call_desk::{Desk, Published};
-use command_files::Status;
-use feed_gate::{FeedEnd, FeedReport};
+use command_files::{Printed, Status};
+use feed_files::status_of_end;
+use feed_gate::FeedReport;
+use feed_runs::FeedEnd;
 use mh_io::Sink;
 use std::alloc::Global;
 use std::thread::Threads;
-
-/// The status of a feed's end.
-fn status_of_end(end: FeedEnd) -> Status
-    ensures { result ≡ status_of_end end }
-{
-    match end {
-        FeedEnd::End => Status::Done,
-        FeedEnd::Cut { .. } | FeedEnd::LineLong { .. } | FeedEnd::TooLong { .. } => Status::Feed,
-        FeedEnd::ReadFault => Status::Read,
-        FeedEnd::Memory { .. } => Status::Memory,
-    }
-}
 
 /// How the first feed ended that didn't end whole, or that all did.
 fn end_of(reports: &[FeedReport]) -> FeedEnd

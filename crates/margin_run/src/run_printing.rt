@@ -2,14 +2,15 @@
 ghost use Rattle.std.specs.Prelude.{◌≡◌, ◌<◌, ◌≤◌, ◌++◌, length, map, slice_index_or, Ok, IfOk, OnOk, OnErr};
 ghost use Rattle.std.specs.List.{flat_map};
 ghost use Rattle.set_core.specs.Set.{Set};
+ghost use Rattle.command_files.specs.Texts.{TextGoes};
 ghost use Rattle.margin_run.specs.Run.{journal_of, feeds_text, run_text};
-ghost use Rattle.margin_run.specs.RunStages.{TextGoes};
 
 use crate::run_files::Outcome;
+use command_files::{Printed, put_texts};
 use csa_terms::SetTerms;
 use feed_gate::FeedReport;
 use margin_text::{journal_text, push_report};
-use mh_io::{Sink, put_all};
+use mh_io::Sink;
 use mh_units::Text;
 use set_core::SetState;
 use std::alloc::{AllocError, Global};
@@ -87,28 +88,6 @@ fn outcome_texts<R: Threads + Sync>(
     push_reports(&mut reports, run.terms.sets(), &run.reports)?;
     texts.push(reports)?;
     Ok(texts)
-}
-
-/// How the text of a run went out.
-#[derive(Clone, Copy)]
-pub(crate) enum Printed {
-    /// All of it did.
-    Whole,
-    /// A front of it did, and then the sink failed.
-    Cut,
-}
-
-/// Puts texts out, one after another.
-fn put_texts<K: Sink>(out: &mut K, texts: &[Text]) -> Printed
-    ensures count { (K.seen out.old).faults ≤ (K.seen out.new).faults }
-    ensures goes { TextGoes (flat_map (λ t. t) texts.now) (K.seen out.old) (K.seen out.new) result }
-{
-    for text in texts {
-        if put_all(out, text.as_slice()).is_err() {
-            return Printed::Cut;
-        }
-    }
-    Printed::Whole
 }
 
 /// Prints a run, whose journals are made at the same time.

@@ -11,7 +11,7 @@ use crate::run_ending::end_run;
 use crate::run_files::{RunFiles, run_files};
 use call_desk::Desk;
 use command_files::{Status, end_at_fault};
-use feed_gate::Gate;
+use feed_runs::Gate;
 use mh_io::{Folder, Sink};
 use std::alloc::Global;
 use std::sync::Wait;

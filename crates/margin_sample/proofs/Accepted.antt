@@ -16,7 +16,7 @@ use Rattle.set_core.specs.declared.event.Event.{Event}
 use Rattle.set_core.specs.declared.event.Event.TheVariants as event
 use Rattle.set_core.specs.declared.reply.Reply.{Reply}
 use Rattle.set_core.specs.declared.reply.Reply.TheVariants as reply
-use Rattle.set_core.specs.Answer.{if_admitted, book_with, answer, IsLegal}
+use Rattle.set_core.specs.Answer.{if_admitted, book_with, answer_by, IsLegal}
 use Rattle.set_core.specs.Book.{Silent, is_accepted, word, trades_of_event, accepted_trades, book}
 use Rattle.set_core.specs.Kept.{AreDifferent}
 use Rattle.set_core.proofs.Books.{book-submitted, book-silent}
@@ -26,7 +26,7 @@ use Rattle.house_sample.specs.Trades.{rows_from, row_from}
 use Rattle.house_sample.proofs.InRange.{IsDrawn, drawn_in_range}
 use Rattle.house_sample.proofs.AllTrades.{same_trade}
 use Rattle.margin_sample.specs.Sets.{IsTaken}
-use Rattle.margin_sample.proofs.Journals.{Log, IsCall, trades_in}
+use Rattle.margin_sample.proofs.Journals.{Log, IsCall, same_tables, trades_in}
 
 -- ---- trades of different names
 
@@ -74,7 +74,7 @@ module _ (t : Agreement) (before : Log) (is : book before ≡ trades_in before) 
       book-submitted before caller (u ∷ []) (refl, tt) (subst AreDifferent (sym is) different)
       ∙ ap (put_trade u) is ∙ put_last u (trades_in before) new
 
-  submitted : (caller : ℕ) (u : TradeRows) (r : Reply) → r ≡ answer sample_params t before (event.Submit (u ∷ [])) → IsDrawn u → has_trade (trades_in before) u.trade ≡ false → AreDifferent (trades_in before)
+  submitted : (caller : ℕ) (u : TradeRows) (r : Reply) → r ≡ answer_by sample_params t before (event.Submit (u ∷ [])) → IsDrawn u → has_trade (trades_in before) u.trade ≡ false → AreDifferent (trades_in before)
       → AllByRecursion IsDrawn (trades_in before) → length (trades_in before) + 1 ≤ 800 → Next before (entry caller (event.Submit (u ∷ [])) r)
   submitted caller u r right drawn new different all_drawn few =
       let after : List TradeRows = trades_in before ++ u ∷ [] in
@@ -90,16 +90,17 @@ module _ (t : Agreement) (before : Log) (is : book before ≡ trades_in before) 
   silent : (e : Entry Event Reply) → ((name : List ℕ) → word name e ≡ Silent) → accepted_trades e ≡ [] → trades_of_event e.event ≡ [] → book (before ++ e ∷ []) ≡ trades_in before ++ trades_of_event e.event
   silent e says none gives = book-silent before e says none ∙ is ∙ sym (append-nil (trades_in before)) ∙ ap (λ ts. trades_in before ++ ts) (sym gives)
 
-  next : (caller : ℕ) (e : Event) (r : Reply) (after : List TradeRows) → IsCall e → r ≡ answer sample_params t before e → IsDistinct same_trade (trades_in before ++ (trades_of_event e ++ after))
+  next : (caller : ℕ) (e : Event) (r : Reply) (after : List TradeRows) → IsCall e → r ≡ answer_by sample_params t before e → IsDistinct same_trade (trades_in before ++ (trades_of_event e ++ after))
       → AllByRecursion IsDrawn (trades_in before) → length (trades_in before ++ (trades_of_event e ++ after)) ≤ 800 → Next before (entry caller e r)
   next caller (event.Submit trades) r after call right distinct drawn few =
       let same = sym call.is in
       subst (λ ts. Next before (entry caller (event.Submit ts) r)) same
-      (submitted caller call.trade r (subst (λ ts. r ≡ answer sample_params t before (event.Submit ts)) call.is right) call.drawn
+      (submitted caller call.trade r (subst (λ ts. r ≡ answer_by sample_params t before (event.Submit ts)) call.is right) call.drawn
       (fresh (trades_in before) after call.trade (subst (λ ts. IsDistinct same_trade (trades_in before ++ (ts ++ after))) call.is distinct))
       (front_different (trades_in before) (trades ++ after) distinct) drawn
       (omega (arith, few, length-append (trades_in before) (trades ++ after), length-append trades after, ap length call.is)))
   next caller (event.Withdraw names) r after call right distinct drawn few = absurd call
+  next caller (event.Tables text) r after call right distinct drawn few = absurd call
   next caller (event.OnSide e) r after call right distinct drawn few = record {
     taken = tt;
     held = silent (entry caller (event.OnSide e) r) (λ name. no_word (is_accepted r)) (no_trades (is_accepted r)) refl;
@@ -119,30 +120,35 @@ pub record AllTaken (log : Log) : Type 0 where
   pub taken : AllByRecursion IsTaken log
   pub held : book log ≡ trades_in log
 
-module _ (t : Agreement) (log : Log) (legal : IsLegal sample_params t log) where
+module _ (t : Agreement) (log : Log) (legal : IsLegal sample_params t log) (calls : AllByRecursion (λ e. IsCall e.event) log) where
   trades_behind : (before : Log) (e : Entry Event Reply) → trades_in (before ++ e ∷ []) ≡ trades_in before ++ trades_of_event e.event
   trades_behind before e =
       flat_map-append (λ (x : Entry Event Reply). trades_of_event x.event) before (e ∷ []) ∙ ap (λ ts. trades_in before ++ ts) (append-nil (trades_of_event e.event))
 
   -- behind a part of it
-  along : (before after : Log) → log ≡ before ++ after → AllByRecursion (λ e. IsCall e.event) after → AllByRecursion IsTaken before → book before ≡ trades_in before
+  along : (before after : Log) → log ≡ before ++ after → AllByRecursion IsTaken before → book before ≡ trades_in before
       → IsDistinct same_trade (trades_in before ++ trades_in after) → AllByRecursion IsDrawn (trades_in before) → length (trades_in before ++ trades_in after) ≤ 800 → AllTaken log
-  along before [] whole calls taken is distinct drawn few = subst AllTaken (sym (whole ∙ append-nil before)) (record { taken = taken; held = is })
-  along before (e ∷ after) whole calls taken is distinct drawn few =
-      let now = next t before is e.caller e.event e.reply (trades_in after) calls.0 (legal before after e whole) distinct drawn few in
+  along before [] whole taken is distinct drawn few = subst AllTaken (sym (whole ∙ append-nil before)) (record { taken = taken; held = is })
+  along before (e ∷ after) whole taken is distinct drawn few =
+      let parts = each_parts (λ (x : Entry Event Reply). IsCall x.event) before (e ∷ after) (subst (AllByRecursion (λ x. IsCall x.event)) whole calls) in
+      let call : IsCall e.event = parts.1.0 in
+      let right : e.reply ≡ answer_by sample_params t before e.event =
+      legal before after e whole ∙ ap (λ q. answer_by q t before e.event) (same_tables sample_params before parts.0) in
+      let now = next t before is e.caller e.event e.reply (trades_in after) call right distinct drawn few in
       let more = trades_behind before e in
       let rest : trades_in before ++ (trades_of_event e.event ++ trades_in after) ≡ trades_in (before ++ e ∷ []) ++ trades_in after =
       sym (append_assoc (trades_in before) (trades_of_event e.event) (trades_in after)) ∙ ap (λ ts. ts ++ trades_in after) (sym more) in
-      along (before ++ e ∷ []) after (whole ∙ sym (append_assoc before (e ∷ []) after)) calls.1
+      along (before ++ e ∷ []) after (whole ∙ sym (append_assoc before (e ∷ []) after))
       (each_append IsTaken before (e ∷ []) taken (now.taken, tt)) (now.held ∙ sym more)
       (subst (IsDistinct same_trade) rest distinct)
-      (subst (AllByRecursion IsDrawn) (sym more) (each_append IsDrawn (trades_in before) (trades_of_event e.event) drawn (call_drawn e.event calls.0)))
+      (subst (AllByRecursion IsDrawn) (sym more) (each_append IsDrawn (trades_in before) (trades_of_event e.event) drawn (call_drawn e.event call)))
       (subst (λ ts. length ts ≤ 800) rest few)
     where
       call_drawn : (ev : Event) → IsCall ev → AllByRecursion IsDrawn (trades_of_event ev)
       call_drawn (event.Submit trades) call = subst (AllByRecursion IsDrawn) (sym call.is) (call.drawn, tt)
       call_drawn (event.Withdraw names) call = absurd call
+      call_drawn (event.Tables text) call = absurd call
       call_drawn (event.OnSide ev) call = tt
 
-  pub all_taken : AllByRecursion (λ e. IsCall e.event) log → IsDistinct same_trade (trades_in log) → length (trades_in log) ≤ 800 → AllTaken log
-  all_taken calls distinct few = along [] log refl calls tt refl distinct tt few
+  pub all_taken : IsDistinct same_trade (trades_in log) → length (trades_in log) ≤ 800 → AllTaken log
+  all_taken distinct few = along [] log refl tt refl distinct tt few

@@ -1,12 +1,11 @@
 -- The messages of a feed of a sample as calls on its sets.
-use Rattle.std.proofs.Common.{◌≡◌, ◌==◌, ℕ, zero, suc, ◌+◌, ◌*◌, ◌<◌, ◌≤◌, ◌%◌, Bool, true, false, cond, List, [], ◌∷◌, ◌++◌, length, Option, Some, None, Result, Ok, inl, inr, refl, sym, ap, ◌∙◌, subst, arith, codes, if◌then◌else◌}
+use Rattle.std.proofs.Common.{◌≡◌, ◌==◌, ℕ, zero, suc, ◌+◌, ◌*◌, ◌<◌, ◌≤◌, ◌%◌, Bool, true, false, cond, List, [], ◌∷◌, ◌++◌, length, Option, Some, None, Ok, inl, inr, refl, sym, ap, ◌∙◌, subst, arith, codes, if◌then◌else◌}
 use Rattle.std.specs.List.{filter_map, AllByRecursion}
 use Rattle.std.proofs.lemmas.List.Elements.{filter_map-append}
 use Rattle.std.proofs.lemmas.Nat.{mod_below}
 use Rattle.std.proofs.lemmas.Option.{none-some, same_Some}
-use Rattle.std.specs.Result.{result_map_both, result_ok}
-use Rattle.crif_reader.specs.declared.fault.CrifFault.{CrifFault}
-use Rattle.crif_reader.specs.Grammar.{Crif, crif_of}
+use Rattle.std.specs.Result.{result_ok}
+use Rattle.crif_reader.specs.Grammar.{crif_of}
 use Rattle.simm_kinds.specs.declared.row.TradeRows.{TradeRows}
 use Rattle.simm_kinds.specs.Batch.{rows_of}
 use Rattle.simm_kinds.specs.Order.{same_name}
@@ -19,7 +18,7 @@ use Rattle.set_core.specs.declared.event.Event.TheVariants as event
 use Rattle.set_core.specs.Room.{event_rows}
 use Rattle.feed_gate.specs.declared.report.RefusedMessage.{RefusedMessage}
 use Rattle.feed_gate.specs.declared.report.RefusedMessage.TheVariants as refused
-use Rattle.feed_gate.specs.Calls.{call_on}
+use Rattle.feed_gate.specs.Calls.{submit_of, call_on}
 use Rattle.feed_gate.specs.Fates.{by_event}
 use Rattle.feed_gate.specs.Met.{IsMetBy, IsMet}
 use Rattle.house_sample.specs.CrifWriter.Text.{batch_text}
@@ -40,6 +39,8 @@ IsFullAtMost (Some (refused.Full line set entries rows)) = Unit {0}
 IsFullAtMost (Some (refused.BadLine line)) = ⊥
 IsFullAtMost (Some (refused.UnknownSet line)) = ⊥
 IsFullAtMost (Some (refused.BadBatch line fault)) = ⊥
+IsFullAtMost (Some (refused.BadTables line fault)) = ⊥
+IsFullAtMost (Some (refused.LongTables line bytes)) = ⊥
 
 full_at_most : (line place : ℕ) (e : Event) (r : Option RefusedMessage) → IsMetBy (by_event line place (Ok e)) r → IsFullAtMost r
 full_at_most line place e None h = tt
@@ -47,6 +48,8 @@ full_at_most line place e (Some (refused.Full at set entries rows)) h = tt
 full_at_most line place e (Some (refused.BadLine at)) h = h
 full_at_most line place e (Some (refused.UnknownSet at)) h = h
 full_at_most line place e (Some (refused.BadBatch at fault)) h = h
+full_at_most line place e (Some (refused.BadTables at fault)) h = h
+full_at_most line place e (Some (refused.LongTables at bytes)) h = h
 
 -- a message of at most four rows that names one of the sets
 pub record IsCalling (item : Item) : Type 0 where
@@ -79,17 +82,17 @@ module _ (line behind : ℕ) (text : List ℕ) (trades : List TradeRows) (back :
   gives_at place from (inr e) (inl f) = subst (λ k. Gives k from) (sym e) (subst (λ k. Gives 1 k) (sym f) refl)
   gives_at place from (inr e) (inr f) = subst (λ k. Gives k from) (sym e) (subst (λ k. Gives 1 k) (sym f) (rw back refl))
 
-  -- what the block makes of the grammar's answer
-  abbrev submit_at : ℕ → Result Crif CrifFault → Option RefusedMessage → Type 0
-  submit_at place read r = IsMetBy (by_event line place (result_map_both (λ crif. event.Submit crif.trades) (λ fault. fault) read)) r
+  -- the event of the block
+  submits : submit_of text ≡ Ok (event.Submit trades)
+  submits = rw back refl
 
   block_met : (from : ℕ) → IsPlace from → (r : Option RefusedMessage) → IsMet both_names (record { item = Sent (record { line = line; message = message.Crif (set_name from) text }); refused = r }) → IsFullAtMost r
   block_met from (inl e) r h =
       full_at_most line 0 (event.Submit trades) r
-      (subst (λ read. submit_at 0 read r) back (subst (λ k. IsMet both_names (record { item = Sent (record { line = line; message = message.Crif (set_name k) text }); refused = r })) e h))
+      (subst (λ read. IsMetBy (by_event line 0 read) r) submits (subst (λ k. IsMet both_names (record { item = Sent (record { line = line; message = message.Crif (set_name k) text }); refused = r })) e h))
   block_met from (inr e) r h =
       full_at_most line 1 (event.Submit trades) r
-      (subst (λ read. submit_at 1 read r) back (subst (λ k. IsMet both_names (record { item = Sent (record { line = line; message = message.Crif (set_name k) text }); refused = r })) e h))
+      (subst (λ read. IsMetBy (by_event line 1 read) r) submits (subst (λ k. IsMet both_names (record { item = Sent (record { line = line; message = message.Crif (set_name k) text }); refused = r })) e h))
 
   ask_met : (from : ℕ) → IsPlace from → (r : Option RefusedMessage) → IsMet both_names (record { item = Sent (record { line = behind; message = message.OnSide (set_name from) side.AskMargin }); refused = r }) → IsFullAtMost r
   ask_met from (inl e) r h =
@@ -106,7 +109,7 @@ module _ (line behind : ℕ) (text : List ℕ) (trades : List TradeRows) (back :
   block_few : length (rows_of trades) ≤ 4 → (set name : List ℕ) (e : Event) → call_on name (Sent (record { line = line; message = message.Crif set text })) ≡ Some e → event_rows e ≤ 4
   block_few few set name e h =
       where_named (same_name set name) (event.Submit trades) e few
-      (subst (λ read. cond (same_name set name) (result_ok (result_map_both (λ crif. event.Submit crif.trades) (λ fault. fault) read)) None ≡ Some e) back h)
+      (subst (λ read. cond (same_name set name) (result_ok read) None ≡ Some e) submits h)
 
   ask_few : (set name : List ℕ) (e : Event) → call_on name (Sent (record { line = behind; message = message.OnSide set side.AskMargin })) ≡ Some e → event_rows e ≤ 4
   ask_few set name e h = where_named (same_name set name) asks e (omega arith) h

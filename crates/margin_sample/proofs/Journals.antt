@@ -15,12 +15,14 @@ use Rattle.book_range.proofs.Lists.{each_append, each_parts}
 use Rattle.simm_kinds.specs.declared.row.CrifRow.{CrifRow}
 use Rattle.simm_kinds.specs.declared.row.TradeRows.{TradeRows}
 use Rattle.simm_kinds.specs.Batch.{rows_of}
+use Rattle.simm_rules.specs.Params.{Params}
 use Rattle.held_cell.specs.declared.entry.Entry.{Entry}
 use Rattle.held_cell.specs.Entries.{own_of}
 use Rattle.set_core.specs.declared.event.Event.{Event}
 use Rattle.set_core.specs.declared.event.Event.TheVariants as event
 use Rattle.set_core.specs.declared.reply.Reply.{Reply}
-use Rattle.set_core.specs.Book.{trades_of_event}
+use Rattle.set_core.specs.Book.{is_accepted, trades_of_event}
+use Rattle.set_core.specs.Tables.{tables_of_event, tables}
 use Rattle.set_core.specs.Room.{event_rows, journal_rows, IsFull}
 use Rattle.feed_gate.specs.declared.report.RefusedMessage.{RefusedMessage}
 use Rattle.feed_gate.specs.declared.report.RefusedMessage.TheVariants as refused
@@ -83,6 +85,8 @@ module _ (feed : ℕ) (log : Log) (room : HasRoom log) where
   not_full before (Some e) (Some (refused.BadLine line)) few h shows = absurd h
   not_full before (Some e) (Some (refused.UnknownSet line)) few h shows = absurd h
   not_full before (Some e) (Some (refused.BadBatch line fault)) few h shows = absurd h
+  not_full before (Some e) (Some (refused.BadTables line fault)) few h shows = absurd h
+  not_full before (Some e) (Some (refused.LongTables line bytes)) few h shows = absurd h
   not_full before (Some e) (Some (refused.Full line set entries rows)) few h shows = absurd (room shows.front shows.begins e (few e refl) shows.full)
 
   all_done : (name : List ℕ) (before : List Event) (mets : List Met) → AllByRecursion IsCalling (map (λ m. m.item) mets) → AllByRecursion (IsMet both_names) mets → ShowFronts feed 1 log name before mets
@@ -144,6 +148,7 @@ pub record IsOneDrawn (trades : List TradeRows) : Type 0 where
 abbrev pub IsCall : Event → Type 0
 IsCall (event.Submit trades) = IsOneDrawn trades
 IsCall (event.Withdraw names) = ⊥
+IsCall (event.Tables text) = ⊥
 IsCall (event.OnSide e) = Unit {0}
 
 feed_known : (seed feed place n : ℕ) → AllByRecursion IsCall (calls_to seed feed place n)
@@ -154,6 +159,18 @@ feed_known seed feed place (suc n) = each_append IsCall (calls_to seed feed plac
     new : (t : Bool) → AllByRecursion IsCall (cond t (calls_at seed feed n) [])
     new true = (record { trade = record { trade = trade_name feed n; rows = rows_from (state_at seed feed n) }; is = refl; drawn = record { state = state_at seed feed n; rows = refl } }, (tt, tt))
     new false = tt
+
+-- none of them brings tables
+pub same_tables : (p : Params) (log : Log) → AllByRecursion (λ e. IsCall e.event) log → tables p log ≡ p
+same_tables p [] calls = refl
+same_tables p (e ∷ log) calls = ap (λ q. tables q log) (stands e.event (is_accepted e.reply) calls.0) ∙ same_tables p log calls.1
+  where
+    stands : (event : Event) (accepted : Bool) → IsCall event → cond accepted (tables_of_event p event) p ≡ p
+    stands (event.Submit trades) true call = refl
+    stands (event.Withdraw names) true call = absurd call
+    stands (event.Tables text) true call = absurd call
+    stands (event.OnSide e) true call = refl
+    stands e false call = refl
 
 -- ---- the trades of a journal
 

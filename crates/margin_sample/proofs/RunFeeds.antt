@@ -8,8 +8,8 @@ use Rattle.mh_io.specs.Source.{Takes}
 use Rattle.feed_reader.specs.Feed.{Whole, FeedRun, feed}
 use Rattle.feed_reader.specs.CsaTerms.Terms.{Agreement}
 use Rattle.set_core.specs.Set.{Set, start}
-use Rattle.feed_gate.specs.declared.report.FeedEnd.{FeedEnd}
-use Rattle.feed_gate.specs.declared.report.FeedEnd.TheVariants as end_at
+use Rattle.feed_runs.specs.declared.feed_end.FeedEnd.{FeedEnd}
+use Rattle.feed_runs.specs.declared.feed_end.FeedEnd.TheVariants as end_at
 use Rattle.feed_gate.specs.declared.report.FeedReport.{FeedReport}
 use Rattle.feed_gate.specs.Run.{IsEnd}
 use Rattle.feed_gate.proofs.Starting.{none_called}

@@ -1,5 +1,5 @@
 -- A set behind the feeds of a sample: all that its journal says, and its margin.
-use Rattle.std.proofs.Common.{ℕ, ◌<◌, ◌≤◌, List, [], ◌∷◌, length, sym, ◌∙◌, subst, arith}
+use Rattle.std.proofs.Common.{ℕ, ◌<◌, ◌≤◌, List, [], ◌∷◌, length, ap, sym, ◌∙◌, subst, arith}
 use Rattle.std.specs.List.{AllByRecursion, IsDistinct}
 use Rattle.std.specs.List.Sorted.{IsPermutation}
 use Rattle.std.proofs.lemmas.List.Sorted.{IsPermutation-sym, length_permutation}
@@ -12,6 +12,8 @@ use Rattle.held_cell.specs.declared.entry.Entry.{Entry}
 use Rattle.set_core.specs.declared.event.Event.{Event}
 use Rattle.set_core.specs.declared.reply.Reply.{Reply}
 use Rattle.set_core.specs.Answer.{IsLegal}
+use Rattle.set_core.specs.Book.{book}
+use Rattle.set_core.specs.Tables.{tables}
 use Rattle.set_core.specs.Set.{Set, start}
 use Rattle.set_core.proofs.Names.{same_name_sym}
 use Rattle.feed_gate.specs.SetsRun.{IsRun}
@@ -22,7 +24,7 @@ use Rattle.house_sample.proofs.InRange.{IsDrawn}
 use Rattle.house_sample.proofs.AllTrades.{IsPlace, same_trade, all_apart, all_count, all_drawn}
 use Rattle.margin_sample.specs.Sets.{IsFed}
 use Rattle.margin_sample.proofs.Orders.{IsSensitive, margin_keeps}
-use Rattle.margin_sample.proofs.Journals.{Log, HasRun, IsCall, trades_in, each_shuffled, each_calls, entry_count, calls_known, trades_are, rows_are}
+use Rattle.margin_sample.proofs.Journals.{Log, HasRun, IsCall, same_tables, trades_in, each_shuffled, each_calls, entry_count, calls_known, trades_are, rows_are}
 use Rattle.margin_sample.proofs.Accepted.{all_taken}
 
 -- drawn rows are sensitivities
@@ -58,7 +60,8 @@ set_fed feeds seed place s at many kept runs =
       calls = each_calls seed place feeds log at many kept.callers runs;
       count = entry_count seed place feeds log at many kept.callers runs;
       taken = taken.taken;
-      margin = (λ i. simm (kept.params i) (rows_of (taken.held i)))
+      margin = ap (λ p. simm (tables p log) (rows_of (book log))) kept.params
+          ∙ (λ i. simm (same_tables sample_params log calls i) (rows_of (taken.held i)))
           ∙ margin_keeps sample_params (rows_of (trades_in log)) (rows_of all)
           (sensitive (trades_in log) (each_shuffled IsDrawn all (trades_in log) back drawn)) (sensitive all drawn)
           (rows_are seed place feeds log at many kept.callers runs);

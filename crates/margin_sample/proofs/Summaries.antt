@@ -9,7 +9,7 @@ use Rattle.held_cell.specs.Entries.{entry}
 use Rattle.set_core.specs.declared.event.Event.TheVariants as event
 use Rattle.set_core.specs.declared.reply.Reply.TheVariants as reply
 use Rattle.fault_text.specs.Fields.{field, last_field}
-use Rattle.margin_text.specs.Margins.{margin_text}
+use Rattle.breakdown_text.specs.Margins.{margin_text}
 use Rattle.house_sample.specs.Agreements.{set_name}
 use Rattle.margin_sample.specs.Sets.{IsFed, AreFed, sample_margin}
 use Rattle.margin_sample.specs.Sample.{IsAsked, asked_text, AreSummed, head_text, set_text, IsSampled, HasSampled}

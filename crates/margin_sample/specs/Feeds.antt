@@ -2,8 +2,8 @@
 use Rattle.std.specs.Prelude.{◌≡◌, ℕ, ◌+◌, ◌<◌, List, [], ◌∷◌, Bool, true, false}
 use Rattle.mh_io.specs.Memory.{MemorySource}
 use Rattle.feed_reader.specs.Feed.{Whole, feed}
-use Rattle.feed_gate.specs.declared.report.FeedEnd.{FeedEnd}
-use Rattle.feed_gate.specs.declared.report.FeedEnd.TheVariants as end_at
+use Rattle.feed_runs.specs.declared.feed_end.FeedEnd.{FeedEnd}
+use Rattle.feed_runs.specs.declared.feed_end.FeedEnd.TheVariants as end_at
 use Rattle.house_sample.specs.Feeds.{messages_of}
 
 -- a source of which nothing was taken, whose bytes are the messages of the feed of this number

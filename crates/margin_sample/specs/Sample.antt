@@ -10,9 +10,10 @@ use Rattle.set_core.specs.declared.event.Event.TheVariants as event
 use Rattle.feed_reader.specs.SideEvents.declared.side_event.SideEvent.TheVariants as side
 use Rattle.set_core.specs.declared.reply.Reply.TheVariants as reply
 use Rattle.set_core.specs.Book.{book}
+use Rattle.set_core.specs.Tables.{tables}
 use Rattle.set_core.specs.Set.{Set, IsSet}
 use Rattle.fault_text.specs.Fields.{field, last_field}
-use Rattle.margin_text.specs.Margins.{margin_text}
+use Rattle.breakdown_text.specs.Margins.{margin_text}
 use Rattle.command_files.specs.declared.status.Status.{Status}
 use Rattle.command_files.specs.declared.status.Status.TheVariants as status
 use Rattle.command_files.specs.Printed.{Got, GotFront}
@@ -25,7 +26,7 @@ pub record IsAsked (fed s : Set) (b : Breakdown) : Type 0 where
   pub params : s.params ≡ fed.params
   pub terms : s.terms ≡ fed.terms
   pub legal : IsSet s.params s.terms s.journal
-  pub margin : b ≡ simm fed.params (rows_of (book fed.journal))
+  pub margin : b ≡ simm (tables fed.params fed.journal) (rows_of (book fed.journal))
   pub last : s.journal ≡ fed.journal ++ entry 0 (event.OnSide side.AskMargin) (reply.Margin b) ∷ []
 
 -- a set: its name, how many entries its journal has, and its margin

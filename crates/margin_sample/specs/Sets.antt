@@ -11,6 +11,7 @@ use Rattle.set_core.specs.declared.event.Event.TheVariants as event
 use Rattle.set_core.specs.declared.reply.Reply.{Reply}
 use Rattle.set_core.specs.declared.reply.Reply.TheVariants as reply
 use Rattle.set_core.specs.Book.{book}
+use Rattle.set_core.specs.Tables.{tables}
 use Rattle.set_core.specs.Set.{Set, IsSet}
 use Rattle.feed_gate.specs.Met.{events_of}
 use Rattle.house_sample.specs.Parameters.{sample_params}
@@ -22,6 +23,7 @@ use Rattle.margin_sample.specs.Calls.{calls_of}
 abbrev pub IsTakenBy : Event → Reply → Type 0
 IsTakenBy (event.Submit trades) r = r ≡ reply.Accepted
 IsTakenBy (event.Withdraw names) r = Unit {0}
+IsTakenBy (event.Tables text) r = Unit {0}
 IsTakenBy (event.OnSide e) r = Unit {0}
 
 abbrev pub IsTaken : Entry Event Reply → Type 0
@@ -42,7 +44,7 @@ pub record IsFed (feeds seed place : ℕ) (s : Set) : Type 0 where
   pub calls : (feed : ℕ) → feed < feeds → events_of (own_of feed 1 s.journal) ≡ calls_of seed feed place
   pub count : length s.journal ≡ 50 * feeds
   pub taken : AllByRecursion IsTaken s.journal
-  pub margin : simm s.params (rows_of (book s.journal)) ≡ sample_margin feeds seed place
+  pub margin : simm (tables s.params s.journal) (rows_of (book s.journal)) ≡ sample_margin feeds seed place
 
 -- both sets
 pub record AreFed (feeds seed : ℕ) (sets : List Set) : Type 0 where

@@ -9,7 +9,8 @@ ghost use Rattle.margin_sample.specs.Feeds.{AreFeeds, IsFeed, is_whole};
 ghost use Rattle.margin_sample.specs.Sets.{AreFed};
 
 use crate::plan::SamplePlan;
-use feed_gate::{FeedEnd, FeedReport, Gate, SetsRun, make_sets, run_on_sets};
+use feed_gate::{FeedReport, SetsRun, make_sets, run_on_sets};
+use feed_runs::{FeedEnd, Gate};
 use house_sample::{sample_feed, sample_params, sample_terms};
 use mh_io::MemSource;
 use set_core::SetState;

@@ -6,7 +6,7 @@ use crate::plan::SamplePlan;
 use crate::running::run_sample;
 use crate::summary::summary;
 use command_files::Status;
-use feed_gate::Gate;
+use feed_runs::Gate;
 use mh_io::{Sink, put_all};
 use mh_units::Text;
 use std::alloc::{AllocError, Global};

@@ -5,8 +5,8 @@ ghost use Rattle.set_core.specs.Set.{Set};
 ghost use Rattle.margin_sample.specs.Sample.{IsAsked, asked_text, AreSummed, head_text};
 
 use crate::plan::SamplePlan;
+use breakdown_text::margin_lines;
 use fault_text::{push_field, push_last_number, push_number};
-use margin_text::margin_lines;
 use mh_units::Text;
 use set_core::side_events::SideEvent;
 use set_core::{Event, Reply, SetState, SharedMargin};

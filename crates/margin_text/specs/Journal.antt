@@ -15,8 +15,8 @@ use Rattle.set_core.specs.declared.event.Event.TheVariants as event
 use Rattle.set_core.specs.declared.reply.Reply.{Reply}
 use Rattle.set_core.specs.declared.reply.Reply.TheVariants as reply
 use Rattle.set_core.specs.Text.{reply_text}
+use Rattle.breakdown_text.specs.Margins.{part_lines}
 use Rattle.fault_text.specs.Fields.{field, last_field}
-use Rattle.margin_text.specs.Margins.{part_lines}
 use Rattle.margin_text.specs.Rows.{trade_lines}
 
 -- the word of a lot's currency, as in a feed
@@ -34,16 +34,19 @@ side_fields (side.CloseCall number) = field (codes "CLOSE") ++ field (decimal nu
 side_fields side.AskMargin = field (codes "ASK")
 side_fields (side.AskCall moment) = field (codes "CALL") ++ field (moment_text moment)
 
--- a submit with the numbers of its trades and of their rows; a withdrawal with the number of its names and each of them
+-- a submit with the numbers of its trades and of their rows; a withdrawal with the number of its names and each of them; tables with the
+-- number of bytes of their text
 abbrev pub event_fields : Event → List ℕ
 event_fields (event.Submit trades) = field (codes "SUBMIT") ++ field (decimal (length trades)) ++ field (decimal (length (rows_of trades)))
 event_fields (event.Withdraw names) = field (codes "WITHDRAW") ++ field (decimal (length names)) ++ flat_map field names
+event_fields (event.Tables text) = field (codes "TABLES") ++ field (decimal (length text.text))
 event_fields (event.OnSide e) = side_fields e
 
 -- the lines of an event under its entry's line
 abbrev pub event_lines : Event → List ℕ
 event_lines (event.Submit trades) = flat_map trade_lines trades
 event_lines (event.Withdraw names) = []
+event_lines (event.Tables text) = []
 event_lines (event.OnSide e) = []
 
 -- the lines of a reply under its entry's line

@@ -2,9 +2,9 @@
 ghost use Rattle.std.specs.Prelude.{◌≡◌, ◌++◌, OnOk};
 ghost use Rattle.margin_text.specs.Journal.{event_lines, reply_lines, entry_line, entry_lines};
 
-use crate::breakdown_lines::push_parts;
 use crate::event_fields::push_event;
 use crate::trade_lines::push_trades;
+use breakdown_text::push_margin_parts;
 use fault_text::{push_field, push_number};
 use mh_units::Text;
 use set_core::{Entry, Event, Reply, push_reply};
@@ -16,7 +16,7 @@ fn push_event_lines(text: &mut Text, event: &Event) -> Result<(), AllocError>
 {
     match event {
         Event::Submit(batch) => push_trades(text, batch.trades()),
-        Event::Withdraw(_) | Event::OnSide(_) => Ok(()),
+        Event::Withdraw(_) | Event::Tables(_) | Event::OnSide(_) => Ok(()),
     }
 }
 
@@ -25,7 +25,7 @@ fn push_reply_lines(text: &mut Text, reply: &Reply) -> Result<(), AllocError>
     ensures { OnOk result (text.new ≡ text.old ++ reply_lines reply.now) }
 {
     match reply {
-        Reply::Margin(margin) => push_parts(text, margin.parts()),
+        Reply::Margin(margin) => push_margin_parts(text, margin.parts()),
         Reply::Accepted | Reply::Refused(_) | Reply::Called(_) | Reply::NoCall { .. } => Ok(()),
     }
 }

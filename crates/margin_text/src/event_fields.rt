@@ -41,6 +41,14 @@ fn push_withdrawal(text: &mut Text, names: &[Name]) -> Result<(), AllocError>
     push_names(text, names)
 }
 
+/// Adds the fields of tables, whose text has so many bytes.
+fn push_tables(text: &mut Text, bytes: usize) -> Result<(), AllocError>
+    ensures { OnOk result (text.new ≡ text.old ++ (field (codes "TABLES") ++ field (decimal bytes))) }
+{
+    push_field(text, b"TABLES")?;
+    push_number(text, bytes)
+}
+
 /// Adds a word and a lot as fields.
 fn push_lot(text: &mut Text, word: &[u8], lot: &Name) -> Result<(), AllocError>
     ensures { OnOk result (text.new ≡ text.old ++ (field word.now ++ field lot.now)) }
@@ -126,6 +134,7 @@ pub(crate) fn push_event(text: &mut Text, event: &Event) -> Result<(), AllocErro
     match event {
         Event::Submit(batch) => push_submit(text, batch.trades().len(), event.row_count()),
         Event::Withdraw(names) => push_withdrawal(text, names.as_slice()),
+        Event::Tables(tables) => push_tables(text, tables.text().len()),
         Event::OnSide(event) => push_side(text, event),
     }
 }

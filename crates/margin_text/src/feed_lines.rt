@@ -1,33 +1,24 @@
-ghost use Rattle.std.specs.Prelude.{◌≡◌, ◌++◌, OnOk, codes, decimal, map};
+ghost use Rattle.std.specs.Prelude.{◌≡◌, ◌++◌, OnOk, decimal, map};
 ghost use Rattle.std.specs.List.{flat_map};
 ghost use Rattle.crif_reader.specs.Faults.{crif_fault_number};
-ghost use Rattle.fault_text.specs.Fields.{field, last_field, numbered_line};
+ghost use Rattle.fault_text.specs.Fields.{field, numbered_line};
 ghost use Rattle.fault_text.specs.CrifLine.{crif_fields};
-ghost use Rattle.margin_text.specs.Feeds.{name_at, refused_fields, refused_line, end_field, feed_line, feed_text};
+ghost use Rattle.fault_text.specs.ParamsLine.{params_fields};
+ghost use Rattle.params_file.specs.Faults.{param_fault_number};
+ghost use Rattle.fault_text.specs.FeedFields.{refused_fields};
+ghost use Rattle.margin_text.specs.Feeds.{name_at, refused_line, feed_line, feed_text};
 
 use crif_reader::CrifFault;
 use csa_terms::SetTerms;
-use fault_text::{push_crif_fields, push_field, push_last, push_last_number, push_number};
-use feed_gate::{FeedEnd, FeedReport, RefusedMessage};
+use fault_text::{
+    push_crif_fields, push_end, push_field, push_last_number, push_number, push_params_fields,
+    push_refused_fields, push_refused_number,
+};
+use feed_gate::{FeedReport, RefusedMessage};
+use feed_runs::FeedEnd;
 use mh_units::Text;
+use params_file::ParamFault;
 use std::alloc::AllocError;
-
-/// Adds the first fields of a refused message.
-fn push_refused_fields(text: &mut Text, feed: u32, line: u32) -> Result<(), AllocError>
-    ensures { OnOk result (text.new ≡ text.old ++ refused_fields feed line) }
-{
-    push_field(text, b"REFUSED")?;
-    push_number(text, feed)?;
-    push_number(text, line)
-}
-
-/// Adds the line of a message that was refused with this number alone.
-fn push_refused_number(text: &mut Text, feed: u32, line: u32, number: u8) -> Result<(), AllocError>
-    ensures { OnOk result (text.new ≡ text.old ++ (refused_fields feed line ++ last_field (decimal number))) }
-{
-    push_refused_fields(text, feed, line)?;
-    push_last_number(text, number)
-}
 
 /// Adds the line of a block that was refused with this number, and with the first fault of its records.
 fn push_refused_block(
@@ -45,6 +36,24 @@ fn push_refused_block(
     push_refused_fields(text, feed, line)?;
     push_number(text, number)?;
     push_crif_fields(text, code, fault)
+}
+
+/// Adds the line of a block of tables that was refused with this number, and with the first fault of its grammar.
+fn push_refused_tables(
+    text: &mut Text,
+    feed: u32,
+    line: u32,
+    number: u8,
+    fault: &ParamFault,
+) -> Result<(), AllocError>
+    ensures { OnOk result (text.new ≡ text.old ++ numbered_line (refused_fields feed line ++ field (decimal number)) (param_fault_number fault.now) (λ code. params_fields code fault.now)) }
+{
+    let Some(code) = fault.number() else {
+        return Ok(());
+    };
+    push_refused_fields(text, feed, line)?;
+    push_number(text, number)?;
+    push_params_fields(text, code, fault)
 }
 
 /// Adds the field of the name of the set at a place, from 0.
@@ -67,12 +76,20 @@ fn push_refused(
     ensures { OnOk result (text.new ≡ text.old ++ refused_line feed (map (λ s. s.name) sets.now) message.now) }
 {
     let number = message.number();
-    match *message {
+    match message {
         RefusedMessage::BadLine { line } | RefusedMessage::UnknownSet { line } => {
-            push_refused_number(text, feed, line, number)
+            push_refused_number(text, feed, *line, number)
         }
         RefusedMessage::BadBatch { line, fault } => {
-            push_refused_block(text, feed, line, number, fault)
+            push_refused_block(text, feed, *line, number, *fault)
+        }
+        RefusedMessage::BadTables { line, fault } => {
+            push_refused_tables(text, feed, *line, number, fault)
+        }
+        RefusedMessage::LongTables { line, bytes } => {
+            push_refused_fields(text, feed, *line)?;
+            push_number(text, number)?;
+            push_last_number(text, *bytes)
         }
         RefusedMessage::Full {
             line,
@@ -80,11 +97,11 @@ fn push_refused(
             entries,
             rows,
         } => {
-            push_refused_fields(text, feed, line)?;
+            push_refused_fields(text, feed, *line)?;
             push_number(text, number)?;
-            push_set_name(text, sets, set)?;
-            push_number(text, entries)?;
-            push_last_number(text, rows)
+            push_set_name(text, sets, *set)?;
+            push_number(text, *entries)?;
+            push_last_number(text, *rows)
         }
     }
 }
@@ -102,28 +119,6 @@ fn push_all_refused(
         push_refused(text, feed, sets, message)?;
     }
     Ok(())
-}
-
-/// Adds a word and a number that end a line.
-fn push_end_at(text: &mut Text, word: &[u8], number: u64) -> Result<(), AllocError>
-    ensures { OnOk result (text.new ≡ text.old ++ (field word.now ++ last_field (decimal number))) }
-{
-    push_field(text, word)?;
-    push_last_number(text, number)
-}
-
-/// Adds how a feed ended, as the end of its line.
-fn push_end(text: &mut Text, end: FeedEnd) -> Result<(), AllocError>
-    ensures { OnOk result (text.new ≡ text.old ++ end_field end) }
-{
-    match end {
-        FeedEnd::End => push_last(text, b"END"),
-        FeedEnd::Cut { line } => push_end_at(text, b"CUT", u64::from(line)),
-        FeedEnd::LineLong { line } => push_end_at(text, b"LONG", u64::from(line)),
-        FeedEnd::TooLong { taken } => push_end_at(text, b"TOOLONG", taken),
-        FeedEnd::ReadFault => push_last(text, b"READ"),
-        FeedEnd::Memory { line } => push_end_at(text, b"MEMORY", u64::from(line)),
-    }
 }
 
 /// Adds the feed's own line.

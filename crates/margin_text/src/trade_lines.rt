@@ -3,7 +3,7 @@ ghost use Rattle.std.specs.Prelude.{◌≡◌, ◌++◌, OnOk};
 ghost use Rattle.std.specs.List.{flat_map};
 ghost use Rattle.margin_text.specs.Rows.{row_line, row_start, trade_lines};
 
-use crate::factor_fields::{push_factor, push_parts};
+use breakdown_text::{push_factor, push_factor_parts};
 use fault_text::{push_field, push_last_amount, push_last_number};
 use mh_units::Text;
 use simm_kinds::{CrifRow, ProductClass, RiskType, TradeRows};
@@ -21,22 +21,22 @@ fn push_row(text: &mut Text, row: &CrifRow) -> Result<(), AllocError>
         }
         CrifRow::Notional { qualifier, amount } => {
             push_start(text, ProductClass::RatesFX, RiskType::Notional)?;
-            push_parts(text, qualifier.bytes(), b"", "", "", b"")?;
+            push_factor_parts(text, qualifier.bytes(), b"", "", "", b"")?;
             push_last_amount(text, amount.0)
         }
         CrifRow::FixedAmount(amount) => {
             push_start(text, ProductClass::RatesFX, RiskType::AddOnFixedAmount)?;
-            push_parts(text, b"", b"", "", "", b"")?;
+            push_factor_parts(text, b"", b"", "", "", b"")?;
             push_last_amount(text, amount.0)
         }
         CrifRow::NotionalFactor { qualifier, factor } => {
             push_start(text, ProductClass::RatesFX, RiskType::AddOnNotionalFactor)?;
-            push_parts(text, qualifier.bytes(), b"", "", "", b"")?;
+            push_factor_parts(text, qualifier.bytes(), b"", "", "", b"")?;
             push_last_number(text, factor.0)
         }
         CrifRow::Multiplier { product, factor } => {
             push_start(text, *product, RiskType::ProductClassMultiplier)?;
-            push_parts(text, b"", b"", "", "", b"")?;
+            push_factor_parts(text, b"", b"", "", "", b"")?;
             push_last_number(text, factor.0)
         }
     }

@@ -1,9 +1,10 @@
-use Rattle.std.proofs.Common.{ap, sym, Err, refl, ◌∙◌, inl, inr}
+use Rattle.std.proofs.Common.{Err, refl, ap, sym, ◌∙◌}
 use Rattle.simm_kinds.specs.Batch.{rows_of}
+use Rattle.simm_rules.specs.declared.values.Breakdown.{Breakdown}
 use Rattle.simm_rules.specs.Range.{range}
 use Rattle.simm_rules.specs.Simm.{simm}
 use Rattle.set_core.specs.BucketCache.Live.{first_unadmitted}
-use Rattle.margin_calc.proofs.CalcLemmas.{unknown_refused, range_refused}
+use Rattle.margin_calc.proofs.CalcLemmas.{says_of}
 use Rattle.margin_calc.proofs.margin_of.margin_of_batch.Goals as goal
 
 pub returns-in-Ok : goal.returns-in-Ok
@@ -13,13 +14,7 @@ returns-in-Ok c = (
   c.in-Ok.ensures.value ∙ ap (λ ts. simm c.args.params.now (rows_of ts)) c.trades.ensures.value,
 )
 
-pub returns-in-Err-BucketUnknown : goal.returns-in-Err-BucketUnknown
-returns-in-Err-BucketUnknown c =
-    inr (_, unknown_refused _ _ _ _ (ap (first_unadmitted c.args.params.now) (sym c.trades.ensures.value) ∙ c.in-Err-BucketUnknown.ensures.unadmitted c.in-Err-BucketUnknown.trade c.in-Err-BucketUnknown.row (ap Err c.in-Err-BucketUnknown.field-0-is)), c.refused.ensures)
-
-pub returns-in-Err-Range : goal.returns-in-Err-Range
-returns-in-Err-Range c =
-    inr (_, range_refused _ _ _ (ap (first_unadmitted c.args.params.now) (sym c.trades.ensures.value) ∙ c.in-Err-Range.ensures.range_of_admitted c.in-Err-Range.fault (ap Err c.in-Err-Range.field-0-is)) (ap (λ ts. range c.args.params.now (rows_of ts)) (sym c.trades.ensures.value) ∙ c.in-Err-Range.ensures.range c.in-Err-Range.fault (ap Err c.in-Err-Range.field-0-is)), c.refused-in-Err-Range.ensures)
-
-pub returns-in-Err-Memory : goal.returns-in-Err-Memory
-returns-in-Err-Memory c = inl refl
+pub returns-in-Err : goal.returns-in-Err
+returns-in-Err c =
+    c.batch_fault.ensures c.args.params.now c.args.batch.now
+    (says_of {A = Breakdown} c.args.params.now c.args.batch.now c.trades.result.now c.in-Err.fault (Err c.in-Err.fault) c.trades.ensures.value refl c.in-Err.ensures.unadmitted c.in-Err.ensures.range c.in-Err.ensures.range_of_admitted)

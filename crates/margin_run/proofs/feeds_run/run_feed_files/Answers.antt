@@ -2,7 +2,7 @@ use Rattle.std.proofs.Common.{arith, [], map, append-nil, sym, subst}
 use Rattle.std.specs.String.{string_bytes}
 use Rattle.std.proofs.lemmas.List.{length-map}
 use Rattle.mh_io.specs.Folder.{FolderSeen}
-use Rattle.feed_gate.proofs.Zips.{zip_length}
+use Rattle.feed_runs.proofs.Zips.{zip_length}
 use Rattle.feed_files.specs.Sources.{IsFresh, TakesAllBack}
 use Rattle.feed_files.proofs.SourceLemmas.{back_untouched}
 use Rattle.margin_run.proofs.FeedLemmas.{as_many, are_fed}

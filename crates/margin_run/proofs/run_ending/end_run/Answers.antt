@@ -1,7 +1,8 @@
 use Rattle.std.proofs.Common.{inl, inr, ap, ◌∙◌}
 use Rattle.margin_run.specs.Run.{end_of, run_text}
 use Rattle.margin_run.specs.RunStages.{status_at_end}
-use Rattle.margin_run.proofs.RunEndLemmas.{line_of, end_leaves}
+use Rattle.command_files.proofs.TextLemmas.{line_of}
+use Rattle.margin_run.proofs.RunEndLemmas.{end_leaves}
 use Rattle.margin_run.proofs.run_ending.end_run.Goals as goal
 
 pub returns-in-Ok-tell_desks-clause-leaves : goal.returns-in-Ok-tell_desks-clause-leaves

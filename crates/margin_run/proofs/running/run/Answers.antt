@@ -1,7 +1,8 @@
 use Rattle.std.proofs.Common.{inl, inr, arith, map, refl, sym}
 use Rattle.std.specs.String.{string_bytes}
 use Rattle.std.proofs.lemmas.List.{length-map}
-use Rattle.margin_run.proofs.FeedLemmas.{fed_length}
+use Rattle.feed_files.proofs.FedLemmas.{fed_length}
+use Rattle.margin_run.specs.Fed.{IsFed}
 use Rattle.margin_run.proofs.RunComplete.{run_ends_well}
 use Rattle.margin_run.proofs.running.run.Goals as goal
 
@@ -9,7 +10,7 @@ pub end_run-requires-clause-few_feeds : goal.end_run-requires-clause-few_feeds
 end_run-requires-clause-few_feeds g c =
     let run = c.in-Ok.ensures.ends.0 in
     let fed = run.fed in
-    omega (arith, c.requires.feeds, length-map c.args.files.feeds.now string_bytes, fed_length _ _ c.in-Ok.run'.sets.items 0 (map string_bytes c.args.files.feeds.now) c.in-Ok.run'.reports.items fed.readings fed.feeds)
+    omega (arith, c.requires.feeds, length-map c.args.files.feeds.now string_bytes, fed_length (IsFed _ _ c.in-Ok.run'.sets.items) 0 (map string_bytes c.args.files.feeds.now) c.in-Ok.run'.reports.items fed.readings fed.feeds)
 
 pub returns-in-Ok-clause-ends : goal.returns-in-Ok-clause-ends
 returns-in-Ok-clause-ends g c = inl (record {

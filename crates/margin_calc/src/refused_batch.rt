@@ -1,5 +1,5 @@
 ghost use Rattle.std.specs.Prelude.{◌≡◌, IfOk};
-ghost use Rattle.margin_text.specs.RefusalLine.{refusal_fault};
+ghost use Rattle.margin_calc.specs.RefusalLine.{refusal_fault};
 
 use fault_text::push_field;
 use mh_units::Text;
@@ -11,7 +11,7 @@ use std::alloc::{AllocError, Global};
 /// # Errors
 ///
 /// For want of memory.
-pub fn refusal_line(alloc: Global, refusal: Refusal) -> Result<Text, AllocError>
+pub(crate) fn refusal_line(alloc: Global, refusal: Refusal) -> Result<Text, AllocError>
     ensures { IfOk result (λ line. line ≡ refusal_fault refusal) }
 {
     let mut line = Text::new(alloc);
