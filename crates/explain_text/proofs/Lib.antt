@@ -1,0 +1,7 @@
+mod Pieces
+mod Lent
+mod FromKept
+mod Products
+mod AddOns
+mod OfClass
+mod Whole

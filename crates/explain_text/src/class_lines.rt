@@ -1,0 +1,151 @@
+//! The lines of the risk classes of each product class, and of the product classes.
+ghost use Rattle.std.specs.Prelude.{◌≡◌, ◌++◌, List, OnOk};
+ghost use Rattle.std.specs.List.{flat_map};
+ghost use Rattle.simm_kinds.specs.declared.row.TradeRows.{TradeRows};
+ghost use Rattle.simm_rules.specs.Parts.{class_part, product_part};
+ghost use Rattle.simm_rules.specs.Simm.{classes};
+ghost use Rattle.bucket_cache.specs.Figures.{AreFigures};
+ghost use Rattle.explain_text.specs.Classes.{side_of_class, has_side, has_class, has_product, class_in, class_lines, product_lines};
+ghost use Rattle.explain_text.specs.Explained.{values_of, margins_of, products_lines};
+
+use crate::side_lines::push_side;
+use breakdown_text::{push_class_margin, push_product_margin};
+use bucket_cache::factor_book::{BookSide, ClassAt, Factors, SideAt};
+use bucket_cache::{BatchFigures, measure_margins};
+use mh_units::Text;
+use simm_kinds::{ProductClass, RiskClass};
+use simm_params::Params;
+use std::alloc::{AllocError, Global};
+
+/// Adds the lines of all product classes that have a sensitivity.
+pub(crate) fn push_products(
+    text: &mut Text,
+    alloc: Global,
+    params: &Params,
+    figures: &BatchFigures,
+) -> Result<(), AllocError>
+    requires { (trades : List TradeRows) × AreFigures params.now trades figures.now }
+    ensures { OnOk result (text.new ≡ text.old
+        ++ products_lines (values_of params.now figures.now.factors) (margins_of params.now figures.now.factors) figures.now.factors figures.now.margin) }
+{
+    for product in &ProductClass::ALL {
+        push_product(text, alloc, params, figures, *product)?;
+    }
+    Ok(())
+}
+
+// Adds those of a product class, where it has one.
+#[tactic(auto, unfolding(crate::specs::Classes::product_lines))]
+fn push_product(
+    text: &mut Text,
+    alloc: Global,
+    params: &Params,
+    figures: &BatchFigures,
+    product: ProductClass,
+) -> Result<(), AllocError>
+    requires { (trades : List TradeRows) × AreFigures params.now trades figures.now }
+    ensures { OnOk result (text.new ≡ text.old
+        ++ product_lines (values_of params.now figures.now.factors) (margins_of params.now figures.now.factors) figures.now.factors product
+        (product_part figures.now.margin product)) }
+{
+    if !has_product(&figures.factors, product) {
+        return Ok(());
+    }
+    push_classes(text, alloc, params, figures, product)?;
+    push_product_margin(text, product, figures.margin.product(product).margin.0)?;
+    Ok(())
+}
+
+// Adds those of its risk classes.
+fn push_classes(
+    text: &mut Text,
+    alloc: Global,
+    params: &Params,
+    figures: &BatchFigures,
+    product: ProductClass,
+) -> Result<(), AllocError>
+    requires { (trades : List TradeRows) × AreFigures params.now trades figures.now }
+    ensures { OnOk result (text.new ≡ text.old
+        ++ flat_map (λ class. class_lines (values_of params.now figures.now.factors) (margins_of params.now figures.now.factors) figures.now.factors
+        (class_in product class) (class_part (product_part figures.now.margin product) class).0) classes) }
+{
+    for class in &RiskClass::ALL {
+        push_class(text, alloc, params, figures, class_in(product, *class))?;
+    }
+    Ok(())
+}
+
+// Adds those of a risk class, where it has a sensitivity.
+fn push_class(
+    text: &mut Text,
+    alloc: Global,
+    params: &Params,
+    figures: &BatchFigures,
+    at: ClassAt,
+) -> Result<(), AllocError>
+    requires { (trades : List TradeRows) × AreFigures params.now trades figures.now }
+    ensures { OnOk result (text.new ≡ text.old
+        ++ class_lines (values_of params.now figures.now.factors) (margins_of params.now figures.now.factors) figures.now.factors at
+        (class_part (product_part figures.now.margin at.product) at.class).0) }
+{
+    let factors = &figures.factors;
+    let kept = &figures.kept;
+    if !has_class(factors, at) {
+        return Ok(());
+    }
+    let margins = measure_margins(alloc, params, factors, kept, at)?;
+    push_side(text, factors, kept, side_of(at, BookSide::Delta), margins)?;
+    push_side(
+        text,
+        factors,
+        kept,
+        side_of(at, BookSide::Volatility),
+        margins,
+    )?;
+    let margin = figures.margin.product(at.product).class(at.class);
+    push_class_margin(text, at.product, at.class, margin.0)?;
+    Ok(())
+}
+
+fn class_in(product: ProductClass, class: RiskClass) -> ClassAt
+    ensures { result ≡ class_in product class }
+{
+    ClassAt { product, class }
+}
+
+fn side_of(at: ClassAt, side: BookSide) -> SideAt
+    ensures { result ≡ side_of_class at side }
+{
+    SideAt {
+        product: at.product,
+        class: at.class,
+        side,
+    }
+}
+
+// Whether a side has a factor.
+fn has_side(factors: &Factors, at: SideAt) -> bool
+    ensures { result ≡ has_side factors.now at }
+{
+    factors.side(at).next().is_some()
+}
+
+// Whether a class has one.
+fn has_class(factors: &Factors, at: ClassAt) -> bool
+    ensures { result ≡ has_class factors.now at }
+{
+    has_side(factors, side_of(at, BookSide::Delta))
+        || has_side(factors, side_of(at, BookSide::Volatility))
+}
+
+// Whether a product class has one.
+fn has_product(factors: &Factors, product: ProductClass) -> bool
+    ensures { result ≡ has_product factors.now product }
+{
+    for class in &RiskClass::ALL {
+        if has_class(factors, class_in(product, *class)) {
+            return true;
+        }
+    }
+    false
+}

@@ -1,0 +1,35 @@
+//! What the lines of measures begin with.
+ghost use Rattle.std.specs.Prelude.{◌≡◌, ◌++◌, OnOk};
+ghost use Rattle.explain_text.specs.Lines.{measure_word, measure_fields};
+
+use bucket_cache::factor_book::ClassAt;
+use fault_text::push_field;
+use mh_units::Text;
+use simm_kinds::Measure;
+use std::alloc::AllocError;
+
+fn measure_word(measure: Measure) -> &'static str
+    ensures { result.now ≡ measure_word measure }
+{
+    match measure {
+        Measure::Delta => "Delta",
+        Measure::Vega => "Vega",
+        Measure::Curvature => "Curvature",
+        Measure::BaseCorr => "BaseCorr",
+    }
+}
+
+/// Adds the word of a line, its measure, product class and risk class.
+pub(crate) fn push_measure_fields(
+    text: &mut Text,
+    word: &[u8],
+    measure: Measure,
+    at: ClassAt,
+) -> Result<(), AllocError>
+    ensures { OnOk result (text.new ≡ text.old ++ measure_fields word.now measure at.product at.class) }
+{
+    push_field(text, word)?;
+    push_field(text, measure_word(measure).as_bytes())?;
+    push_field(text, at.product.word().as_bytes())?;
+    push_field(text, at.class.word().as_bytes())
+}
