@@ -3,7 +3,7 @@ use Rattle.std.proofs.Common.{◌≡◌, ℕ, ◌<◌, ◌≤◌, ◌-◌, List,
 use Rattle.std.specs.List.{list_all}
 use Rattle.std.specs.Prelude.{◌==◌, ◌&&◌, not}
 use Rattle.std.proofs.lemmas.List.{length-map}
-use Rattle.margin_top.specs.Words.{is_name_word, are_feed_words, run_form, form_of}
+use Rattle.margin_top.specs.Words.{is_name_word, are_feed_words, feeds_form, form_of}
 
 all_mapped : {V : Type 0} (f : V → List ℕ) (xs : List V) → list_all is_name_word (map f xs) ≡ list_all (λ x. is_name_word (f x)) xs
 all_mapped f [] = refl
@@ -22,14 +22,14 @@ few_words f (x ∷ []) h = refl
 few_words f (x ∷ y ∷ []) h = refl
 few_words f (x ∷ y ∷ z ∷ xs) h = absurd (omega (arith, h))
 
--- four words or more are a run's, or no form
-pub many_words : {V : Type 0} (f : V → List ℕ) (xs : List V) (command params terms : V) → 4 ≤ length xs
-    → command ≡ slice_index_or xs 0 command → params ≡ slice_index_or xs 1 params → terms ≡ slice_index_or xs 2 terms
-    → run_form (f command) (f params) (f terms) (map f (take (length xs - 3) (drop 3 xs))) ≡ form_of (map f xs)
-many_words f [] command params terms h c p t = absurd (omega (arith, h))
-many_words f (x ∷ []) command params terms h c p t = absurd (omega (arith, h))
-many_words f (x ∷ y ∷ []) command params terms h c p t = absurd (omega (arith, h))
-many_words f (x ∷ y ∷ z ∷ []) command params terms h c p t = absurd (omega (arith, h))
-many_words f (x ∷ y ∷ z ∷ w ∷ ws) command params terms h c p t =
+-- four words or more are those of feeds that are run, or no form
+pub many_words : {V : Type 0} (f : V → List ℕ) (xs : List V) (command first second : V) → 4 ≤ length xs
+    → command ≡ slice_index_or xs 0 command → first ≡ slice_index_or xs 1 first → second ≡ slice_index_or xs 2 second
+    → feeds_form (f command) (f first) (f second) (map f (take (length xs - 3) (drop 3 xs))) ≡ form_of (map f xs)
+many_words f [] command first second h c a b = absurd (omega (arith, h))
+many_words f (x ∷ []) command first second h c a b = absurd (omega (arith, h))
+many_words f (x ∷ y ∷ []) command first second h c a b = absurd (omega (arith, h))
+many_words f (x ∷ y ∷ z ∷ []) command first second h c a b = absurd (omega (arith, h))
+many_words f (x ∷ y ∷ z ∷ w ∷ ws) command first second h c a b =
     let all : take (length (x ∷ y ∷ z ∷ w ∷ ws) - 3) (w ∷ ws) ≡ w ∷ ws = take_all (length (x ∷ y ∷ z ∷ w ∷ ws) - 3) (w ∷ ws) (omega arith) in
-    λ i. run_form (f (c i)) (f (p i)) (f (t i)) (map f (all i))
+    λ i. feeds_form (f (c i)) (f (a i)) (f (b i)) (map f (all i))

@@ -4,14 +4,16 @@ use Rattle.mh_io.specs.Sink.{SinkSeen}
 use Rattle.mh_io.specs.Folder.{FolderSeen}
 use Rattle.command_files.specs.declared.status.Status.{Status}
 use Rattle.command_files.specs.declared.status.Status.TheVariants as status
-use Rattle.margin_top.specs.Words.{Form, Calc, Schedule, Sample, Run, form_of}
+use Rattle.margin_top.specs.Words.{Form, Calc, Explain, Schedule, Sample, Run, Pool, form_of}
 use Rattle.command_files.specs.Lines.{words_fault}
 use Rattle.command_files.specs.Printed.{GotLine}
 use Rattle.margin_calc.specs.Calc.{CalcEnds}
+use Rattle.margin_explain.specs.Explain.{ExplainEnds}
 use Rattle.margin_schedule.specs.Schedule.{ScheduleEnds}
 use Rattle.margin_sample.specs.Sample.{SampleEnds}
 use Rattle.margin_run.specs.Desks.{Desks, AreUntold}
 use Rattle.margin_run.specs.Run.{RunEnds}
+use Rattle.margin_pool.specs.Pool.{PoolEnds}
 
 -- the words are no form of a command: the folder and the desks stand, and one line is printed
 pub record EndsAtWords {B : Type 0} (old new : FolderSeen) (out_old out_new : SinkSeen) (d : Desks B) (s : Status) : Type 0 where
@@ -26,13 +28,15 @@ pub record EndsSample {B : Type 0} (feeds seed : ℕ) (old new : FolderSeen) (ou
   pub folder : new ≡ old
   pub untold : AreUntold d
 
--- what each form of words does; a margin of one file tells no desk
+-- what each form of words does; a margin of one file and a pool tell no desk
 abbrev pub FormEnds : {B : Type 0} → Option Form → FolderSeen → FolderSeen → SinkSeen → SinkSeen → Desks B → Status → Type 0
 FormEnds None old new out_old out_new d s = EndsAtWords old new out_old out_new d s
 FormEnds (Some (Calc params crif)) old new out_old out_new d s = CalcEnds params crif old new out_old out_new s × AreUntold d
+FormEnds (Some (Explain params crif)) old new out_old out_new d s = ExplainEnds params crif old new out_old out_new s × AreUntold d
 FormEnds (Some (Schedule day crif)) old new out_old out_new d s = ScheduleEnds day crif old new out_old out_new s × AreUntold d
 FormEnds (Some (Sample feeds seed)) old new out_old out_new d s = EndsSample feeds seed old new out_old out_new d s
 FormEnds (Some (Run params terms feeds)) old new out_old out_new d s = RunEnds params terms feeds old new out_old out_new d s
+FormEnds (Some (Pool terms total feeds)) old new out_old out_new d s = PoolEnds terms total feeds old new out_old out_new s × AreUntold d
 
 abbrev pub HouseEnds : {B : Type 0} → List (List ℕ) → FolderSeen → FolderSeen → SinkSeen → SinkSeen → Desks B → Status → Type 0
 HouseEnds words old new out_old out_new d s = FormEnds (form_of words) old new out_old out_new d s

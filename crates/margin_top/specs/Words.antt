@@ -4,14 +4,17 @@ use Rattle.std.specs.List.{list_all}
 use Rattle.std.specs.Str.{bytes_eq}
 use Rattle.margin_schedule.specs.ScheduleIm.IsoDates.declared.date.DateNumbers.{DateNumbers}
 use Rattle.margin_schedule.specs.ScheduleIm.EndDates.{end_date_of}
-use Rattle.feed_gate.specs.FeedReader.Values.{number}
+use Rattle.feed_reader.specs.Values.{number}
+use Rattle.margin_pool.specs.PoolFeed.Values.{some_amount}
 
 -- the forms of a command, each with its file words, and a sample with its numbers
 pub data Form : Type 0 where
   Calc : (params crif : List ℕ) → Form
+  Explain : (params crif : List ℕ) → Form
   Schedule : (day : DateNumbers) (crif : List ℕ) → Form
   Sample : (feeds seed : ℕ) → Form
   Run : (params terms : List ℕ) (feeds : List (List ℕ)) → Form
+  Pool : (terms : List ℕ) (total : ℕ) (feeds : List (List ℕ)) → Form
 
 -- a word that names something: it isn't empty, and doesn't begin with `-`
 abbrev pub is_name_word : List ℕ → Bool
@@ -27,10 +30,11 @@ abbrev pub schedule_form : Option DateNumbers → List ℕ → Option Form
 schedule_form None crif = None
 schedule_form (Some day) crif = Some (Schedule day crif)
 
--- a margin of one CRIF file: `calc PARAMS CRIF` and `schedule DATE CRIF`
+-- a margin of one CRIF file: `calc PARAMS CRIF`, `explain PARAMS CRIF` and `schedule DATE CRIF`
 abbrev pub margin_form : List ℕ → List ℕ → List ℕ → Option Form
 margin_form command first crif =
     if bytes_eq command (codes "calc") && is_name_word first && is_name_word crif then Some (Calc first crif)
+    else if bytes_eq command (codes "explain") && is_name_word first && is_name_word crif then Some (Explain first crif)
     else if bytes_eq command (codes "schedule") && is_name_word crif then schedule_form (end_date_of first) crif
     else None
 
@@ -52,14 +56,20 @@ abbrev pub short_form : List ℕ → List ℕ → List ℕ → Option Form
 short_form command first second =
     if bytes_eq command (codes "sample") then sample_form first second else margin_form command first second
 
--- `run PARAMS TERMS FEED..` with 1 to 32 feeds
-abbrev pub run_form : List ℕ → List ℕ → List ℕ → List (List ℕ) → Option Form
-run_form command params terms feeds =
-    if bytes_eq command (codes "run") && is_name_word params && is_name_word terms && are_feed_words feeds
-    then Some (Run params terms feeds) else None
+-- a total that sets share, where the word has one
+abbrev pub pool_form : List ℕ → Option ℕ → List (List ℕ) → Option Form
+pool_form terms None feeds = None
+pool_form terms (Some total) feeds = Some (Pool terms total feeds)
+
+-- `run PARAMS TERMS FEED..`, and `pool TERMS TOTAL FEED..` with a total of 1 to 10^15 cents, each with 1 to 32 feeds
+abbrev pub feeds_form : List ℕ → List ℕ → List ℕ → List (List ℕ) → Option Form
+feeds_form command first second feeds =
+    if bytes_eq command (codes "run") && is_name_word first && is_name_word second && are_feed_words feeds then Some (Run first second feeds)
+    else if bytes_eq command (codes "pool") && is_name_word first && are_feed_words feeds then pool_form first (some_amount second) feeds
+    else None
 
 -- these; all other words are no form
 abbrev pub form_of : List (List ℕ) → Option Form
 form_of (command ∷ first ∷ second ∷ []) = short_form command first second
-form_of (command ∷ params ∷ terms ∷ feed ∷ feeds) = run_form command params terms (feed ∷ feeds)
+form_of (command ∷ first ∷ second ∷ feed ∷ feeds) = feeds_form command first second (feed ∷ feeds)
 form_of _ = None

@@ -10,8 +10,10 @@ ghost use Rattle.margin_top.specs.House.{HouseEnds};
 use crate::words::{Command, command_of};
 use call_desk::Desk;
 use command_files::{FaultLine, Status, print_line};
-use feed_gate::Gate;
+use feed_runs::Gate;
 use margin_calc::calc;
+use margin_explain::explain;
+use margin_pool::pool;
 use margin_run::run;
 use margin_sample::sample;
 use margin_schedule::schedule;
@@ -20,11 +22,14 @@ use std::alloc::Global;
 use std::sync::Wait;
 use std::thread::Threads;
 
-/// All that the program does: `calc PARAMS CRIF` prints the margin of one batch, as `calc` says; `schedule DATE CRIF` prints the
+/// All that the program does: `calc PARAMS CRIF` prints the margin of one batch, as `calc` says; `explain PARAMS CRIF`
+/// prints how that margin comes about, as `explain` says; `schedule DATE CRIF` prints the
 /// margin of a portfolio by the standard schedule on a day, as `schedule` says; `run PARAMS TERMS FEED..`
 /// runs 1 to 32 feeds at the same time on the netting sets of the terms, prints the journals and what became of the feeds,
-/// and tells each desk the calls that were made. Words that are no form of a command are status `Words`, with one fault
-/// line; then the folder isn't asked for anything. The gate is called before and after each call of a feed on a set.
+/// and tells each desk the calls that were made; `pool TERMS TOTAL FEED..` runs 1 to 32 feeds at the same time on a total that
+/// the netting sets of the terms share, and prints what each was replied, as `pool` says. Words that are no form of a command
+/// are status `Words`, with one fault line; then the folder isn't asked for anything. The gate is called before and after each
+/// call of a feed on a set.
 ///
 /// `sample N SEED` runs 1 to 32 feeds that it makes itself, as `sample` says. It asks the folder for nothing, and tells no desk.
 ///
@@ -55,9 +60,11 @@ pub fn margin_house<R: Threads + Wait + Sync, F: Folder, K: Sink, G: Gate>(
 {
     match command_of(words) {
         Some(Command::Calc(files)) => calc(alloc, files.params, files.crif, folder, out),
+        Some(Command::Explain(files)) => explain(alloc, files.params, files.crif, folder, out),
         Some(Command::Schedule(files)) => schedule(alloc, files.day, files.crif, folder, out),
         Some(Command::Sample(plan)) => sample(rt, alloc, plan, out, gate),
         Some(Command::Run(files)) => run(rt, alloc, files, folder, out, desks, retired, gate),
+        Some(Command::Pool(files)) => pool(rt, alloc, files, folder, out, gate),
         None => {
             print_line(out, FaultLine::Whole(b"FAULT\tWORDS\n"));
             Status::Words

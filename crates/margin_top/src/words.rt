@@ -1,15 +1,16 @@
 ghost use Rattle.std.specs.Prelude.{◌≡◌, map, length, true, IfSome};
 ghost use Rattle.std.specs.List.{list_all};
 ghost use Rattle.std.specs.String.{string_bytes};
-ghost use Rattle.margin_top.specs.Words.{is_name_word, are_feed_words, margin_form, number_of, sample_form, short_form, run_form, form_of};
-ghost use Rattle.margin_top.specs.WordsRead.{IsForm, IsPlan, AreFew, HasFew};
+ghost use Rattle.margin_top.specs.Words.{is_name_word, are_feed_words, margin_form, feeds_form, number_of, sample_form, short_form, form_of};
+ghost use Rattle.margin_top.specs.WordsRead.{IsForm, IsPlan, AreFew, IsWithin};
 
-use feed_gate::feed_reader::number_in;
+use feed_reader::number_in;
+use margin_pool::{PoolFiles, amount_in};
 use margin_run::RunFiles;
 use margin_sample::SamplePlan;
 use margin_schedule::EndDate;
 
-/// The files of a margin calculation.
+/// The files of a margin calculation, and of its explanation.
 #[derive(Clone, Copy)]
 pub(crate) struct CalcFiles<'a> {
     /// The name of the parameter file.
@@ -34,7 +35,7 @@ fn is_name(word: &str) -> bool
     !matches!(word.as_bytes(), [] | [b'-', ..])
 }
 
-/// How many feeds a run and a sample have at most.
+/// How many feeds run at the same time at most.
 const MOST_FEEDS: usize = 32;
 
 fn are_names(words: &[String]) -> bool
@@ -43,7 +44,7 @@ fn are_names(words: &[String]) -> bool
     words.iter().all(|word| is_name(word.as_str()))
 }
 
-/// Words that name the feeds of a run.
+/// Words that name feeds.
 fn are_feeds(words: &[String]) -> bool
     ensures form { result ≡ are_feed_words (map string_bytes words.now) }
     ensures few { result ≡ true → AreFew (length words.now) }
@@ -55,18 +56,26 @@ fn are_feeds(words: &[String]) -> bool
 #[derive(Clone, Copy)]
 pub(crate) enum Command<'a> {
     Calc(CalcFiles<'a>),
+    Explain(CalcFiles<'a>),
     Schedule(ScheduleFiles<'a>),
     Sample(SamplePlan),
     Run(RunFiles<'a>),
+    Pool(PoolFiles<'a>),
 }
 
 /// The margin of one CRIF file that three words ask for.
 fn margin_command<'a>(command: &'a str, first: &'a str, crif: &'a str) -> Option<Command<'a>>
     ensures form { IsForm result (margin_form command.now first.now crif.now) }
-    ensures few { HasFew result }
+    ensures within { IsWithin result }
 {
     if command == "calc" && is_name(first) && is_name(crif) {
         return Some(Command::Calc(CalcFiles {
+            params: first,
+            crif,
+        }));
+    }
+    if command == "explain" && is_name(first) && is_name(crif) {
+        return Some(Command::Explain(CalcFiles {
             params: first,
             crif,
         }));
@@ -105,7 +114,7 @@ fn sample_plan(feeds: &str, seed: &str) -> Option<SamplePlan>
 /// A sample, or the margin of one CRIF file, that three words ask for.
 fn short_command<'a>(command: &'a str, first: &'a str, second: &'a str) -> Option<Command<'a>>
     ensures form { IsForm result (short_form command.now first.now second.now) }
-    ensures few { HasFew result }
+    ensures within { IsWithin result }
 {
     if command == "sample" {
         let plan = sample_plan(first, second)?;
@@ -115,19 +124,30 @@ fn short_command<'a>(command: &'a str, first: &'a str, second: &'a str) -> Optio
 }
 
 /// The run of feeds that four words or more ask for.
-fn run_command<'a>(
+fn feeds_command<'a>(
     command: &'a str,
-    params: &'a str,
-    terms: &'a str,
+    first: &'a str,
+    second: &'a str,
     feeds: &'a [String],
 ) -> Option<Command<'a>>
-    ensures form { IsForm result (run_form command.now params.now terms.now (map string_bytes feeds.now)) }
-    ensures few { HasFew result }
+    ensures form { IsForm result (feeds_form command.now first.now second.now (map string_bytes feeds.now)) }
+    ensures within { IsWithin result }
 {
-    if command == "run" && is_name(params) && is_name(terms) && are_feeds(feeds) {
+    if !is_name(first) || !are_feeds(feeds) {
+        return None;
+    }
+    if command == "run" && is_name(second) {
         return Some(Command::Run(RunFiles {
-            params,
-            terms,
+            params: first,
+            terms: second,
+            feeds,
+        }));
+    }
+    if command == "pool" {
+        let total = amount_in(second.as_bytes())?;
+        return Some(Command::Pool(PoolFiles {
+            terms: first,
+            total,
             feeds,
         }));
     }
@@ -137,14 +157,14 @@ fn run_command<'a>(
 /// The command of the words, if they are a form of one.
 pub(crate) fn command_of(words: &[String]) -> Option<Command<'_>>
     ensures form { IsForm result (form_of (map string_bytes words.now)) }
-    ensures few { HasFew result }
+    ensures within { IsWithin result }
 {
     match words {
         [command, first, second] => {
             short_command(command.as_str(), first.as_str(), second.as_str())
         }
-        [command, params, terms, feeds @ ..] => {
-            run_command(command.as_str(), params.as_str(), terms.as_str(), feeds)
+        [command, first, second, feeds @ ..] => {
+            feeds_command(command.as_str(), first.as_str(), second.as_str(), feeds)
         }
         _ => None,
     }
