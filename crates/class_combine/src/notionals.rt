@@ -1,4 +1,4 @@
-ghost use Rattle.std.specs.Prelude.{◌≡◌, IfSome, IsSomeAnd, OnOk, OnErr};
+ghost use Rattle.std.specs.Prelude.{◌≡◌, IfSome, IsSomeAnd, IfOk, OnOk, OnErr};
 ghost use Rattle.std.specs.FinMap as table;
 ghost use Rattle.class_combine.specs.Summed.{CanGrow, CanShrink, IsSmall, grown, shrunk, size_in, with_left};
 
@@ -37,6 +37,17 @@ impl Notionals {
         Notionals {
             by_qualifier: BTreeMap::new(alloc),
         }
+    }
+
+    /// Equal notionals. The only error is want of memory.
+    pub fn copy(&self, alloc: Global) -> Result<Notionals, AllocError>
+        ensures { IfOk result (λ copy. copy ≡ self.now) }
+    {
+        let mut by_qualifier = BTreeMap::new(alloc);
+        for (qualifier, sum) in self.by_qualifier.iter() {
+            by_qualifier.insert(qualifier.copy(alloc)?, *sum)?;
+        }
+        Ok(Notionals { by_qualifier })
     }
 
     /// The sum of the sizes of a qualifier's notionals in cents, 0 where it has none.

@@ -1,4 +1,4 @@
-ghost use Rattle.std.specs.Prelude.{◌≡◌, ◌∷◌, ◌++◌, List, [], length, true, OnOk, OnErr};
+ghost use Rattle.std.specs.Prelude.{◌≡◌, ◌∷◌, ◌++◌, List, [], length, true, IfOk, OnOk, OnErr};
 ghost use Rattle.std.specs.List.{list_all};
 ghost use Rattle.simm_params.specs.SimmKinds.declared.row.CrifRow.{CrifRow as Row};
 ghost use Rattle.simm_params.specs.SimmKinds.Batch.{is_in_range};
@@ -27,6 +27,16 @@ impl AddOnSums {
             fixed: Cents(0),
             notionals: Notionals::new(alloc),
         }
+    }
+
+    /// Equal sums, of the same rows. It costs the qualifiers, each of which is copied. The only error is want of memory.
+    pub fn copy(&self, alloc: Global) -> Result<AddOnSums, AllocError>
+        ensures { IfOk result (λ copy. copy ≡ self.now) }
+    {
+        Ok(AddOnSums {
+            fixed: self.fixed,
+            notionals: self.notionals.copy(alloc)?,
+        })
     }
 
     /// Adds rows, whose amounts are those that a batch can have; fewer than 2^32 rows are held afterwards. A qualifier is

@@ -26,8 +26,8 @@ use Rattle.factor_book.specs.Holdings.{shrunk}
 use Rattle.factor_book.specs.Filing.{found, found_in, StandAt, FillPlace, AreFiled, in_order, gathered, Leaves, TakesAt}
 use Rattle.simm_rules.proofs.SimmKinds.Orders.{key_total, exact_keys}
 use Rattle.factor_book.proofs.Keys.{same_key_refl, same_key_sym, one_key}
-use Rattle.factor_book.proofs.Standing.{place_total, exact_places, one_place, own_place, tied_place, at_place, found_place, updated_place, ordered_places}
-use Rattle.factor_book.proofs.Sorting.{one_unless, lookup-insert_entry, keys-insert_entry, length-insert_entry, different_ascends, put_ascends, any_different, same_entries, past_head, some_not_none, filter_ascends, keys-graph, lookup-graph}
+use Rattle.factor_book.proofs.Standing.{derived_places, place_total, exact_places, one_place, own_place, tied_place, at_place, found_place, updated_place, ordered_places}
+use Rattle.factor_book.proofs.Sorting.{one_unless, next_copied, lookup-insert_entry, keys-insert_entry, length-insert_entry, different_ascends, put_ascends, any_different, same_entries, past_head, some_not_none, filter_ascends, keys-graph, lookup-graph}
 use Rattle.factor_book.proofs.Grouping.{any_is, any-filter, grouped_all}
 use Rattle.factor_book.proofs.Held.{come_to, lookup-factors, factors_from}
 
@@ -348,3 +348,11 @@ count_written old new key v f g put =
 pub either_way : {T E P Q X : Type 0} (r : Result T E) → OnOk r P → OnErr r Q → (P → X) → (Q → X) → X
 either_way (Ok x) p q f g = f p
 either_way (Err e) p q f g = g q
+
+-- ---- places that are copied in their order
+
+pub place_copied : (filed all left rest done new : List (Place × List (FactorKey × Holding))) (place : Place) (factors own : List (FactorKey × Holding)) → AreFiled filed → all ≡ filed
+    → left ≡ (place, factors) ∷ rest → own ≡ factors → new ≡ insert_entry (place_order.cmp-value).it done place own → done ++ left ≡ all → new ++ rest ≡ all
+place_copied filed all left rest done new place factors own filing same next equal put whole =
+    ap (λ es. es ++ rest) (put ∙ (λ i. insert_entry (derived_places i) done place (equal i)))
+    ∙ next_copied place_total done rest all (place, factors) (ap (λ es. done ++ es) (sym next) ∙ whole) (subst (λ (es : List (Place × List (FactorKey × Holding))). IsStrictlySortedBy place_cmp (keys_of es)) (sym same) filing.ordered)

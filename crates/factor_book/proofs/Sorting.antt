@@ -1,5 +1,5 @@
 -- Different items in order, and lists of pairs in the order of their keys.
-use Rattle.std.proofs.Common.{◌≡◌, ℕ, suc, ◌+◌, ◌≤◌, List, [], ◌∷◌, map, length, Bool, true, false, ◌||◌, cond, Option, Some, None, refl, sym, ap, ◌∙◌, subst, arith}
+use Rattle.std.proofs.Common.{◌≡◌, ℕ, suc, ◌+◌, ◌≤◌, List, [], ◌∷◌, ◌++◌, append_assoc, map, length, Bool, true, false, ◌||◌, cond, Option, Some, None, refl, sym, ap, ◌∙◌, subst, arith}
 use Rattle.std.specs.Prelude.{is_some}
 use Rattle.std.specs.declared.cmp.Ordering.{Ordering}
 use Rattle.std.specs.declared.cmp.Ordering.TheVariants.{Less, Equal, Greater}
@@ -15,7 +15,7 @@ use Rattle.std.proofs.lemmas.Cmp.{alike_right, tied_itself, eq_by_cmp_equiv}
 use Rattle.std.proofs.lemmas.List.Kept.{IsStrictlySortedBy-filter}
 use Rattle.std.proofs.lemmas.Map.{lookup-none}
 use Rattle.std.proofs.lemmas.Map.Entries.{lookup_head, lookup_tail, none_past_head, none_below_head}
-use Rattle.std.proofs.lemmas.Map.Keys.{IsDistinct-from_sorted, sorted_tail}
+use Rattle.std.proofs.lemmas.Map.Keys.{IsDistinct-from_sorted, sorted_head, sorted_tail}
 use Rattle.std.proofs.lemmas.Map.Lookups.{CmpEqualImpliesEq}
 use Rattle.simm_rules.proofs.SimmKinds.Variants.{is_eq-Equal}
 use Rattle.simm_rules.specs.Sums.{put_in, placed, different}
@@ -153,6 +153,24 @@ module _ {K X : Type 0} {R : K → K → Ordering} (o : IsTotalOrder R) where
   pub keys-insert_entry : (k : K) (v : X) (es : List (K × X)) → keys_of (insert_entry R es k v) ≡ put_in R k (keys_of es)
   keys-insert_entry k v [] = refl
   keys-insert_entry k v (e ∷ es) = keys_placed k v e es (insert_entry R es k v) (R k e.0) (keys-insert_entry k v es)
+
+  -- ---- entries that are copied in their order
+
+  below_next : (k : K) (es rest : List (K × X)) (x : K × X) → AllByRecursion (λ y. R k y ≡ Less) (keys_of (es ++ x ∷ rest)) → R k x.0 ≡ Less
+  below_next k [] rest x h = h.0
+  below_next k (e ∷ es) rest x h = below_next k es rest x h.1
+
+  insert_last : (es rest : List (K × X)) (x : K × X) → IsStrictlySortedBy R (keys_of (es ++ x ∷ rest)) → insert_entry R es x.0 x.1 ≡ es ++ x ∷ []
+  insert_last [] rest x s = refl
+  insert_last (e ∷ es) rest x s =
+      ap (λ r. match_ordering r (x ∷ e ∷ es) ((e.0, x.1) ∷ es) (e ∷ insert_entry R es x.0 x.1))
+      (o.antisymm x.0 e.0 ∙ ap ordering_reverse (below_next e.0 es rest x (sorted_head R e.0 (keys_of (es ++ x ∷ rest)) s)))
+      ∙ ap (λ fs. e ∷ fs) (insert_last es rest x (sorted_tail R e.0 (keys_of (es ++ x ∷ rest)) s))
+
+  -- the next of all entries is put in behind those before it
+  pub next_copied : (es rest all : List (K × X)) (x : K × X) → es ++ x ∷ rest ≡ all → IsStrictlySortedBy R (keys_of all) → insert_entry R es x.0 x.1 ++ rest ≡ all
+  next_copied es rest all x whole s =
+      ap (λ fs. fs ++ rest) (insert_last es rest x (subst (λ (fs : List (K × X)). IsStrictlySortedBy R (keys_of fs)) (sym whole) s)) ∙ append_assoc es (x ∷ []) rest ∙ whole
 
   -- ---- the same look-ups, the same pairs
 

@@ -1,4 +1,4 @@
-ghost use Rattle.std.specs.Prelude.{◌≡◌, ◌≤◌, ◌∷◌, ◌++◌, List, [], length, nat_eq, true, flat_map, IsPermutation, MatchOption, OnOk, OnErr};
+ghost use Rattle.std.specs.Prelude.{◌≡◌, ◌≤◌, ◌∷◌, ◌++◌, List, [], length, nat_eq, true, flat_map, IsPermutation, MatchOption, IfOk, OnOk, OnErr};
 ghost use Rattle.std.specs.List.{list_all};
 ghost use Rattle.std.specs.Map.{lookup};
 ghost use Rattle.std.specs.Map.Iter.{ShowsInOrder, deref_pair};
@@ -60,6 +60,20 @@ impl Factors {
             by_place: BTreeMap::new(alloc),
             keys: 0,
         }
+    }
+
+    /// An equal book, which holds the same rows. It costs the keys, each of which is copied. The only error is want of memory.
+    pub fn copy(&self, alloc: Global) -> Result<Factors, AllocError>
+        ensures { IfOk result (λ copy. copy ≡ self.now) }
+    {
+        let mut by_place = BTreeMap::new(alloc);
+        for (place, factors) in &self.by_place {
+            by_place.insert(*place, factors.copy(alloc)?)?;
+        }
+        Ok(Factors {
+            by_place,
+            keys: self.keys,
+        })
     }
 
     /// Does nothing: what each book keeps.

@@ -65,6 +65,17 @@ impl PlaceFactors {
         }
     }
 
+    /// Equal factors. The only error is want of memory.
+    pub(crate) fn copy(&self, alloc: Global) -> Result<PlaceFactors, AllocError>
+        ensures { IfOk result (λ copy. copy ≡ self.now) }
+    {
+        let mut by_key = BTreeMap::new(alloc);
+        for (key, holding) in self.iter() {
+            by_key.insert(key.copy(alloc)?, *holding)?;
+        }
+        Ok(PlaceFactors { by_key })
+    }
+
     /// What the sensitivities to a key come to; `None` where there is none.
     pub(crate) fn holding(&self, key: &FactorKey) -> Option<Holding>
         ensures { result ≡ lookup (same_key key.now) self.now }

@@ -1,4 +1,4 @@
-ghost use Rattle.std.specs.Prelude.{◌≡◌, ◌^◌, ◌<◌, [], ◌∷◌, length, None, OnOk, OnErr, if◌then◌else◌};
+ghost use Rattle.std.specs.Prelude.{◌≡◌, ◌^◌, ◌<◌, [], ◌∷◌, length, None, IfOk, OnOk, OnErr, if◌then◌else◌};
 ghost use Rattle.std.specs.Option.{option_copied};
 ghost use Rattle.std.specs.BTreeMap.{is_at};
 ghost use Rattle.factor_book.specs.declared.at.ClassAt.{ClassAt as At};
@@ -48,6 +48,16 @@ impl KeptBuckets {
             values: BTreeMap::new(alloc),
             margins: KeptMargins::none(),
         }
+    }
+
+    /// The same is kept once more. It costs the places that are kept. The only error is want of memory.
+    pub fn copy(&self) -> Result<KeptBuckets, AllocError>
+        ensures { IfOk result (λ copy. copy ≡ self.now) }
+    {
+        Ok(KeptBuckets {
+            values: self.values.clone()?,
+            margins: self.margins,
+        })
     }
 
     /// What is kept of a place. It takes no memory.
