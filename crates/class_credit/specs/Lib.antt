@@ -1,0 +1,4 @@
+pub mod Points
+pub mod Groups
+pub mod Base
+pub mod Listed

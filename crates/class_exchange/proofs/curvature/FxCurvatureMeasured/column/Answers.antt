@@ -1,0 +1,26 @@
+use Rattle.std.proofs.Common.{refl, rules, arith}
+use Rattle.std.proofs.lemmas.Int.{ints}
+use Rattle.measured_bucket.specs.declared.tenor_scale.TenorScale.TheVariants as scale
+use Rattle.class_exchange.specs.Pairs.{curved_sum}
+use Rattle.class_exchange.proofs.PairColumns.{can_curve, curved_column, pairs_correlated}
+use Rattle.class_exchange.proofs.curvature.FxCurvatureMeasured.column.Goals as goal
+
+pub curve_pairs-requires : goal.curve_pairs-requires
+curve_pairs-requires c = let x = c.args.self.now in can_curve x.params.now c.facts.ensures.params x.pairs.now c.requires
+
+pub invariant_of-result : goal.invariant_of-result
+invariant_of-result c =
+    let x = c.args.self.now in
+    let its = curved_column x.params.now c.facts.ensures.params x.pairs.now c.requires c.in_ok-factors.factors.items c.in_ok-factors.ensures in
+    record { sized = search rules; from_one = its.from_one; below = its.below; in_range = its.in_range; cr_low = omega (arith, ints); cr_high = omega (arith, ints) }
+
+pub returns-clause-made : goal.returns-clause-made
+returns-clause-made c = let x = c.args.self.now in (curved_column x.params.now c.facts.ensures.params x.pairs.now c.requires c.in_ok-factors.factors.items c.in_ok-factors.ensures).made
+
+pub returns-clause-correlated : goal.returns-clause-correlated
+returns-clause-correlated c =
+    let x = c.args.self.now in
+    pairs_correlated x.params.now x.pairs.now scale.Curved c.requires (curved_sum x.params.now) (λ a. refl) c.vol_rho-rho.result.rho.0 c.vol_rho-rho.ensures.rho
+
+pub returns-clause-near : goal.returns-clause-near
+returns-clause-near c = let x = c.args.self.now in (curved_column x.params.now c.facts.ensures.params x.pairs.now c.requires c.in_ok-factors.factors.items c.in_ok-factors.ensures).near

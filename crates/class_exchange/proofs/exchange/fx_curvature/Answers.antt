@@ -1,0 +1,46 @@
+use Rattle.std.proofs.Common.{◌≡◌, ◌∙◌, IfOk, map, ap, sym, subst, unsigned_abs}
+use Rattle.std.proofs.lemmas.Result.{IfOk-weaker}
+use Rattle.measured_bucket.specs.SimmKinds.Order.{pair_cmp, same_pair}
+use Rattle.measured_bucket.specs.SimmRules.declared.values.BucketMargin.{BucketMargin}
+use Rattle.measured_bucket.specs.SimmRules.Bucket.{squared, bucket_value}
+use Rattle.measured_bucket.specs.SimmRules.Concentration.{one}
+use Rattle.measured_bucket.specs.SimmRules.ForeignExchange.{PairVolatility, fx_sigma, pair_rho}
+use Rattle.measured_bucket.specs.declared.tenor_scale.TenorScale.TheVariants as scale
+use Rattle.measured_bucket.specs.Measured.{IsNear}
+use Rattle.measured_bucket.specs.Runs.{AreTotals}
+use Rattle.measured_bucket.proofs.SimmParams.Sigmas.{sigma_low}
+use Rattle.measured_bucket.proofs.Totals.{are_totals, totals_near}
+use Rattle.class_exchange.specs.Pairs.{pair_sums, pair_totals, pair_volatilities, curved_sum}
+use Rattle.class_exchange.proofs.PairValues.{curvature_is, pairs_counted}
+use Rattle.class_exchange.proofs.VolatilePairs.{pairs}
+use Rattle.class_exchange.proofs.exchange.fx_curvature.Goals as goal
+
+pub volatile_pairs-requires : goal.volatile_pairs-requires
+volatile_pairs-requires g c = c.requires.sizes
+
+pub measure-requires : goal.measure-requires
+measure-requires g c =
+    let p = c.args.params.now in
+    let there = ap pair_sums c.as_slice.ensures.value ∙ c.in_ok-pairs.ensures in
+    subst (AreTotals pair_cmp scale.Curved (fx_sigma p)) (sym there) (are_totals pairs scale.Curved (fx_sigma p) (sigma_low p c.facts.ensures.params) (pair_volatilities c.args.product c.args.factors.now) c.requires)
+
+pub returns-clause-value : goal.returns-clause-value
+returns-clause-value g c =
+    let p = c.args.params.now in
+    let there = ap pair_sums c.as_slice.ensures.value ∙ c.in_ok-pairs.ensures in
+    subst (λ fs. IfOk c.measure.result (λ (m : BucketMargin). m ≡ bucket_value (squared same_pair (pair_rho p)) one fs)) (ap (map (curved_sum p)) there ∙ curvature_is (pair_volatilities c.args.product c.args.factors.now) p) c.measure.ensures.value
+
+pub returns-clause-near : goal.returns-clause-near
+returns-clause-near g c =
+    let p = c.args.params.now in
+    let amounts = pair_volatilities c.args.product c.args.factors.now in
+    let there = ap pair_sums c.as_slice.ensures.value ∙ c.in_ok-pairs.ensures in
+    IfOk-weaker c.measure.result (λ (m : BucketMargin). IsNear 219000000 1 1 (fx_sigma p) (pair_totals scale.Curved amounts) (unsigned_abs m.gross))
+    (λ m. IsNear 20000 1 1 (λ (v : PairVolatility). fx_sigma p v.pair) amounts (unsigned_abs m.gross))
+    (λ m. totals_near pairs scale.Curved (fx_sigma p) (sigma_low p c.facts.ensures.params) amounts 20000 1 1 (unsigned_abs m.gross))
+    (subst (λ xs. IfOk c.measure.result (λ (m : BucketMargin). IsNear 219000000 1 1 (fx_sigma p) xs (unsigned_abs m.gross))) there c.measure.ensures.near)
+
+pub returns-clause-steps : goal.returns-clause-steps
+returns-clause-steps g c =
+    let there = ap pair_sums c.as_slice.ensures.value ∙ c.in_ok-pairs.ensures in
+    pairs_counted (pair_volatilities c.args.product c.args.factors.now) (curved_sum c.args.params.now) scale.Curved c.args.steps.now c.measure.new.steps (pair_sums c.as_slice.result.now) there c.measure.ensures.steps

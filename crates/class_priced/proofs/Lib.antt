@@ -1,0 +1,5 @@
+pub mod PricedNames
+pub mod VolatileNames
+pub mod NameSums
+pub mod NameColumns
+pub mod PricedValues

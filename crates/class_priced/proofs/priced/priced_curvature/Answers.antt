@@ -1,0 +1,52 @@
+use Rattle.std.proofs.Common.{◌≡◌, ◌∙◌, ◌+◌, ◌*◌, ◌≤◌, ℕ, List, ap, sym, subst, IfOk, unsigned_abs}
+use Rattle.std.proofs.lemmas.List.{length-map}
+use Rattle.std.proofs.lemmas.Result.{IfOk-weaker}
+use Rattle.measured_bucket.specs.SimmKinds.Order.{name_cmp}
+use Rattle.measured_bucket.specs.SimmRules.declared.values.BucketMargin.{BucketMargin}
+use Rattle.measured_bucket.specs.SimmRules.Risks.{Amount}
+use Rattle.measured_bucket.specs.SimmRules.Priced.{NameVolatility, names_of}
+use Rattle.measured_bucket.specs.SimmParams.ListedBuckets.{priced_bucket_view}
+use Rattle.measured_bucket.specs.Measured.{IsNear}
+use Rattle.measured_bucket.specs.Runs.{AreTotals}
+use Rattle.measured_bucket.specs.declared.tenor_scale.TenorScale.TheVariants as scale
+use Rattle.measured_bucket.proofs.Counted.{counted}
+use Rattle.measured_bucket.proofs.Totals.{are_totals, totals_near}
+use Rattle.class_priced.specs.Names.{volatilities_at}
+use Rattle.class_priced.specs.Sums.{name_sums, name_total, name_totals}
+use Rattle.class_priced.specs.Weights.{curved_name}
+use Rattle.class_priced.proofs.PricedValues.{curvature_is, curvature_of}
+use Rattle.class_priced.proofs.VolatileNames.{names}
+use Rattle.class_priced.proofs.priced.priced_curvature.Goals as goal
+
+pub measure-requires : goal.measure-requires
+measure-requires g c =
+    let listed = c.args.listed in
+    let amounts = volatilities_at c.args.at c.args.factors.now in
+    let there = ap name_sums c.as_slice.ensures.value ∙ c.in_ok-names.ensures in
+    subst (AreTotals name_cmp scale.Curved (λ (x : List ℕ). listed.bucket.sigma.0)) (sym there) (are_totals names scale.Curved (λ (x : List ℕ). listed.bucket.sigma.0) (λ x. listed.weighed.sigma.low) amounts c.requires)
+
+pub returns-clause-value : goal.returns-clause-value
+returns-clause-value g c =
+    let b = priced_bucket_view c.args.listed.bucket in
+    let amounts = volatilities_at c.args.at c.args.factors.now in
+    let there = ap name_sums c.as_slice.ensures.value ∙ c.in_ok-names.ensures in
+    subst (λ v. IfOk c.measure.result (λ (m : BucketMargin). m ≡ v)) (ap (curvature_of b) there ∙ curvature_is b amounts) c.measure.ensures.value
+
+pub returns-clause-near : goal.returns-clause-near
+returns-clause-near g c =
+    let listed = c.args.listed in
+    let sigma = λ (x : List ℕ). listed.bucket.sigma.0 in
+    let amounts = volatilities_at c.args.at c.args.factors.now in
+    let there = ap name_sums c.as_slice.ensures.value ∙ c.in_ok-names.ensures in
+    IfOk-weaker c.measure.result (λ (m : BucketMargin). IsNear 219000000 1 1 sigma (name_totals scale.Curved amounts) (unsigned_abs m.gross)) (λ m. IsNear 20000 1 1 (λ (x : NameVolatility). listed.bucket.sigma.0) amounts (unsigned_abs m.gross))
+    (λ m near. totals_near names scale.Curved sigma (λ x. listed.weighed.sigma.low) amounts 20000 1 1 (unsigned_abs m.gross) near)
+    (subst (λ xs. IfOk c.measure.result (λ (m : BucketMargin). IsNear 219000000 1 1 sigma xs (unsigned_abs m.gross))) there c.measure.ensures.near)
+
+pub returns-clause-steps : goal.returns-clause-steps
+returns-clause-steps g c =
+    let b = priced_bucket_view c.args.listed.bucket in
+    let amounts = volatilities_at c.args.at c.args.factors.now in
+    let there = ap name_sums c.as_slice.ensures.value ∙ c.in_ok-names.ensures in
+    let sum_of : List ℕ → Amount (List ℕ) = λ name. record { of = name; amount = name_total scale.Curved amounts name } in
+    subst (λ n. c.measure.new.steps ≤ c.args.steps.now + n * n) (length-map (names_of amounts) sum_of)
+    (counted (curved_name b) c.args.steps.now c.measure.new.steps (name_sums c.as_slice.result.now) (name_totals scale.Curved amounts) there c.measure.ensures.steps)

@@ -1,0 +1,95 @@
+-- The names of a bucket of equity or of commodities, and their volatilities, among the factors of a book: where they stand, and which
+-- can be measured.
+-- (ISDA SIMM methodology, equity and commodity risk.)
+use Rattle.std.specs.Prelude.{ℕ, List, map, Option, Some, None, ℤ}
+use Rattle.std.specs.List.Sorted.{IsStrictlySortedBy}
+use Rattle.measured_bucket.specs.SimmKinds.declared.kinds.ProductClass.{ProductClass}
+use Rattle.measured_bucket.specs.SimmKinds.declared.kinds.RiskClass.{RiskClass}
+use Rattle.measured_bucket.specs.SimmKinds.declared.kinds.RiskClass.TheVariants as class
+use Rattle.measured_bucket.specs.SimmKinds.declared.bucket.Bucket.{Bucket}
+use Rattle.measured_bucket.specs.SimmKinds.declared.key.FactorKey.{FactorKey}
+use Rattle.measured_bucket.specs.SimmKinds.Factors.{bucket_id_of}
+use Rattle.measured_bucket.specs.SimmKinds.Order.{name_cmp}
+use Rattle.measured_bucket.specs.SimmRules.Risks.{Risk, Of_rate, Of_rate_volatility, Of_credit, Of_credit_volatility, Of_base_correlation, Of_price, Of_price_volatility, Of_currency, Of_pair_volatility, PricedClass, Equities, Commodities, Amount, select}
+use Rattle.measured_bucket.specs.SimmRules.Priced.{NameVolatility, as_price, as_price_volatility}
+use Rattle.measured_bucket.specs.SimmParams.ClassKinds.{priced_class}
+use Rattle.measured_bucket.specs.FactorBook.declared.place.Place.{Place}
+use Rattle.measured_bucket.specs.FactorBook.declared.place.BookSide.{BookSide}
+use Rattle.measured_bucket.specs.FactorBook.declared.place.BookSide.TheVariants as side
+use Rattle.measured_bucket.specs.FactorBook.declared.holding.Holding.{Holding}
+use Rattle.measured_bucket.specs.FactorBook.Factors.{net_of}
+use Rattle.measured_bucket.specs.Values.{nets_in, IsInRange}
+use Rattle.class_priced.specs.declared.at.PricedAt.{PricedAt}
+use Rattle.class_priced.specs.declared.names.NameNet.{NameNet}
+
+-- ---- where they stand
+
+abbrev pub priced_risk_class : PricedClass → RiskClass
+priced_risk_class Equities = class.Equity
+priced_risk_class Commodities = class.Commodity
+
+abbrev pub priced_place : BookSide → PricedClass → Bucket → ProductClass → Place
+priced_place side class at product = record { product = product; class = priced_risk_class class; side = side; bucket = bucket_id_of at }
+
+abbrev pub names_place : PricedClass → Bucket → ProductClass → Place
+names_place class at product = priced_place side.Delta class at product
+
+abbrev pub volatilities_place : PricedClass → Bucket → ProductClass → Place
+volatilities_place class at product = priced_place side.Volatility class at product
+
+-- ---- their nets, in key order
+
+abbrev pub names_in : PricedClass → Bucket → ProductClass → List (FactorKey × Holding) → List (Amount (List ℕ))
+names_in class at product factors = select (as_price class at) (nets_in product factors)
+
+abbrev pub volatilities_in : PricedClass → Bucket → ProductClass → List (FactorKey × Holding) → List (Amount NameVolatility)
+volatilities_in class at product factors = select (as_price_volatility class at) (nets_in product factors)
+
+-- those of a bucket as the code names it
+abbrev pub names_at : PricedAt → List (FactorKey × Holding) → List (Amount (List ℕ))
+names_at at factors = names_in (priced_class at.kind) at.bucket at.product factors
+
+abbrev pub volatilities_at : PricedAt → List (FactorKey × Holding) → List (Amount NameVolatility)
+volatilities_at at factors = volatilities_in (priced_class at.kind) at.bucket at.product factors
+
+-- the name that a risk is of, and the volatility of a name, in whichever bucket
+abbrev pub as_name : Risk → Option (List ℕ)
+as_name (Of_rate currency rate) = None
+as_name (Of_rate_volatility currency v) = None
+as_name (Of_credit class b point) = None
+as_name (Of_credit_volatility class b point) = None
+as_name (Of_base_correlation index) = None
+as_name (Of_price class b name) = Some name
+as_name (Of_price_volatility class b name tenor) = None
+as_name (Of_currency currency) = None
+as_name (Of_pair_volatility pair tenor) = None
+
+abbrev pub as_name_volatility : Risk → Option NameVolatility
+as_name_volatility (Of_rate currency rate) = None
+as_name_volatility (Of_rate_volatility currency v) = None
+as_name_volatility (Of_credit class b point) = None
+as_name_volatility (Of_credit_volatility class b point) = None
+as_name_volatility (Of_base_correlation index) = None
+as_name_volatility (Of_price class b name) = None
+as_name_volatility (Of_price_volatility class b name tenor) = Some (record { name = name; tenor = tenor })
+as_name_volatility (Of_currency currency) = None
+as_name_volatility (Of_pair_volatility pair tenor) = None
+
+abbrev pub name_nets : List (FactorKey × Holding) → List (Amount (List ℕ))
+name_nets factors = select as_name (map net_of factors)
+
+abbrev pub volatility_nets : List (FactorKey × Holding) → List (Amount NameVolatility)
+volatility_nets factors = select as_name_volatility (map net_of factors)
+
+-- names that can be measured: different ones in order, in range by this weight
+pub record AreNames (weight : ℤ) (names : List (Amount (List ℕ))) : Type 0 where
+  pub ascends : IsStrictlySortedBy name_cmp (map (λ a. a.of) names)
+  pub range : IsInRange (λ _. weight) names
+
+-- ---- as the code has them
+
+abbrev pub name_view : NameNet → Amount (List ℕ)
+name_view n = record { of = n.name.now; amount = n.net }
+
+abbrev pub names_view : List NameNet → List (Amount (List ℕ))
+names_view nets = map name_view nets

@@ -1,0 +1,39 @@
+-- Where the factors of a currency stand in a book, and which they are.
+-- (ISDA SIMM methodology, interest rate risk: one bucket a currency.)
+use Rattle.std.specs.Prelude.{ℕ, List}
+use Rattle.measured_bucket.specs.SimmKinds.declared.kinds.ProductClass.{ProductClass}
+use Rattle.measured_bucket.specs.SimmKinds.declared.kinds.RiskClass.TheVariants as class
+use Rattle.measured_bucket.specs.SimmKinds.declared.kinds.BucketId.TheVariants as id
+use Rattle.measured_bucket.specs.SimmKinds.declared.key.FactorKey.{FactorKey}
+use Rattle.measured_bucket.specs.SimmRules.Risks.{Amount}
+use Rattle.measured_bucket.specs.SimmRules.Rates.{RateIn, VolatilityIn, rates_in, volatilities_in}
+use Rattle.measured_bucket.specs.FactorBook.declared.place.Place.{Place}
+use Rattle.measured_bucket.specs.FactorBook.declared.place.BookSide.{BookSide}
+use Rattle.measured_bucket.specs.FactorBook.declared.place.BookSide.TheVariants as side
+use Rattle.measured_bucket.specs.FactorBook.declared.holding.Holding.{Holding}
+use Rattle.measured_bucket.specs.Values.{nets_in}
+use Rattle.class_rates.specs.declared.at.CurrencyAt.{CurrencyAt}
+
+abbrev pub currency_place : BookSide → List ℕ → ProductClass → Place
+currency_place side currency product = record { product = product; class = class.IR; side = side; bucket = id.Currency currency }
+
+abbrev pub rates_place : List ℕ → ProductClass → Place
+rates_place currency product = currency_place side.Delta currency product
+
+abbrev pub volatilities_place : List ℕ → ProductClass → Place
+volatilities_place currency product = currency_place side.Volatility currency product
+
+-- ---- the nets of a currency in a product class, in key order
+
+abbrev pub rates_of : List ℕ → ProductClass → List (FactorKey × Holding) → List (Amount RateIn)
+rates_of currency product factors = rates_in currency (nets_in product factors)
+
+abbrev pub volatilities_of : List ℕ → ProductClass → List (FactorKey × Holding) → List (Amount VolatilityIn)
+volatilities_of currency product factors = volatilities_in currency (nets_in product factors)
+
+-- those of a bucket as the code names it
+abbrev pub rates_at : CurrencyAt → List (FactorKey × Holding) → List (Amount RateIn)
+rates_at at factors = rates_of at.currency at.product factors
+
+abbrev pub volatilities_at : CurrencyAt → List (FactorKey × Holding) → List (Amount VolatilityIn)
+volatilities_at at factors = volatilities_of at.currency at.product factors
