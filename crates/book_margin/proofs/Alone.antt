@@ -29,10 +29,10 @@ use Rattle.kept_buckets.specs.SimmRules.ForeignExchange.{as_currency, as_pair_vo
 use Rattle.kept_buckets.specs.SimmRules.Simm.{class_margin_of}
 use Rattle.kept_buckets.specs.FactorBook.declared.at.ClassAt.{ClassAt}
 use Rattle.kept_buckets.specs.FactorBook.declared.holding.Holding.{Holding}
-use Rattle.class_volatility.specs.NameDelta.Names.{priced_risk_class}
-use Rattle.class_volatility.specs.NameDelta.Points.{credit_risk_class}
-use Rattle.class_volatility.specs.NameDelta.Values.{nets_in}
-use Rattle.class_volatility.proofs.ClassDelta.Alone.{select_alone}
+use Rattle.class_margin.specs.ClassPriced.Names.{priced_risk_class}
+use Rattle.class_margin.specs.ClassCredit.Points.{credit_risk_class}
+use Rattle.class_margin.specs.names_delta.Values.{nets_in}
+use Rattle.class_margin.proofs.Alone.{select_alone}
 use Rattle.kept_buckets.specs.Touched.{is_of_class}
 use Rattle.book_margin.specs.Classes.{class_factors}
 

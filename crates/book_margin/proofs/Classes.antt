@@ -15,7 +15,7 @@ use Rattle.kept_buckets.specs.SimmRules.Net.{Sensitivity}
 use Rattle.kept_buckets.specs.SimmRules.Simm.{products, classes, class_margin_of}
 use Rattle.kept_buckets.specs.FactorBook.declared.at.ClassAt.{ClassAt}
 use Rattle.kept_buckets.specs.FactorBook.declared.holding.Holding.{Holding}
-use Rattle.class_volatility.specs.NameDelta.Values.{nets_in}
+use Rattle.class_margin.specs.names_delta.Values.{nets_in}
 use Rattle.class_combine.specs.declared.whole.ProductClasses.{ProductClasses}
 use Rattle.class_combine.specs.Classes.{class_in, IsClassMargin}
 use Rattle.class_combine.specs.Whole.{classes_in, AreProductClasses}

@@ -4,10 +4,10 @@ use Rattle.kept_buckets.specs.SimmKinds.declared.key.FactorKey.{FactorKey}
 use Rattle.kept_buckets.specs.SimmRules.Params.{Params}
 use Rattle.kept_buckets.specs.FactorBook.declared.at.ClassAt.{ClassAt}
 use Rattle.kept_buckets.specs.FactorBook.declared.holding.Holding.{Holding}
-use Rattle.class_volatility.specs.ClassDelta.Delta.{AreDeltaParts}
-use Rattle.class_volatility.proofs.ClassDelta.Valued.{Whole}
-use Rattle.class_volatility.specs.Vega.{AreVegaParts}
-use Rattle.class_volatility.specs.Curvature.{AreCurvatureParts}
+use Rattle.class_margin.specs.delta.Delta.{AreDeltaParts}
+use Rattle.class_margin.proofs.Valued.{Whole}
+use Rattle.class_margin.specs.volatility.Vega.{AreVegaParts}
+use Rattle.class_margin.specs.volatility.Curvature.{AreCurvatureParts}
 use Rattle.book_margin.specs.Classes.{AreClassParts}
 
 pub lent_parts : (p : Params) (at : ClassAt) (fs : List (FactorKey × Holding)) (deltas vegas curvatures ds vs cs : List Whole) → ds ≡ deltas → vs ≡ vegas → cs ≡ curvatures

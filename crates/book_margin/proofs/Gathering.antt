@@ -15,13 +15,13 @@ use Rattle.kept_buckets.specs.FactorBook.declared.holding.Holding.{Holding}
 use Rattle.kept_buckets.specs.FactorBook.declared.place.Place.{Place}
 use Rattle.kept_buckets.specs.FactorBook.Places.{factors_at, place_in, buckets_on}
 use Rattle.kept_buckets.proofs.FactorBook.Sorting.{each_weaker}
-use Rattle.class_volatility.specs.Vega.{volatility_buckets, vega_value, IsVegaSized, volatility_side, volatility_place}
-use Rattle.class_volatility.specs.Curvature.{curvature_value, IsCurvatureSized}
-use Rattle.class_volatility.specs.ClassDelta.Buckets.{delta_side, delta_place, delta_buckets, bucket_at}
-use Rattle.class_volatility.specs.ClassDelta.Delta.{delta_at, IsSizedAt}
-use Rattle.class_volatility.specs.ClassDelta.Values.{AreValuedBy}
-use Rattle.class_volatility.proofs.ClassDelta.OnSide.{each_on}
-use Rattle.class_volatility.proofs.ClassDelta.Valued.{Whole, value_next}
+use Rattle.class_margin.specs.volatility.Vega.{volatility_buckets, vega_value, IsVegaSized, volatility_side, volatility_place}
+use Rattle.class_margin.specs.volatility.Curvature.{curvature_value, IsCurvatureSized}
+use Rattle.class_margin.specs.delta.Buckets.{delta_side, delta_place, delta_buckets, bucket_at}
+use Rattle.class_margin.specs.delta.Delta.{delta_at, IsSizedAt}
+use Rattle.class_margin.specs.delta.Values.{AreValuedBy}
+use Rattle.class_margin.proofs.OnSide.{each_on}
+use Rattle.class_margin.proofs.Valued.{Whole, value_next}
 use Rattle.kept_buckets.specs.declared.value.VolatilityMargins.{VolatilityMargins}
 use Rattle.kept_buckets.specs.Dirty.{steps_left}
 use Rattle.kept_buckets.specs.Kept.{Kept, value_at}

@@ -8,11 +8,11 @@ use Rattle.kept_buckets.specs.FactorBook.declared.at.BucketAt.{BucketAt}
 use Rattle.kept_buckets.specs.FactorBook.declared.at.ClassAt.{ClassAt}
 use Rattle.kept_buckets.specs.FactorBook.declared.holding.Holding.{Holding}
 use Rattle.kept_buckets.specs.FactorBook.Places.{factors_at}
-use Rattle.class_volatility.specs.ClassDelta.Buckets.{bucket_at, delta_place}
-use Rattle.class_volatility.specs.ClassDelta.Values.{AreValuedBy}
-use Rattle.class_volatility.specs.Vega.{volatility_place, vega_value, IsVegaSized}
-use Rattle.class_volatility.specs.Curvature.{curvature_value, IsCurvatureSized}
-use Rattle.class_volatility.proofs.ClassDelta.Valued.{Whole}
+use Rattle.class_margin.specs.delta.Buckets.{bucket_at, delta_place}
+use Rattle.class_margin.specs.delta.Values.{AreValuedBy}
+use Rattle.class_margin.specs.volatility.Vega.{volatility_place, vega_value, IsVegaSized}
+use Rattle.class_margin.specs.volatility.Curvature.{curvature_value, IsCurvatureSized}
+use Rattle.class_margin.proofs.Valued.{Whole}
 use Rattle.kept_buckets.specs.declared.value.KeptValue.{KeptValue}
 use Rattle.kept_buckets.specs.declared.value.KeptValue.TheVariants as value
 use Rattle.kept_buckets.specs.Cached.{delta_in, volatility_in, kept_delta, kept_volatility}

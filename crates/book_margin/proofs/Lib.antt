@@ -9,4 +9,4 @@ pub mod Untouched
 pub mod Classes
 pub use Rattle.kept_buckets.proofs.SimmKinds as SimmKinds
 pub use Rattle.kept_buckets.proofs.FactorBook as FactorBook
-pub use Rattle.class_volatility.proofs.ClassDelta as ClassDelta
+pub use Rattle.class_margin.proofs as ClassMargin

@@ -11,13 +11,13 @@ use Rattle.kept_buckets.specs.SimmRules.Net.{Sensitivity}
 use Rattle.kept_buckets.specs.SimmRules.Simm.{class_margin_of}
 use Rattle.class_combine.specs.Classes.{IsClassMargin}
 use Rattle.class_combine.proofs.Products.{passed, plus, added}
-use Rattle.class_volatility.specs.Curvature.{class_curvature_of}
-use Rattle.class_volatility.specs.ClassDelta.Class.{class_delta_of}
-use Rattle.class_volatility.specs.Vega.{class_vega_of}
+use Rattle.class_margin.specs.volatility.Curvature.{class_curvature_of}
+use Rattle.class_margin.specs.delta.Class.{class_delta_of}
+use Rattle.class_margin.specs.volatility.Vega.{class_vega_of}
 use Rattle.kept_buckets.specs.SimmKinds.declared.key.FactorKey.{FactorKey}
 use Rattle.kept_buckets.specs.FactorBook.declared.at.ClassAt.{ClassAt}
 use Rattle.kept_buckets.specs.FactorBook.declared.holding.Holding.{Holding}
-use Rattle.class_volatility.specs.NameDelta.Values.{nets_in}
+use Rattle.class_margin.specs.names_delta.Values.{nets_in}
 use Rattle.book_margin.specs.declared.measures.MeasureMargins.{MeasureMargins}
 use Rattle.book_margin.specs.Classes.{base_of}
 use Rattle.book_margin.specs.Measures.{AreMeasures, AreWithin, IsWithin, measure_at, measures_sum}

@@ -19,10 +19,10 @@ use Rattle.kept_buckets.specs.FactorBook.declared.place.Place.{Place}
 use Rattle.kept_buckets.specs.FactorBook.Place.{place_cmp}
 use Rattle.kept_buckets.specs.FactorBook.Places.{factors_at, by_place}
 use Rattle.kept_buckets.proofs.FactorBook.Standing.{one_place, own_place}
-use Rattle.class_volatility.specs.Vega.{vega_value, IsVegaSized, volatility_place}
-use Rattle.class_volatility.specs.Curvature.{curvature_value, IsCurvatureSized}
-use Rattle.class_volatility.specs.ClassDelta.Buckets.{delta_place, bucket_at}
-use Rattle.class_volatility.specs.ClassDelta.Delta.{delta_at, IsSizedAt}
+use Rattle.class_margin.specs.volatility.Vega.{vega_value, IsVegaSized, volatility_place}
+use Rattle.class_margin.specs.volatility.Curvature.{curvature_value, IsCurvatureSized}
+use Rattle.class_margin.specs.delta.Buckets.{delta_place, bucket_at}
+use Rattle.class_margin.specs.delta.Delta.{delta_at, IsSizedAt}
 use Rattle.kept_buckets.specs.declared.value.KeptValue.{KeptValue}
 use Rattle.kept_buckets.specs.declared.value.KeptValue.TheVariants as value
 use Rattle.kept_buckets.specs.declared.value.VolatilityMargins.{VolatilityMargins}

@@ -18,11 +18,11 @@ use Rattle.kept_buckets.specs.FactorBook.declared.holding.Holding.{Holding}
 use Rattle.kept_buckets.specs.FactorBook.declared.place.Place.{Place}
 use Rattle.kept_buckets.specs.FactorBook.Place.{book_side}
 use Rattle.kept_buckets.specs.FactorBook.Places.{same_side, stands_at, factors_at}
-use Rattle.class_volatility.specs.NameDelta.Values.{nets_in}
-use Rattle.class_volatility.specs.Vega.{vega_value, IsVegaSized, volatility_place}
-use Rattle.class_volatility.specs.Curvature.{curvature_value, IsCurvatureSized}
-use Rattle.class_volatility.specs.ClassDelta.Buckets.{delta_place, bucket_at}
-use Rattle.class_volatility.specs.ClassDelta.Delta.{delta_at, IsSizedAt}
+use Rattle.class_margin.specs.names_delta.Values.{nets_in}
+use Rattle.class_margin.specs.volatility.Vega.{vega_value, IsVegaSized, volatility_place}
+use Rattle.class_margin.specs.volatility.Curvature.{curvature_value, IsCurvatureSized}
+use Rattle.class_margin.specs.delta.Buckets.{delta_place, bucket_at}
+use Rattle.class_margin.specs.delta.Delta.{delta_at, IsSizedAt}
 use Rattle.kept_buckets.specs.declared.value.KeptValue.{KeptValue}
 use Rattle.kept_buckets.specs.declared.value.KeptValue.TheVariants as value
 use Rattle.kept_buckets.specs.Kept.{Kept, value_at, margin_at}

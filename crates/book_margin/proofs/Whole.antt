@@ -12,7 +12,7 @@ use Rattle.kept_buckets.specs.SimmRules.Net.{sensitivities, in_product, netted}
 use Rattle.kept_buckets.specs.SimmRules.AddOns.{fixed_amounts, notional_add_on}
 use Rattle.kept_buckets.specs.SimmRules.Simm.{simm}
 use Rattle.kept_buckets.specs.FactorBook.declared.holding.Holding.{Holding}
-use Rattle.class_volatility.specs.NameDelta.Values.{nets_in}
+use Rattle.class_margin.specs.names_delta.Values.{nets_in}
 use Rattle.class_combine.specs.declared.additional.AddOns.{AddOns}
 use Rattle.class_combine.specs.declared.whole.ProductClasses.{ProductClasses}
 use Rattle.class_combine.specs.Multipliers.{multiplied_in}

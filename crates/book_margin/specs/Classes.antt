@@ -17,11 +17,11 @@ use Rattle.kept_buckets.specs.SimmRules.BaseCorrelation.{base_margin}
 use Rattle.kept_buckets.specs.SimmRules.Simm.{class_margin_of}
 use Rattle.kept_buckets.specs.FactorBook.declared.at.ClassAt.{ClassAt}
 use Rattle.kept_buckets.specs.FactorBook.declared.holding.Holding.{Holding}
-use Rattle.class_volatility.specs.BookRange.Bounded.{IsMarginable}
-use Rattle.class_volatility.specs.NameDelta.Values.{nets_in}
-use Rattle.class_volatility.specs.ClassDelta.Delta.{AreDeltaParts}
-use Rattle.class_volatility.specs.Vega.{AreVegaParts}
-use Rattle.class_volatility.specs.Curvature.{AreCurvatureParts}
+use Rattle.class_margin.specs.BookRange.Bounded.{IsMarginable}
+use Rattle.class_margin.specs.names_delta.Values.{nets_in}
+use Rattle.class_margin.specs.delta.Delta.{AreDeltaParts}
+use Rattle.class_margin.specs.volatility.Vega.{AreVegaParts}
+use Rattle.class_margin.specs.volatility.Curvature.{AreCurvatureParts}
 use Rattle.class_combine.specs.declared.whole.ProductClasses.{ProductClasses}
 use Rattle.kept_buckets.specs.Touched.{is_of_class}
 

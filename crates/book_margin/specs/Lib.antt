@@ -5,6 +5,6 @@ pub use Rattle.kept_buckets.specs.MhUnits as MhUnits
 pub use Rattle.kept_buckets.specs.SimmKinds as SimmKinds
 pub use Rattle.kept_buckets.specs.SimmRules as SimmRules
 pub use Rattle.kept_buckets.specs.FactorBook as FactorBook
-pub use Rattle.class_volatility.specs.BookRange as BookRange
+pub use Rattle.class_margin.specs.BookRange as BookRange
 pub use Rattle.kept_buckets.specs as KeptBuckets
 pub use Rattle.class_combine.specs as ClassCombine

@@ -1,17 +1,16 @@
 //! The values of one bucket: what is kept of it, or else worked out and kept.
 ghost use Rattle.std.specs.Prelude.{◌≡◌, ◌≢◌, ◌+◌, ◌≤◌, [], None, IsSome, IfOk, OnOk};
 ghost use Rattle.kept_buckets.specs.FactorBook.Places.{factors_at};
-ghost use Rattle.class_volatility.specs.BookRange.Bounded.{IsMarginable};
-ghost use Rattle.class_volatility.specs.ClassDelta.Buckets.{bucket_at, delta_place};
-ghost use Rattle.class_volatility.specs.Vega.{volatility_place};
+ghost use Rattle.class_margin.specs.BookRange.Bounded.{IsMarginable};
+ghost use Rattle.class_margin.specs.delta.Buckets.{bucket_at, delta_place};
+ghost use Rattle.class_margin.specs.volatility.Vega.{volatility_place};
 ghost use Rattle.kept_buckets.specs.Dirty.{steps_left};
 ghost use Rattle.kept_buckets.specs.Kept.{value_at};
 ghost use Rattle.book_margin.specs.Right.{AreRight, IsDelta, AreVolatility, Renews};
 
 use class_combine::simm_params::Params;
-use class_volatility::class_delta::{bucket_at, delta_bucket};
-use class_volatility::pair_sum::Steps;
-use class_volatility::{curvature_bucket, vega_bucket};
+use class_margin::pair_sum::Steps;
+use class_margin::{bucket_at, curvature_bucket, delta_bucket, vega_bucket};
 use kept_buckets::factor_book::{ClassAt, Factors};
 use kept_buckets::simm_kinds::BucketId;
 use kept_buckets::simm_rules::BucketMargin;

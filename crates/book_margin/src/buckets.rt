@@ -1,17 +1,16 @@
 //! The buckets of a class that have a factor, each with its value: what is kept of them, or else worked out and kept.
 ghost use Rattle.std.specs.Prelude.{◌+◌, ◌≤◌, IfOk, OnOk};
-ghost use Rattle.class_volatility.specs.BookRange.Bounded.{IsMarginable};
-ghost use Rattle.class_volatility.specs.ClassDelta.Delta.{AreDeltaParts};
-ghost use Rattle.class_volatility.specs.Vega.{AreVegaParts};
-ghost use Rattle.class_volatility.specs.Curvature.{AreCurvatureParts};
+ghost use Rattle.class_margin.specs.BookRange.Bounded.{IsMarginable};
+ghost use Rattle.class_margin.specs.delta.Delta.{AreDeltaParts};
+ghost use Rattle.class_margin.specs.volatility.Vega.{AreVegaParts};
+ghost use Rattle.class_margin.specs.volatility.Curvature.{AreCurvatureParts};
 ghost use Rattle.kept_buckets.specs.Dirty.{steps_left};
 ghost use Rattle.book_margin.specs.Right.{AreRight, AreDeltasKept, AreVolatilitiesKept, Renews};
 
 use crate::bucket::{delta_value, volatility_values};
 use class_combine::simm_params::Params;
-use class_volatility::class_delta::delta_buckets;
-use class_volatility::pair_sum::Steps;
-use class_volatility::volatility_buckets;
+use class_margin::pair_sum::Steps;
+use class_margin::{delta_buckets, volatility_buckets};
 use kept_buckets::KeptBuckets;
 use kept_buckets::factor_book::{ClassAt, Factors};
 use kept_buckets::simm_kinds::BucketId;

@@ -1,19 +1,18 @@
 //! The margins of the measures of a class of which all values of buckets are kept.
 ghost use Rattle.std.specs.Prelude.{◌≢◌, [], IfOk};
 ghost use Rattle.kept_buckets.specs.FactorBook.Places.{factors_at};
-ghost use Rattle.class_volatility.specs.BookRange.Bounded.{IsMarginable};
-ghost use Rattle.class_volatility.specs.ClassDelta.Buckets.{bucket_at, delta_place};
-ghost use Rattle.class_volatility.specs.ClassDelta.Delta.{AreDeltaParts};
-ghost use Rattle.class_volatility.specs.Vega.{volatility_place, AreVegaParts};
-ghost use Rattle.class_volatility.specs.Curvature.{AreCurvatureParts};
+ghost use Rattle.class_margin.specs.BookRange.Bounded.{IsMarginable};
+ghost use Rattle.class_margin.specs.delta.Buckets.{bucket_at, delta_place};
+ghost use Rattle.class_margin.specs.delta.Delta.{AreDeltaParts};
+ghost use Rattle.class_margin.specs.volatility.Vega.{volatility_place, AreVegaParts};
+ghost use Rattle.class_margin.specs.volatility.Curvature.{AreCurvatureParts};
 ghost use Rattle.book_margin.specs.Measures.{AreMeasures};
 ghost use Rattle.book_margin.specs.Right.{AreRight, AreDeltasKept, AreVolatilitiesKept, IsDelta, AreVolatility, IsWhole};
 
 use crate::buckets::VolatilityParts;
 use crate::measures::{MeasureMargins, measures_from};
 use class_combine::simm_params::Params;
-use class_volatility::class_delta::{bucket_at, delta_buckets};
-use class_volatility::volatility_buckets;
+use class_margin::{bucket_at, delta_buckets, volatility_buckets};
 use kept_buckets::factor_book::{ClassAt, Factors};
 use kept_buckets::simm_kinds::BucketId;
 use kept_buckets::simm_rules::BucketMargin;

@@ -9,15 +9,16 @@ ghost use Rattle.kept_buckets.specs.FactorBook.declared.at.BucketAt.{BucketAt};
 ghost use Rattle.kept_buckets.specs.FactorBook.declared.at.ClassAt.{ClassAt};
 ghost use Rattle.kept_buckets.specs.FactorBook.declared.holding.Holding.{Holding};
 ghost use Rattle.kept_buckets.specs.FactorBook.declared.place.Place.{Place};
-ghost use Rattle.class_volatility.specs.NameDelta.Values.{nets_in};
+ghost use Rattle.class_margin.specs.names_delta.Values.{nets_in};
 ghost use Rattle.kept_buckets.specs.Cached.{cached_in};
 ghost use Rattle.kept_buckets.specs.Kept.{Kept, value_at, margin_at};
 ghost use Rattle.kept_buckets.specs.Touched.{Forgets, SameElsewhere};
 ghost use Rattle.book_margin.specs.Classes.{class_factors};
 ghost use Rattle.book_margin.specs.Right.{AreRight, value_in};
 
-use class_volatility::class_delta::delta_hangs_on_its_factors;
-use class_volatility::{curvature_hangs_on_its_factors, vega_hangs_on_its_factors};
+use class_margin::{
+    curvature_hangs_on_its_factors, delta_hangs_on_its_factors, vega_hangs_on_its_factors,
+};
 
 /// The margin of a risk class in a product class hangs on its own factors alone, of both sides: two books that have the same
 /// there have the same margin. It does nothing.

@@ -25,6 +25,6 @@ pub use renewal::renew;
 // what the crates above reach through this one
 pub use class_combine;
 pub use class_combine::simm_params;
-pub use class_volatility::{book_range, pair_sum};
+pub use class_margin::{book_range, pair_sum};
 pub use kept_buckets;
 pub use kept_buckets::{factor_book, simm_kinds, simm_rules};

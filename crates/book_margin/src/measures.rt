@@ -2,15 +2,14 @@
 ghost use Rattle.std.specs.Prelude.{◌≡◌, ◌^◌, List, IfOk, pos, ◌≤ℤ◌};
 ghost use Rattle.kept_buckets.specs.SimmKinds.declared.key.FactorKey.{FactorKey};
 ghost use Rattle.kept_buckets.specs.FactorBook.declared.holding.Holding.{Holding};
-ghost use Rattle.class_volatility.specs.NameDelta.Values.{nets_in};
-ghost use Rattle.class_volatility.specs.BookRange.Bounded.{IsMarginable};
-ghost use Rattle.class_volatility.specs.ClassDelta.Delta.{AreDeltaParts, AreBookDeltas};
+ghost use Rattle.class_margin.specs.names_delta.Values.{nets_in};
+ghost use Rattle.class_margin.specs.BookRange.Bounded.{IsMarginable};
+ghost use Rattle.class_margin.specs.delta.Delta.{AreDeltaParts, AreBookDeltas};
 ghost use Rattle.book_margin.specs.Classes.{base_of, AreClassParts, AreBookParts};
 ghost use Rattle.book_margin.specs.Measures.{AreMeasures, AreWithin, measure_in, measures_sum};
 
 use class_combine::simm_params::Params;
-use class_volatility::class_delta::{base_from, delta_from};
-use class_volatility::{curvature_from, vega_from};
+use class_margin::{base_from, curvature_from, delta_from, vega_from};
 use kept_buckets::factor_book::ClassAt;
 use kept_buckets::mh_units::Cents;
 use kept_buckets::simm_kinds::{BucketId, Measure, RiskClass};

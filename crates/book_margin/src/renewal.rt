@@ -4,7 +4,7 @@ ghost use Rattle.kept_buckets.specs.SimmKinds.declared.kinds.RiskClass.{RiskClas
 ghost use Rattle.kept_buckets.specs.FactorBook.declared.at.ClassAt.{ClassAt as At};
 ghost use Rattle.class_combine.specs.Classes.{class_in};
 ghost use Rattle.class_combine.specs.Whole.{classes_in, AreProductClasses};
-ghost use Rattle.class_volatility.specs.BookRange.Bounded.{IsMarginable};
+ghost use Rattle.class_margin.specs.BookRange.Bounded.{IsMarginable};
 ghost use Rattle.kept_buckets.specs.Dirty.{steps_left};
 ghost use Rattle.kept_buckets.specs.Kept.{margin_at};
 ghost use Rattle.book_margin.specs.Classes.{products_of};
@@ -13,7 +13,7 @@ ghost use Rattle.book_margin.specs.Right.{AreRight, AreMarginsKept, IsFresh, Ren
 use crate::class::renew_class;
 use class_combine::ProductClasses;
 use class_combine::simm_params::Params;
-use class_volatility::pair_sum::Steps;
+use class_margin::pair_sum::Steps;
 use kept_buckets::KeptBuckets;
 use kept_buckets::factor_book::{ClassAt, Factors};
 use kept_buckets::mh_units::Cents;

@@ -15,4 +15,4 @@ pub mod Keeping
 pub mod Standing
 pub mod Batches
 pub mod Replaced
-pub use Rattle.book_margin.proofs.ClassDelta as ClassDelta
+pub use Rattle.book_margin.proofs.ClassMargin as ClassMargin

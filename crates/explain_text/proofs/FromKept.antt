@@ -17,7 +17,7 @@ use Rattle.bucket_cache.specs.KeptBuckets.declared.value.KeptValue.{KeptValue}
 use Rattle.bucket_cache.specs.KeptBuckets.declared.value.KeptValue.TheVariants as value
 use Rattle.bucket_cache.specs.KeptBuckets.Cached.{delta_in, volatility_in, is_measured, part_in, place_on, cached_in}
 use Rattle.bucket_cache.specs.KeptBuckets.Kept.{Kept, value_at}
-use Rattle.bucket_cache.proofs.ClassDelta.OnSide.{some_next}
+use Rattle.bucket_cache.proofs.ClassMargin.OnSide.{some_next}
 use Rattle.explain_text.specs.Lines.{net_line, bucket_line, measure_line}
 use Rattle.explain_text.specs.Sides.{Values, first_measure, second_measure, bucket_in, class_of_side, bucket_lines, side_lines}
 use Rattle.explain_text.specs.Explained.{values_of}

@@ -1,5 +1,5 @@
 use Rattle.std.proofs.Common.{◌∙◌, ap}
-use Rattle.class_volatility.specs.ClassDelta.Buckets.{bucket_at}
+use Rattle.class_margin.specs.delta.Buckets.{bucket_at}
 use Rattle.kept_buckets.specs.Cached.{kept_delta}
 use Rattle.book_margin.proofs.Renewed.{renews_none, right_delta, some_delta, no_delta}
 use Rattle.book_margin.proofs.bucket.delta_value.Goals as goal

@@ -1,7 +1,7 @@
 use Rattle.std.proofs.Common.{◌≢◌, [], sym, ap, subst}
 use Rattle.kept_buckets.specs.FactorBook.Places.{factors_at}
-use Rattle.class_volatility.specs.ClassDelta.Buckets.{bucket_at}
-use Rattle.class_volatility.specs.Vega.{volatility_place}
+use Rattle.class_margin.specs.delta.Buckets.{bucket_at}
+use Rattle.class_margin.specs.volatility.Vega.{volatility_place}
 use Rattle.kept_buckets.specs.declared.value.KeptValue.TheVariants as value
 use Rattle.kept_buckets.specs.Kept.{KeepsValue}
 use Rattle.book_margin.specs.Right.{Renews}

@@ -1,5 +1,5 @@
 use Rattle.std.proofs.Common.{◌∙◌, ap}
-use Rattle.class_volatility.specs.ClassDelta.Buckets.{bucket_at}
+use Rattle.class_margin.specs.delta.Buckets.{bucket_at}
 use Rattle.kept_buckets.specs.Cached.{kept_volatility}
 use Rattle.book_margin.proofs.Renewed.{renews_none, right_volatility, some_volatility, no_volatility}
 use Rattle.book_margin.proofs.bucket.volatility_values.Goals as goal

@@ -1,7 +1,7 @@
 use Rattle.std.proofs.Common.{◌∙◌, refl}
-use Rattle.class_volatility.specs.ClassDelta.Buckets.{delta_side, delta_buckets, bucket_at}
-use Rattle.class_volatility.specs.ClassDelta.Delta.{delta_at, IsSizedAt}
-use Rattle.class_volatility.proofs.ClassDelta.OnSide.{some_next}
+use Rattle.class_margin.specs.delta.Buckets.{delta_side, delta_buckets, bucket_at}
+use Rattle.class_margin.specs.delta.Delta.{delta_at, IsSizedAt}
+use Rattle.class_margin.proofs.OnSide.{some_next}
 use Rattle.book_margin.proofs.Gathering.{deltas_first, deltas_next, deltas_kept, valued_all}
 use Rattle.book_margin.proofs.Renewed.{renews_none, renews_both}
 use Rattle.book_margin.proofs.buckets.delta_parts.Goals as goal

@@ -1,8 +1,8 @@
 use Rattle.std.proofs.Common.{◌∙◌, refl}
-use Rattle.class_volatility.specs.Vega.{volatility_buckets, vega_value, IsVegaSized, volatility_side}
-use Rattle.class_volatility.specs.Curvature.{curvature_value, IsCurvatureSized}
-use Rattle.class_volatility.specs.ClassDelta.Buckets.{bucket_at}
-use Rattle.class_volatility.proofs.ClassDelta.OnSide.{some_next}
+use Rattle.class_margin.specs.volatility.Vega.{volatility_buckets, vega_value, IsVegaSized, volatility_side}
+use Rattle.class_margin.specs.volatility.Curvature.{curvature_value, IsCurvatureSized}
+use Rattle.class_margin.specs.delta.Buckets.{bucket_at}
+use Rattle.class_margin.proofs.OnSide.{some_next}
 use Rattle.book_margin.proofs.Gathering.{volatilities_first, volatilities_next, volatilities_kept, valued_all}
 use Rattle.book_margin.proofs.Renewed.{renews_none, renews_both}
 use Rattle.book_margin.proofs.buckets.volatility_parts.Goals as goal

@@ -1,6 +1,6 @@
 use Rattle.std.proofs.Common.{◌∙◌, ap, sym}
 use Rattle.std.specs.Prelude.{is_some}
-use Rattle.class_volatility.specs.ClassDelta.Buckets.{bucket_at}
+use Rattle.class_margin.specs.delta.Buckets.{bucket_at}
 use Rattle.kept_buckets.specs.Cached.{kept_delta}
 use Rattle.book_margin.proofs.KeptParts.{delta_kept}
 use Rattle.book_margin.proofs.Renewed.{right_delta}

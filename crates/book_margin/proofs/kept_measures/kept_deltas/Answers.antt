@@ -1,8 +1,8 @@
 use Rattle.std.proofs.Common.{◌∙◌, refl}
-use Rattle.class_volatility.specs.ClassDelta.Buckets.{delta_side, delta_buckets, bucket_at}
-use Rattle.class_volatility.specs.ClassDelta.Delta.{delta_at, IsSizedAt}
-use Rattle.class_volatility.proofs.ClassDelta.OnSide.{some_next}
-use Rattle.class_volatility.proofs.ClassDelta.Valued.{value_next}
+use Rattle.class_margin.specs.delta.Buckets.{delta_side, delta_buckets, bucket_at}
+use Rattle.class_margin.specs.delta.Delta.{delta_at, IsSizedAt}
+use Rattle.class_margin.proofs.OnSide.{some_next}
+use Rattle.class_margin.proofs.Valued.{value_next}
 use Rattle.book_margin.proofs.Gathering.{valued_first, valued_all}
 use Rattle.book_margin.proofs.kept_measures.kept_deltas.Goals as goal
 

@@ -1,6 +1,6 @@
 use Rattle.std.proofs.Common.{take}
-use Rattle.class_volatility.specs.ClassDelta.Delta.{delta_at, IsSizedAt}
-use Rattle.class_volatility.specs.ClassDelta.Values.{AreValuedBy}
+use Rattle.class_margin.specs.delta.Delta.{delta_at, IsSizedAt}
+use Rattle.class_margin.specs.delta.Values.{AreValuedBy}
 use Rattle.book_margin.proofs.kept_measures.kept_deltas.Given as goal
 
 abbrev pub invariant-loop-id : goal.invariant-loop-id

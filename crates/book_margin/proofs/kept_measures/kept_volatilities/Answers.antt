@@ -1,9 +1,9 @@
 use Rattle.std.proofs.Common.{◌∙◌, refl}
-use Rattle.class_volatility.specs.Vega.{volatility_side, volatility_buckets, vega_value, IsVegaSized}
-use Rattle.class_volatility.specs.Curvature.{curvature_value, IsCurvatureSized}
-use Rattle.class_volatility.specs.ClassDelta.Buckets.{bucket_at}
-use Rattle.class_volatility.proofs.ClassDelta.OnSide.{some_next}
-use Rattle.class_volatility.proofs.ClassDelta.Valued.{value_next}
+use Rattle.class_margin.specs.volatility.Vega.{volatility_side, volatility_buckets, vega_value, IsVegaSized}
+use Rattle.class_margin.specs.volatility.Curvature.{curvature_value, IsCurvatureSized}
+use Rattle.class_margin.specs.delta.Buckets.{bucket_at}
+use Rattle.class_margin.proofs.OnSide.{some_next}
+use Rattle.class_margin.proofs.Valued.{value_next}
 use Rattle.book_margin.proofs.Gathering.{valued_first, valued_all}
 use Rattle.book_margin.proofs.kept_measures.kept_volatilities.Goals as goal
 

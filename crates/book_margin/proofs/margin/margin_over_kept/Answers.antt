@@ -1,5 +1,5 @@
 use Rattle.std.proofs.Common.{◌∙◌, ap}
-use Rattle.class_volatility.specs.NameDelta.Values.{nets_in}
+use Rattle.class_margin.specs.names_delta.Values.{nets_in}
 use Rattle.class_combine.specs.Multipliers.{multiplied_in}
 use Rattle.class_combine.specs.Whole.{breakdown_of, margins_of}
 use Rattle.book_margin.proofs.Whole.{whole_is}

@@ -1,0 +1,9 @@
+pub mod ValueSized
+pub mod Outer
+pub mod Lambdas
+pub mod Totals
+pub mod Parts
+pub mod Splits
+pub mod Currencies
+pub mod Idle
+pub mod Joined

@@ -1,0 +1,138 @@
+use Rattle.std.proofs.Common.{◌≡◌, ◌∙◌, ◌+◌, ◌*◌, ◌^◌, ◌<◌, map, refl, sym, ap, subst, pos, ◌≤ℤ◌, ◌<ℤ◌, unsigned_abs, FitsSigned, rules, arith}
+use Rattle.std.specs.Prelude.{sum_by}
+use Rattle.std.specs.Int.{w128}
+use Rattle.std.proofs.lemmas.Int.{ints}
+use Rattle.class_rates.proofs.MhUnits.Integers.{same128}
+use Rattle.class_rates.specs.SimmRules.declared.values.BucketMargin.{BucketMargin}
+use Rattle.class_rates.specs.SimmRules.Sums.{total_by}
+use Rattle.class_rates.proofs.FactorBook.Sums.{total_by-map}
+use Rattle.class_rates.specs.SimmKinds.declared.kinds.BucketId.{BucketId}
+use Rattle.class_margin.specs.curvature.Combine.{as_parts, gross_size, margins_size}
+use Rattle.class_margin.specs.curvature.Part.{margin_over, part_over}
+use Rattle.class_margin.proofs.curvature.Currencies.{values_of, single_values, all_values, by_values, values_size}
+use Rattle.class_margin.proofs.curvature.Lambdas.{passed}
+use Rattle.class_margin.proofs.curvature.Totals.{part_is, bound_from, margins_low}
+use Rattle.class_margin.proofs.curvature.whole_parts.over_single.Goals as goal
+
+pub margin_over-root-requires : goal.margin_over-root-requires
+margin_over-root-requires c =
+    let ps = c.args.parts.now in
+    let sized = c.requires in
+    let p = c.args.params.now in
+    let made : c.as_slice.result.now ≡ values_of ps = c.as_slice.ensures.value ∙ c.in_ok-values.ensures in
+    let small : sum_by (λ m. unsigned_abs m.k) c.as_slice.result.now < 84 * 10 ^ 14 = omega (arith, values_size (λ m. unsigned_abs m.k) ps c.as_slice.result.now made, sized.margins) in
+    small
+
+pub part_over-requires-clause-summed : goal.part_over-requires-clause-summed
+part_over-requires-clause-summed c =
+    let ps = c.args.parts.now in
+    let sized = c.requires in
+    let p = c.args.params.now in
+    let made : c.as_slice.result.now ≡ values_of ps = c.as_slice.ensures.value ∙ c.in_ok-values.ensures in
+    let small : sum_by (λ m. unsigned_abs m.k) c.as_slice.result.now < 84 * 10 ^ 14 = omega (arith, values_size (λ m. unsigned_abs m.k) ps c.as_slice.result.now made, sized.margins) in
+    let root = c.margin_over-root.result in
+    let root_fits : FitsSigned w128 root = search rules in
+    let root_is : passed root ≡ root = same128 root root_fits in
+    let low : pos 0 ≤ℤ root = subst (λ z. pos 0 ≤ℤ z) (sym c.margin_over-root.ensures.value) (margins_low c.as_slice.result.now (by_values (λ m. pos 0 ≤ℤ m.k) ps c.as_slice.result.now made sized.not_negative)) in
+    let again : c.as_slice-2.result.now ≡ values_of ps = c.as_slice-2.ensures.value ∙ c.in_ok-values.ensures in
+    all_values (λ m. pos (unsigned_abs m.sum) ≤ℤ m.gross) ps c.as_slice-2.result.now again sized.summed
+
+pub part_over-requires-clause-in_range : goal.part_over-requires-clause-in_range
+part_over-requires-clause-in_range c =
+    let ps = c.args.parts.now in
+    let sized = c.requires in
+    let p = c.args.params.now in
+    let made : c.as_slice.result.now ≡ values_of ps = c.as_slice.ensures.value ∙ c.in_ok-values.ensures in
+    let small : sum_by (λ m. unsigned_abs m.k) c.as_slice.result.now < 84 * 10 ^ 14 = omega (arith, values_size (λ m. unsigned_abs m.k) ps c.as_slice.result.now made, sized.margins) in
+    let root = c.margin_over-root.result in
+    let root_fits : FitsSigned w128 root = search rules in
+    let root_is : passed root ≡ root = same128 root root_fits in
+    let low : pos 0 ≤ℤ root = subst (λ z. pos 0 ≤ℤ z) (sym c.margin_over-root.ensures.value) (margins_low c.as_slice.result.now (by_values (λ m. pos 0 ≤ℤ m.k) ps c.as_slice.result.now made sized.not_negative)) in
+    let again : c.as_slice-2.result.now ≡ values_of ps = c.as_slice-2.ensures.value ∙ c.in_ok-values.ensures in
+    omega (arith, values_size (λ m. unsigned_abs m.gross) ps c.as_slice-2.result.now again, sized.gross)
+
+pub part_over-requires-clause-root_low : goal.part_over-requires-clause-root_low
+part_over-requires-clause-root_low c =
+    let ps = c.args.parts.now in
+    let sized = c.requires in
+    let p = c.args.params.now in
+    let made : c.as_slice.result.now ≡ values_of ps = c.as_slice.ensures.value ∙ c.in_ok-values.ensures in
+    let small : sum_by (λ m. unsigned_abs m.k) c.as_slice.result.now < 84 * 10 ^ 14 = omega (arith, values_size (λ m. unsigned_abs m.k) ps c.as_slice.result.now made, sized.margins) in
+    let root = c.margin_over-root.result in
+    let root_fits : FitsSigned w128 root = search rules in
+    let root_is : passed root ≡ root = same128 root root_fits in
+    let low : pos 0 ≤ℤ root = subst (λ z. pos 0 ≤ℤ z) (sym c.margin_over-root.ensures.value) (margins_low c.as_slice.result.now (by_values (λ m. pos 0 ≤ℤ m.k) ps c.as_slice.result.now made sized.not_negative)) in
+    subst (λ z. pos 0 ≤ℤ z) (sym root_is) low
+
+pub part_over-requires-clause-root_high : goal.part_over-requires-clause-root_high
+part_over-requires-clause-root_high c =
+    let ps = c.args.parts.now in
+    let sized = c.requires in
+    let p = c.args.params.now in
+    let made : c.as_slice.result.now ≡ values_of ps = c.as_slice.ensures.value ∙ c.in_ok-values.ensures in
+    let small : sum_by (λ m. unsigned_abs m.k) c.as_slice.result.now < 84 * 10 ^ 14 = omega (arith, values_size (λ m. unsigned_abs m.k) ps c.as_slice.result.now made, sized.margins) in
+    let root = c.margin_over-root.result in
+    let root_fits : FitsSigned w128 root = search rules in
+    let root_is : passed root ≡ root = same128 root root_fits in
+    let low : pos 0 ≤ℤ root = subst (λ z. pos 0 ≤ℤ z) (sym c.margin_over-root.ensures.value) (margins_low c.as_slice.result.now (by_values (λ m. pos 0 ≤ℤ m.k) ps c.as_slice.result.now made sized.not_negative)) in
+    subst (λ z. z <ℤ pos (84 * 10 ^ 14)) (sym root_is) (omega (arith, ints, low, c.margin_over-root.ensures.size, small))
+
+pub returns-clause-value : goal.returns-clause-value
+returns-clause-value c =
+    let ps = c.args.parts.now in
+    let sized = c.requires in
+    let p = c.args.params.now in
+    let made : c.as_slice.result.now ≡ values_of ps = c.as_slice.ensures.value ∙ c.in_ok-values.ensures in
+    let small : sum_by (λ m. unsigned_abs m.k) c.as_slice.result.now < 84 * 10 ^ 14 = omega (arith, values_size (λ m. unsigned_abs m.k) ps c.as_slice.result.now made, sized.margins) in
+    let root = c.margin_over-root.result in
+    let root_fits : FitsSigned w128 root = search rules in
+    let root_is : passed root ≡ root = same128 root root_fits in
+    let low : pos 0 ≤ℤ root = subst (λ z. pos 0 ≤ℤ z) (sym c.margin_over-root.ensures.value) (margins_low c.as_slice.result.now (by_values (λ m. pos 0 ≤ℤ m.k) ps c.as_slice.result.now made sized.not_negative)) in
+    let again : c.as_slice-2.result.now ≡ values_of ps = c.as_slice-2.ensures.value ∙ c.in_ok-values.ensures in
+    let part = c.part_over.result in
+    let fits : FitsSigned w128 part = search rules in
+    same128 part fits ∙ c.part_over.ensures.value ∙ ap (λ z. part_over z c.as_slice-2.result.now (passed root)) c.lambda_base.ensures.value
+    ∙ ap (λ ms. part_over p.lambda_base ms (passed root)) (again ∙ single_values ps)
+    ∙ ap (part_over p.lambda_base (map (λ b. b.value) (as_parts ps)))
+    (root_is ∙ c.margin_over-root.ensures.value ∙ ap margin_over made ∙ total_by-map (λ (m : BucketMargin). m.k) (λ (part : BucketId × BucketMargin). part.1) ps)
+    ∙ part_is p.lambda_base (as_parts ps) (total_by (λ part. (part.1).k) ps)
+
+pub returns-clause-low : goal.returns-clause-low
+returns-clause-low c =
+    let ps = c.args.parts.now in
+    let sized = c.requires in
+    let p = c.args.params.now in
+    let made : c.as_slice.result.now ≡ values_of ps = c.as_slice.ensures.value ∙ c.in_ok-values.ensures in
+    let small : sum_by (λ m. unsigned_abs m.k) c.as_slice.result.now < 84 * 10 ^ 14 = omega (arith, values_size (λ m. unsigned_abs m.k) ps c.as_slice.result.now made, sized.margins) in
+    let root = c.margin_over-root.result in
+    let root_fits : FitsSigned w128 root = search rules in
+    let root_is : passed root ≡ root = same128 root root_fits in
+    let low : pos 0 ≤ℤ root = subst (λ z. pos 0 ≤ℤ z) (sym c.margin_over-root.ensures.value) (margins_low c.as_slice.result.now (by_values (λ m. pos 0 ≤ℤ m.k) ps c.as_slice.result.now made sized.not_negative)) in
+    let again : c.as_slice-2.result.now ≡ values_of ps = c.as_slice-2.ensures.value ∙ c.in_ok-values.ensures in
+    let part = c.part_over.result in
+    let fits : FitsSigned w128 part = search rules in
+    subst (λ z. pos 0 ≤ℤ z) (sym (same128 part fits)) c.part_over.ensures.low
+
+pub returns-clause-size : goal.returns-clause-size
+returns-clause-size c =
+    let ps = c.args.parts.now in
+    let sized = c.requires in
+    let p = c.args.params.now in
+    let made : c.as_slice.result.now ≡ values_of ps = c.as_slice.ensures.value ∙ c.in_ok-values.ensures in
+    let small : sum_by (λ m. unsigned_abs m.k) c.as_slice.result.now < 84 * 10 ^ 14 = omega (arith, values_size (λ m. unsigned_abs m.k) ps c.as_slice.result.now made, sized.margins) in
+    let root = c.margin_over-root.result in
+    let root_fits : FitsSigned w128 root = search rules in
+    let root_is : passed root ≡ root = same128 root root_fits in
+    let low : pos 0 ≤ℤ root = subst (λ z. pos 0 ≤ℤ z) (sym c.margin_over-root.ensures.value) (margins_low c.as_slice.result.now (by_values (λ m. pos 0 ≤ℤ m.k) ps c.as_slice.result.now made sized.not_negative)) in
+    let again : c.as_slice-2.result.now ≡ values_of ps = c.as_slice-2.ensures.value ∙ c.in_ok-values.ensures in
+    let part = c.part_over.result in
+    let fits : FitsSigned w128 part = search rules in
+    subst (λ z. z ≤ℤ pos (25 * (gross_size ps + 10 * margins_size ps))) (sym (same128 part fits))
+    (omega (
+      arith,
+      ints,
+      values_size (λ m. unsigned_abs m.gross) ps (values_of ps) refl,
+      values_size (λ m. unsigned_abs m.k) ps (values_of ps) refl,
+      bound_from (values_of ps) c.as_slice.result.now c.as_slice-2.result.now root part made again low (omega (arith, ints, low, c.margin_over-root.ensures.size))
+          (subst (λ z. part ≤ℤ pos (sum_by (λ (m : BucketMargin). unsigned_abs m.gross) c.as_slice-2.result.now + 10 * unsigned_abs z)) root_is c.part_over.ensures.size),
+    ))

@@ -1,0 +1,13 @@
+pub mod Lists
+pub mod Places
+pub mod Counts
+pub mod Bounds
+pub mod Totals
+pub mod Listed
+pub mod InBook
+pub mod Classes
+pub mod Margined
+pub mod Currencies
+pub mod Named
+pub mod OneBucket
+pub mod Lent

@@ -1,0 +1,213 @@
+-- The parts of each class of which the file lists buckets: in range, and their margin the rule's.
+use Rattle.std.proofs.Common.{◌≡◌, ◌^◌, ℕ, ◌*◌, ◌≤◌, List, [], ◌∷◌, map, true, false, Some, refl, sym, ap, ◌∙◌, subst, ℤ, pos, ◌≤ℤ◌, unsigned_abs}
+use Rattle.std.specs.Prelude.{sum_by}
+use Rattle.std.specs.List.{list_any, list_all, AllByRecursion}
+use Rattle.std.specs.List.Sorted.{IsStrictlySortedBy}
+use Rattle.class_rates.specs.SimmKinds.declared.kinds.ProductClass.{ProductClass}
+use Rattle.class_rates.specs.SimmKinds.declared.kinds.RiskClass.{RiskClass}
+use Rattle.class_rates.specs.SimmKinds.declared.kinds.RiskClass.TheVariants as class
+use Rattle.class_rates.specs.SimmKinds.declared.kinds.BucketId.{BucketId}
+use Rattle.class_rates.specs.SimmKinds.declared.kinds.BucketId.TheVariants as id
+use Rattle.class_rates.specs.SimmKinds.declared.bucket.Bucket.{Bucket}
+use Rattle.class_rates.specs.SimmKinds.declared.bucket.Bucket.TheVariants as bucket
+use Rattle.class_rates.specs.SimmKinds.declared.key.FactorKey.{FactorKey}
+use Rattle.class_rates.specs.SimmKinds.declared.row.CrifRow.{CrifRow}
+use Rattle.class_rates.specs.SimmKinds.Factors.{bucket_id_of, listed_id}
+use Rattle.class_rates.specs.SimmKinds.Order.{bucket_id_cmp, same_bucket_id}
+use Rattle.class_rates.specs.SimmRules.Params.{Params, CreditBucket, PricedBucket}
+use Rattle.class_rates.specs.SimmRules.Net.{Sensitivity}
+use Rattle.class_rates.specs.SimmRules.Risks.{CreditClass, Qualifying, Non_qualifying, PricedClass, Equities, Commodities, CreditPoint, Amount, select}
+use Rattle.class_rates.specs.SimmRules.Across.{margin_over}
+use Rattle.class_rates.specs.SimmRules.Admits.{admits}
+use Rattle.class_rates.specs.SimmRules.Credit.{as_credit, credit_params, listed_credit, weighted_point, credit_value, credit_delta as credit_margin}
+use Rattle.class_rates.specs.SimmRules.Priced.{as_price, priced_params, listed_priced, weighted_name, price_value, price_delta}
+use Rattle.class_rates.specs.SimmParams.Facts.{IsParams}
+use Rattle.class_rates.specs.FactorBook.declared.at.ClassAt.{ClassAt}
+use Rattle.class_rates.specs.FactorBook.declared.holding.Holding.{Holding}
+use Rattle.class_rates.specs.FactorBook.Factors.{factors_of}
+use Rattle.class_rates.specs.FactorBook.Places.{factors_at}
+use Rattle.book_range.specs.Bounded.{IsBounded}
+use Rattle.class_margin.specs.names_delta.Combine.{parts_in, combined_by_class, IsListed, HasBucket, AreSized, AreParts}
+use Rattle.class_margin.specs.names_delta.Delta.{credit_delta, priced_delta, delta_value, IsCreditReady, IsPricedReady, IsReady, IsCreditSized, IsPricedSized, IsDeltaSized}
+use Rattle.class_priced.specs.Names.{names_place, names_in, name_nets}
+use Rattle.class_credit.specs.Points.{points_place, points_in, point_nets}
+use Rattle.class_margin.specs.names_delta.Values.{nets_in}
+use Rattle.class_credit.proofs.CreditPoints.{points_there}
+use Rattle.class_margin.proofs.names_delta.Empty.{credit_kept, priced_kept}
+use Rattle.class_rates.proofs.MeasuredBucket.Lists.{each_weaker, each_both, each_unmap}
+use Rattle.class_priced.proofs.PricedNames.{names_there}
+use Rattle.class_margin.proofs.names_delta.Shrinking.{SizesAreNetted}
+use Rattle.class_margin.specs.delta.Class.{class_delta_of}
+use Rattle.class_margin.specs.delta.Buckets.{listed_buckets, bucket_at, IsNumbered}
+use Rattle.class_margin.proofs.delta.Bounds.{gross_low, credit_class, priced_class}
+use Rattle.class_margin.proofs.delta.InBook.{place_in, listed_ascend, none_at, listed_each}
+use Rattle.class_margin.proofs.Valued.{Whole, ids}
+use Rattle.class_margin.proofs.delta.Listed.{ready, IsOwned, owned, margin_of_parts, parts_small, parts_sized}
+
+points_gross : (b : CreditBucket) (points : List (Amount CreditPoint)) → pos 0 ≤ℤ (credit_value b points).gross
+points_gross b points = gross_low (map (weighted_point (b.terms).weight ((b.terms).thresholds).delta points) points)
+
+names_gross : (b : PricedBucket) (names : List (Amount (List ℕ))) → pos 0 ≤ℤ (price_value b names).gross
+names_gross b names = gross_low (map (λ (a : Amount (List ℕ)). weighted_name (b.terms).weight ((b.terms).thresholds).delta a.of a.amount) names)
+
+-- a bucket that the file lists, with its value
+pub record IsListedPart (p : Params) (at : ClassAt) (factors : List (FactorKey × Holding)) (part : Whole) : Type 0 where
+  pub value : Some part.1 ≡ delta_value p (bucket_at at part.0) factors
+  pub sized : IsDeltaSized p (bucket_at at part.0) factors part.1
+
+-- what the parts of a class come to
+pub record IsDone (p : Params) (c : RiskClass) (ss : List Sensitivity) (parts : List Whole) : Type 0 where
+  pub are : AreParts p c parts
+  pub margin : (z : ℤ) → Some z ≡ combined_by_class p c parts → z ≡ class_delta_of p ss c
+  pub small : sum_by (λ part. unsigned_abs (part.1).k) parts ≤ 4 * 10 ^ 15
+
+was_some : (z : ℤ) (y : ℤ) → Some z ≡ Some y → z ≡ y
+was_some z y e = cc
+
+module _ (p : Params) (facts : IsParams p) (held : List CrifRow) (bounded : IsBounded p held) (product : ProductClass) (sizes : SizesAreNetted held) where
+  abbrev fs : List (FactorKey × Holding)
+  fs = factors_of held
+
+  abbrev ss : List Sensitivity
+  ss = nets_in product fs
+
+  -- ---- credit
+
+  module _ (c : CreditClass) where
+    abbrev points : Bucket → List (Amount CreditPoint)
+    points b = points_in c b product fs
+
+    abbrev credit_owned : Whole → Type 0
+    credit_owned = IsOwned (λ (b : CreditBucket). (b.terms).id) (λ b. (b.terms).weight) credit_value points_gross points (credit_params p c).buckets (credit_class p facts held bounded product sizes c)
+
+    credit_ready : (k : BucketId) → IsListed (listed_credit (credit_params p c)) (listed_id k) → IsCreditReady p c (listed_id k) product fs
+    credit_ready (id.Number n) h = ready (λ (b : CreditBucket). (b.terms).id) (λ b. (b.terms).weight) credit_value points_gross points (credit_params p c).buckets (credit_class p facts held bounded product sizes c) (bucket.Number n) h
+    credit_ready id.Residual h = ready (λ (b : CreditBucket). (b.terms).id) (λ b. (b.terms).weight) credit_value points_gross points (credit_params p c).buckets (credit_class p facts held bounded product sizes c) bucket.Residual h
+    credit_ready (id.Currency currency) h = absurd h
+    credit_ready id.Single h = absurd h
+
+    credit_owns : (part : Whole) → IsListed (listed_credit (credit_params p c)) (listed_id part.0) → Some part.1 ≡ credit_delta p c (listed_id part.0) product fs → IsCreditSized p c (listed_id part.0) product fs part.1 → credit_owned part
+    credit_owns (id.Number n, m) h value sized = owned (λ (b : CreditBucket). (b.terms).id) (λ b. (b.terms).weight) credit_value points_gross points (credit_params p c).buckets (credit_class p facts held bounded product sizes c) (bucket.Number n) m h value sized
+    credit_owns (id.Residual, m) h value sized = owned (λ (b : CreditBucket). (b.terms).id) (λ b. (b.terms).weight) credit_value points_gross points (credit_params p c).buckets (credit_class p facts held bounded product sizes c) bucket.Residual m h value sized
+    credit_owns (id.Currency currency, m) h value sized = absurd h
+    credit_owns (id.Single, m) h value sized = absurd h
+
+    no_points : (b : Bucket) → factors_at (points_place c b product) fs ≡ [] → points b ≡ []
+    no_points b e = sym (points_there c b product fs) ∙ ap point_nets e
+
+    no_credit : (parts : List Whole) (at : ClassAt) → ids parts ≡ listed_buckets at fs → (b : Bucket) → place_in at b ≡ points_place c b product → list_any (λ k. same_bucket_id k (bucket_id_of b)) (ids parts) ≡ false → select (as_credit c b) ss ≡ []
+    no_credit parts at are b there none =
+        no_points b (ap (λ place. factors_at place fs) (sym there) ∙ none_at at b fs (sym (ap (list_any (λ k. same_bucket_id k (bucket_id_of b))) are) ∙ none))
+
+    credit_total : (parts : List Whole) (at : ClassAt) → AllByRecursion credit_owned parts → ids parts ≡ listed_buckets at fs → ((b : Bucket) → place_in at b ≡ points_place c b product) → margin_over (listed_credit (credit_params p c)) (credit_params p c).gamma (parts_in parts) ≡ credit_margin (credit_params p c) c ss
+    credit_total parts at own are there =
+        margin_of_parts (λ (b : CreditBucket). (b.terms).id) (λ b. (b.terms).weight) credit_value points_gross points (credit_params p c).buckets (credit_class p facts held bounded product sizes c) (credit_params p c).gamma parts own (subst (IsStrictlySortedBy bucket_id_cmp) (sym are) (listed_ascend at fs))
+        ∙ credit_kept (credit_params p c) c ss (λ b. list_any (λ k. same_bucket_id k (bucket_id_of b)) (ids parts)) (λ b none. no_credit parts at are b (there b) none)
+
+  -- ---- equity and commodities
+
+  module _ (c : PricedClass) where
+    abbrev names : Bucket → List (Amount (List ℕ))
+    names b = names_in c b product fs
+
+    abbrev priced_owned : Whole → Type 0
+    priced_owned = IsOwned (λ (b : PricedBucket). (b.terms).id) (λ b. (b.terms).weight) price_value names_gross names (priced_params p c).buckets (priced_class p facts held bounded product sizes c)
+
+    priced_ready : (k : BucketId) → IsListed (listed_priced (priced_params p c)) (listed_id k) → IsPricedReady p c (listed_id k) product fs
+    priced_ready (id.Number n) h = ready (λ (b : PricedBucket). (b.terms).id) (λ b. (b.terms).weight) price_value names_gross names (priced_params p c).buckets (priced_class p facts held bounded product sizes c) (bucket.Number n) h
+    priced_ready id.Residual h = ready (λ (b : PricedBucket). (b.terms).id) (λ b. (b.terms).weight) price_value names_gross names (priced_params p c).buckets (priced_class p facts held bounded product sizes c) bucket.Residual h
+    priced_ready (id.Currency currency) h = absurd h
+    priced_ready id.Single h = absurd h
+
+    priced_owns : (part : Whole) → IsListed (listed_priced (priced_params p c)) (listed_id part.0) → Some part.1 ≡ priced_delta p c (listed_id part.0) product fs → IsPricedSized p c (listed_id part.0) product fs part.1 → priced_owned part
+    priced_owns (id.Number n, m) h value sized = owned (λ (b : PricedBucket). (b.terms).id) (λ b. (b.terms).weight) price_value names_gross names (priced_params p c).buckets (priced_class p facts held bounded product sizes c) (bucket.Number n) m h value sized
+    priced_owns (id.Residual, m) h value sized = owned (λ (b : PricedBucket). (b.terms).id) (λ b. (b.terms).weight) price_value names_gross names (priced_params p c).buckets (priced_class p facts held bounded product sizes c) bucket.Residual m h value sized
+    priced_owns (id.Currency currency, m) h value sized = absurd h
+    priced_owns (id.Single, m) h value sized = absurd h
+
+    no_names : (b : Bucket) → factors_at (names_place c b product) fs ≡ [] → names b ≡ []
+    no_names b e = sym (names_there c b product fs) ∙ ap name_nets e
+
+    no_priced : (parts : List Whole) (at : ClassAt) → ids parts ≡ listed_buckets at fs → (b : Bucket) → place_in at b ≡ names_place c b product → list_any (λ k. same_bucket_id k (bucket_id_of b)) (ids parts) ≡ false → select (as_price c b) ss ≡ []
+    no_priced parts at are b there none =
+        no_names b (ap (λ place. factors_at place fs) (sym there) ∙ none_at at b fs (sym (ap (list_any (λ k. same_bucket_id k (bucket_id_of b))) are) ∙ none))
+
+    priced_total : (parts : List Whole) (at : ClassAt) → AllByRecursion priced_owned parts → ids parts ≡ listed_buckets at fs → ((b : Bucket) → place_in at b ≡ names_place c b product) → margin_over (listed_priced (priced_params p c)) (priced_params p c).gamma (parts_in parts) ≡ price_delta (priced_params p c) c ss
+    priced_total parts at own are there =
+        margin_of_parts (λ (b : PricedBucket). (b.terms).id) (λ b. (b.terms).weight) price_value names_gross names (priced_params p c).buckets (priced_class p facts held bounded product sizes c) (priced_params p c).gamma parts own (subst (IsStrictlySortedBy bucket_id_cmp) (sym are) (listed_ascend at fs))
+        ∙ priced_kept (priced_params p c) c ss (λ b. list_any (λ k. same_bucket_id k (bucket_id_of b)) (ids parts)) (λ b none. no_priced parts at are b (there b) none)
+
+  -- ---- each class
+
+  pub one_ready : (c : RiskClass) → IsNumbered c → (k : BucketId) → HasBucket p c k → IsReady p (bucket_at (record { product = product; class = c }) k) (factors_of held)
+  one_ready class.IR n k h = absurd n
+  one_ready class.CreditQ n k h = credit_ready Qualifying k h
+  one_ready class.CreditNonQ n k h = credit_ready Non_qualifying k h
+  one_ready class.Equity n k h = priced_ready Equities k h
+  one_ready class.Commodity n k h = priced_ready Commodities k h
+  one_ready class.FX n k h = absurd n
+
+  module _ (admitted : list_all (admits p) held ≡ true) where
+    module _ (parts : List Whole) where
+      has_buckets : (c : RiskClass) → IsNumbered c → ids parts ≡ listed_buckets (record { product = product; class = c }) fs → AllByRecursion (λ part. HasBucket p c part.0) parts
+      has_buckets c n are = each_unmap (HasBucket p c) (λ (part : Whole). part.0) parts (subst (AllByRecursion (HasBucket p c)) (sym are) (listed_each p (record { product = product; class = c }) n held admitted))
+
+      abbrev Both : RiskClass → Whole → Type 0
+      Both c part = HasBucket p c part.0 × IsListedPart p (record { product = product; class = c }) fs part
+
+      both : (c : RiskClass) → IsNumbered c → ids parts ≡ listed_buckets (record { product = product; class = c }) fs → AllByRecursion (IsListedPart p (record { product = product; class = c }) fs) parts → AllByRecursion (Both c) parts
+      both c n are values = each_both (λ part. HasBucket p c part.0) (IsListedPart p (record { product = product; class = c }) fs) parts (has_buckets c n are) values
+
+      ascend : (c : RiskClass) → ids parts ≡ listed_buckets (record { product = product; class = c }) fs → IsStrictlySortedBy bucket_id_cmp (ids parts)
+      ascend c are = subst (IsStrictlySortedBy bucket_id_cmp) (sym are) (listed_ascend (record { product = product; class = c }) fs)
+
+      -- of credit
+      module _ (c : CreditClass) (own : AllByRecursion (credit_owned c) parts) (s : IsStrictlySortedBy bucket_id_cmp (ids parts)) where
+        credit_sized : AreSized parts
+        credit_sized = parts_sized (λ (b : CreditBucket). (b.terms).id) (λ b. (b.terms).weight) credit_value points_gross (points c) (credit_params p c).buckets (credit_class p facts held bounded product sizes c) parts own s
+
+        credit_small : sum_by (λ part. unsigned_abs (part.1).k) parts ≤ 4 * 10 ^ 15
+        credit_small = parts_small (λ (b : CreditBucket). (b.terms).id) (λ b. (b.terms).weight) credit_value points_gross (points c) (credit_params p c).buckets (credit_class p facts held bounded product sizes c) parts own s
+
+      module _ (c : PricedClass) (own : AllByRecursion (priced_owned c) parts) (s : IsStrictlySortedBy bucket_id_cmp (ids parts)) where
+        priced_sized : AreSized parts
+        priced_sized = parts_sized (λ (b : PricedBucket). (b.terms).id) (λ b. (b.terms).weight) price_value names_gross (names c) (priced_params p c).buckets (priced_class p facts held bounded product sizes c) parts own s
+
+        priced_small : sum_by (λ part. unsigned_abs (part.1).k) parts ≤ 4 * 10 ^ 15
+        priced_small = parts_small (λ (b : PricedBucket). (b.terms).id) (λ b. (b.terms).weight) price_value names_gross (names c) (priced_params p c).buckets (priced_class p facts held bounded product sizes c) parts own s
+
+      pub done : (c : RiskClass) → IsNumbered c → ids parts ≡ listed_buckets (record { product = product; class = c }) fs → AllByRecursion (IsListedPart p (record { product = product; class = c }) fs) parts → IsDone p c ss parts
+      done class.IR n are values = absurd n
+      done class.CreditQ n are values =
+          let own : AllByRecursion (credit_owned Qualifying) parts = each_weaker (Both class.CreditQ) (credit_owned Qualifying) (λ part h. credit_owns Qualifying part h.0 h.1.value h.1.sized) parts (both class.CreditQ n are values) in
+          let s = ascend class.CreditQ are in
+          record {
+            are = record { named = tt; buckets = has_buckets class.CreditQ n are; sized = credit_sized Qualifying own s };
+            margin = λ z e. was_some z _ e ∙ credit_total Qualifying parts (record { product = product; class = class.CreditQ }) own are (λ b. refl);
+            small = credit_small Qualifying own s;
+          }
+      done class.CreditNonQ n are values =
+          let own : AllByRecursion (credit_owned Non_qualifying) parts = each_weaker (Both class.CreditNonQ) (credit_owned Non_qualifying) (λ part h. credit_owns Non_qualifying part h.0 h.1.value h.1.sized) parts (both class.CreditNonQ n are values) in
+          let s = ascend class.CreditNonQ are in
+          record {
+            are = record { named = tt; buckets = has_buckets class.CreditNonQ n are; sized = credit_sized Non_qualifying own s };
+            margin = λ z e. was_some z _ e ∙ credit_total Non_qualifying parts (record { product = product; class = class.CreditNonQ }) own are (λ b. refl);
+            small = credit_small Non_qualifying own s;
+          }
+      done class.Equity n are values =
+          let own : AllByRecursion (priced_owned Equities) parts = each_weaker (Both class.Equity) (priced_owned Equities) (λ part h. priced_owns Equities part h.0 h.1.value h.1.sized) parts (both class.Equity n are values) in
+          let s = ascend class.Equity are in
+          record {
+            are = record { named = tt; buckets = has_buckets class.Equity n are; sized = priced_sized Equities own s };
+            margin = λ z e. was_some z _ e ∙ priced_total Equities parts (record { product = product; class = class.Equity }) own are (λ b. refl);
+            small = priced_small Equities own s;
+          }
+      done class.Commodity n are values =
+          let own : AllByRecursion (priced_owned Commodities) parts = each_weaker (Both class.Commodity) (priced_owned Commodities) (λ part h. priced_owns Commodities part h.0 h.1.value h.1.sized) parts (both class.Commodity n are values) in
+          let s = ascend class.Commodity are in
+          record {
+            are = record { named = tt; buckets = has_buckets class.Commodity n are; sized = priced_sized Commodities own s };
+            margin = λ z e. was_some z _ e ∙ priced_total Commodities parts (record { product = product; class = class.Commodity }) own are (λ b. refl);
+            small = priced_small Commodities own s;
+          }
+      done class.FX n are values = absurd n

@@ -1,0 +1,6 @@
+pub mod Values
+pub mod Curvature
+pub mod Part
+pub mod Listed
+pub mod Numbered
+pub mod Combine

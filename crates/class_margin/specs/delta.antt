@@ -1,0 +1,4 @@
+pub mod Class
+pub mod Buckets
+pub mod Values
+pub mod Delta

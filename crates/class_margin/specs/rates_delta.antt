@@ -1,0 +1,4 @@
+pub mod Bucket
+pub mod Range
+pub mod Gamma
+pub mod Parts

@@ -1,0 +1,80 @@
+-- The buckets that have volatilities, by what stands in them, and how many factors they have.
+-- (ISDA SIMM methodology, structure of the methodology: buckets of the risk classes.)
+use Rattle.std.specs.Prelude.{ℕ, List, length, Option, Some, None, option_map}
+use Rattle.class_rates.specs.SimmKinds.declared.kinds.ProductClass.{ProductClass}
+use Rattle.class_rates.specs.SimmKinds.declared.kinds.RiskClass.{RiskClass}
+use Rattle.class_rates.specs.SimmKinds.declared.kinds.RiskClass.TheVariants as class
+use Rattle.class_rates.specs.SimmKinds.declared.kinds.BucketId.{BucketId}
+use Rattle.class_rates.specs.SimmKinds.declared.kinds.BucketId.TheVariants as id
+use Rattle.class_rates.specs.SimmKinds.declared.bucket.Bucket.{Bucket}
+use Rattle.class_rates.specs.SimmKinds.declared.key.FactorKey.{FactorKey}
+use Rattle.class_rates.specs.SimmRules.Risks.{CreditClass, Qualifying, Non_qualifying, PricedClass, Equities, Commodities}
+use Rattle.class_rates.specs.SimmRules.Priced.{names_of}
+use Rattle.class_rates.specs.SimmRules.ForeignExchange.{pairs_of}
+use Rattle.class_rates.specs.SimmParams.ClassKinds.{credit_class, priced_class}
+use Rattle.class_rates.specs.FactorBook.declared.at.BucketAt.{BucketAt}
+use Rattle.class_rates.specs.FactorBook.declared.holding.Holding.{Holding}
+use Rattle.class_rates.specs.SimmKinds.Factors.{listed_id}
+use Rattle.class_margin.specs.declared.volatilities.buckets.VolatileAt.{VolatileAt}
+use Rattle.class_margin.specs.declared.volatilities.buckets.VolatileAt.TheVariants as volatile
+use Rattle.class_margin.specs.volatilities.Places.{volatilities_of, points_of, name_volatilities, pair_volatilities}
+
+-- in each product class: a currency's, those that the file lists, and the one of all pairs of currencies
+pub data VolatileBucket : Type 0 where
+  Currency_bucket : (currency : List ℕ) → ProductClass → VolatileBucket
+  Credit_bucket : CreditClass → Bucket → ProductClass → VolatileBucket
+  Priced_bucket : PricedClass → Bucket → ProductClass → VolatileBucket
+  Pairs_bucket : ProductClass → VolatileBucket
+
+-- ---- of an id; none where the class has no such bucket
+
+abbrev pub currency_bucket_at : BucketId → ProductClass → Option VolatileBucket
+currency_bucket_at (id.Number n) product = None
+currency_bucket_at id.Residual product = None
+currency_bucket_at (id.Currency currency) product = Some (Currency_bucket currency product)
+currency_bucket_at id.Single product = None
+
+abbrev pub credit_bucket_at : CreditClass → Option Bucket → ProductClass → Option VolatileBucket
+credit_bucket_at class listed product = option_map (λ b. Credit_bucket class b product) listed
+
+abbrev pub priced_bucket_at : PricedClass → Option Bucket → ProductClass → Option VolatileBucket
+priced_bucket_at class listed product = option_map (λ b. Priced_bucket class b product) listed
+
+abbrev pub pairs_bucket_at : BucketId → ProductClass → Option VolatileBucket
+pairs_bucket_at (id.Number n) product = None
+pairs_bucket_at id.Residual product = None
+pairs_bucket_at (id.Currency currency) product = None
+pairs_bucket_at id.Single product = Some (Pairs_bucket product)
+
+abbrev pub volatile_by_class : RiskClass → BucketId → ProductClass → Option VolatileBucket
+volatile_by_class class.IR b product = currency_bucket_at b product
+volatile_by_class class.CreditQ b product = credit_bucket_at Qualifying (listed_id b) product
+volatile_by_class class.CreditNonQ b product = credit_bucket_at Non_qualifying (listed_id b) product
+volatile_by_class class.Equity b product = priced_bucket_at Equities (listed_id b) product
+volatile_by_class class.Commodity b product = priced_bucket_at Commodities (listed_id b) product
+volatile_by_class class.FX b product = pairs_bucket_at b product
+
+abbrev pub volatile_bucket : BucketAt → Option VolatileBucket
+volatile_bucket at = volatile_by_class at.class at.bucket at.product
+
+-- as the code has it
+abbrev pub bucket_view : VolatileAt → VolatileBucket
+bucket_view (volatile.Currency at) = Currency_bucket at.currency at.product
+bucket_view (volatile.Credit at) = Credit_bucket (credit_class at.kind) at.bucket at.product
+bucket_view (volatile.Priced at) = Priced_bucket (priced_class at.kind) at.bucket at.product
+bucket_view (volatile.Pairs product) = Pairs_bucket product
+
+-- ---- how many factors it has: a name's volatilities are one, and so are a pair's
+
+abbrev pub count_at : VolatileBucket → List (FactorKey × Holding) → ℕ
+count_at (Currency_bucket currency product) factors = length (volatilities_of currency product factors)
+count_at (Credit_bucket class at product) factors = length (points_of class at product factors)
+count_at (Priced_bucket class at product) factors = length (names_of (name_volatilities class at product factors))
+count_at (Pairs_bucket product) factors = length (pairs_of (pair_volatilities product factors))
+
+abbrev pub count_in : Option VolatileBucket → List (FactorKey × Holding) → ℕ
+count_in None factors = 0
+count_in (Some b) factors = count_at b factors
+
+abbrev pub factor_count : BucketAt → List (FactorKey × Holding) → ℕ
+factor_count at factors = count_in (volatile_bucket at) factors

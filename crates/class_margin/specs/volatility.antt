@@ -1,0 +1,2 @@
+pub mod Vega
+pub mod Curvature

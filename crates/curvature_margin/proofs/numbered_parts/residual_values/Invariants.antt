@@ -1,6 +1,0 @@
-use Rattle.std.proofs.Common.{take}
-use Rattle.curvature_margin.proofs.Splits.{AreResidual}
-use Rattle.curvature_margin.proofs.numbered_parts.residual_values.Given as goal
-
-abbrev pub invariant-loop-part : goal.invariant-loop-part
-invariant-loop-part l = AreResidual (take l.part-index l.parts) l.values.items

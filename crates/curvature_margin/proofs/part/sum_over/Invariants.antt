@@ -1,6 +1,0 @@
-use Rattle.std.proofs.Common.{◌≡◌, take}
-use Rattle.vol_factors.specs.SimmRules.Sums.{total_by}
-use Rattle.curvature_margin.proofs.part.sum_over.Given as goal
-
-abbrev pub invariant-loop-value : goal.invariant-loop-value
-invariant-loop-value l = l.sum ≡ total_by (λ b. b.sum) (take l.value-index l.values)

@@ -1,7 +1,0 @@
-pub mod Risk
-pub mod Values
-pub mod Curvature
-pub mod Part
-pub mod Listed
-pub mod Numbered
-pub mod Combine

@@ -1,6 +1,0 @@
-use Rattle.std.proofs.Common.{◌≡◌, map, take}
-use Rattle.name_delta.specs.Points.{weighed_in}
-use Rattle.name_delta.proofs.credit.weigh_points.Given as goal
-
-abbrev pub invariant-loop-place : goal.invariant-loop-place
-invariant-loop-place l = l.weighed.items ≡ map (weighed_in l.weight.0 l.grouped) (take l.place l.grouped)
