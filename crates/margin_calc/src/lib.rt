@@ -11,3 +11,6 @@ mod refused_batch;
 pub use calculation::calc;
 pub use files::{CalcInput, read_both};
 pub use refusal::batch_fault;
+
+// what the crates above reach through this one
+pub use command_files;

@@ -2,11 +2,11 @@
 use Rattle.std.specs.Prelude.{ℕ, ◌≡◌, List, Option, Some, None}
 use Rattle.mh_io.specs.Sink.{SinkSeen}
 use Rattle.mh_io.specs.Folder.{FolderSeen}
-use Rattle.command_files.specs.declared.status.Status.{Status}
-use Rattle.command_files.specs.declared.status.Status.TheVariants as status
+use Rattle.margin_calc.specs.CommandFiles.declared.status.Status.{Status}
+use Rattle.margin_calc.specs.CommandFiles.declared.status.Status.TheVariants as status
 use Rattle.margin_top.specs.Words.{Form, Calc, Explain, Schedule, Sample, Run, Pool, form_of}
-use Rattle.command_files.specs.Lines.{words_fault}
-use Rattle.command_files.specs.Printed.{GotLine}
+use Rattle.margin_calc.specs.CommandFiles.Lines.{words_fault}
+use Rattle.margin_calc.specs.CommandFiles.Printed.{GotLine}
 use Rattle.margin_calc.specs.Calc.{CalcEnds}
 use Rattle.margin_explain.specs.Explain.{ExplainEnds}
 use Rattle.margin_schedule.specs.Schedule.{ScheduleEnds}

@@ -1,17 +1,17 @@
 ghost use Rattle.std.specs.Prelude.{◌<◌, ◌≤◌, ◌^◌, map};
 ghost use Rattle.std.specs.String.{string_bytes};
 ghost use Rattle.std.specs.Vec.{vec_len};
-ghost use Rattle.command_files.specs.Files.{KeepsCounts};
-ghost use Rattle.command_files.specs.Complete.{EndsWell};
+ghost use Rattle.margin_calc.specs.CommandFiles.Files.{KeepsCounts};
+ghost use Rattle.margin_calc.specs.CommandFiles.Complete.{EndsWell};
 ghost use Rattle.margin_top.specs.Complete.{IsWellHouse};
 ghost use Rattle.margin_run.specs.Desks.{desks_of};
 ghost use Rattle.margin_top.specs.House.{HouseEnds};
 
 use crate::words::{Command, command_of};
 use call_desk::Desk;
-use command_files::{FaultLine, Status, print_line};
 use feed_runs::Gate;
 use margin_calc::calc;
+use margin_calc::command_files::{FaultLine, Status, print_line};
 use margin_explain::explain;
 use margin_pool::pool;
 use margin_run::run;

@@ -4,10 +4,10 @@
 mod house;
 mod words;
 
-pub use command_files::Status;
 pub use feed_runs::{Gate, NoGate};
 pub use house::margin_house;
 pub use margin_calc::calc;
+pub use margin_calc::command_files::Status;
 pub use margin_explain::explain;
 pub use margin_pool::pool;
 pub use margin_run::journal_text;
