@@ -5,3 +5,6 @@ pub mod RootBounds
 pub mod Outer
 pub mod OverLists
 pub mod Itself
+pub mod Crosses
+pub mod MarkedPairs
+pub mod MarkedSteps

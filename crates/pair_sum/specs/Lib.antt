@@ -1,2 +1,3 @@
 pub mod PairTotal
 pub mod WithItself
+pub mod Marked

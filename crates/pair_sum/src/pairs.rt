@@ -45,7 +45,7 @@ pub fn pair_sum<T: Weighted, C: Correlation, L: Ledger>(
 }
 
 // The term of two places: one step.
-fn pair_at<T: Weighted, C: Correlation, L: Ledger>(
+pub(crate) fn pair_at<T: Weighted, C: Correlation, L: Ledger>(
     items: &[T],
     row: usize,
     place: usize,

@@ -45,7 +45,7 @@ fn correlated_below<T: Weighted, C: Correlation, L: Ledger>(
 }
 
 // An amount times a correlation: one step. Such an amount fits 64 bits, so this is one multiplication.
-fn correlated<L: Ledger>(amount: i128, corr: Corr6, steps: &mut Steps<L>) -> i128
+pub(crate) fn correlated<L: Ledger>(amount: i128, corr: Corr6, steps: &mut Steps<L>) -> i128
     requires small { unsigned_abs amount < 84 * 10 ^ 14 }
     requires correlation { unsigned_abs corr.0 ≤ 1000000 }
     ensures value { result ≡ corr.0 *ℤ amount }

@@ -68,7 +68,7 @@ combined-one (negsuc n) =
     whole ∙ trunc-below (negsuc n *ℤ one) (omega (arith, ints))
 
 -- a table's correlation, times the ratio of two equal concentrations
-even : (r a b : ℤ) → one ≤ℤ a → a ≡ b → r ≡ combined r (ratio a b)
+pub even : (r a b : ℤ) → one ≤ℤ a → a ≡ b → r ≡ combined r (ratio a b)
 even r a b from_one e = subst (λ z. r ≡ combined r z) (ratio_of_equals a b from_one e) (combined-one r)
 
 pub pairs_of-shared : (factors : List Weighed) (rho : ℕ → ℕ → ℤ) → All (λ factor. one ≤ℤ factor.cr.0) factors → ShareConcentration factors → pairs_of scaling.Plain factors rho ≡ pairs_of scaling.Concentrated factors rho

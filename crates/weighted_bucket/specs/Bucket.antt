@@ -21,12 +21,16 @@ sum_of factors = total_by (λ factor. factor.w) factors
 abbrev pub gross_of : List Weighed → ℤ
 gross_of factors = total_by (λ factor. pos (unsigned_abs factor.w)) factors
 
-abbrev pub bucket_value : Scaling → List Weighed → (ℕ → ℕ → ℤ) → Corr6 → BucketMargin
-bucket_value way factors rho cr = record {
-  q = pairs_of way factors rho;
-  k = root_of (pairs_of way factors rho);
-  s = clamp (sum_of factors) (root_of (pairs_of way factors rho));
+-- the value of factors whose pairs come to q
+abbrev pub value_of : ℤ → List Weighed → Corr6 → BucketMargin
+value_of q factors cr = record {
+  q = q;
+  k = root_of q;
+  s = clamp (sum_of factors) (root_of q);
   sum = sum_of factors;
   gross = gross_of factors;
   cr = cr;
 }
+
+abbrev pub bucket_value : Scaling → List Weighed → (ℕ → ℕ → ℤ) → Corr6 → BucketMargin
+bucket_value way factors rho cr = value_of (pairs_of way factors rho) factors cr

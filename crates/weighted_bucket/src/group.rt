@@ -35,6 +35,21 @@ pub fn group_cr(alloc: Global, amounts: &[Grouped]) -> Result<Vec<Corr6>, AllocE
     Ok(crs)
 }
 
+/// The sum of the amounts of each amount's group, whose amounts stand together. Want of memory is the only error.
+pub fn group_nets(alloc: Global, amounts: &[Grouped]) -> Result<Vec<i128>, AllocError>
+    requires ordered { IsNonDecreasingBy (λ amount. amount.group) amounts.now }
+    requires in_range { sum_by (λ amount. unsigned_abs amount.x) amounts.now < 2 ^ 120 }
+    ensures { IfOk result (λ nets. nets.items ≡ map (λ amount. group_net amounts.now amount.group) amounts.now) }
+{
+    let mut nets = Vec::with_capacity(alloc, amounts.len())?;
+    let mut net = 0;
+    for place in 0..amounts.len() {
+        net = net_at(amounts, place, net);
+        nets.push(net)?;
+    }
+    Ok(nets)
+}
+
 // The sum of the amounts of the group of the amount at this place, where `before` is that of the group of the amount before.
 fn net_at(amounts: &[Grouped], place: usize, before: i128) -> i128
     requires ordered { IsNonDecreasingBy (λ amount. amount.group) amounts.now }

@@ -4,18 +4,20 @@
 //! (ISDA SIMM methodology, weighted sensitivities and aggregation within a bucket.)
 #![tactic(auto)]
 
+mod changes;
 mod correlated;
 mod group;
 mod margin;
 mod pairs;
+mod renewed;
 mod rho;
 mod scaling;
 mod sums;
 mod way;
 mod weighed;
 
-pub use group::{Grouped, group_cr};
-pub use margin::bucket_margin;
+pub use group::{Grouped, group_cr, group_nets};
+pub use margin::{bucket_margin, bucket_margin_after};
 pub use rho::Rho;
 pub use scaling::Scaling;
 pub use weighed::{Weighed, weigh};

@@ -58,7 +58,7 @@ fn concentrated_pairs<R: Rho, L: Ledger>(factors: &[Weighed], rho: &R, steps: &m
 }
 
 // Whether all factors have the same concentration.
-fn share_concentration(factors: &[Weighed]) -> bool
+pub(crate) fn share_concentration(factors: &[Weighed]) -> bool
     ensures { OnTrue result (ShareConcentration factors.now) }
 {
     let Some(first) = factors.first() else {

@@ -20,7 +20,7 @@ overflow_add-sum g c =
     let product : c.correlated-sum.result ≡ c.corr.result.0 *ℤ c.weight.result = simp to_z-of_z at c.correlated-sum.ensures.value in
     let amount = at_place-map g.T.Weighted.weight items place c.index-items-place.result inside c.index-items-place.is in
     let more : c.correlated-sum.result ≡ corr c.args.row place *ℤ at_place ws place = cc in
-    let step = row_step corr ws (length items) c.args.row place _ c.correlated-sum.result laws (omega (arith, sizes_below-all g.T.Weighted.weight items)) c.requires.row_in c.loop-place-test.true c.loop-place.invariant.0 more in
+    let step = row_step corr ws (length items) c.args.row place _ c.correlated-sum.result (λ j below. laws.at_most_one c.args.row j c.requires.row_in below) (omega (arith, sizes_below-all g.T.Weighted.weight items)) inside c.loop-place.invariant.0 more in
     omega (arith, ints, step.size)
 
 pub loop-place-preserved : goal.loop-place-preserved
@@ -36,5 +36,5 @@ loop-place-preserved g c =
     let product : c.correlated-sum.result ≡ c.corr.result.0 *ℤ c.weight.result = simp to_z-of_z at c.correlated-sum.ensures.value in
     let amount = at_place-map g.T.Weighted.weight items place c.index-items-place.result inside c.index-items-place.is in
     let more : c.correlated-sum.result ≡ corr c.args.row place *ℤ at_place ws place = cc in
-    let step = row_step corr ws (length items) c.args.row place _ c.correlated-sum.result laws (omega (arith, sizes_below-all g.T.Weighted.weight items)) c.requires.row_in c.loop-place-test.true c.loop-place.invariant.0 more in
+    let step = row_step corr ws (length items) c.args.row place _ c.correlated-sum.result (λ j below. laws.at_most_one c.args.row j c.requires.row_in below) (omega (arith, sizes_below-all g.T.Weighted.weight items)) inside c.loop-place.invariant.0 more in
     (omega (arith, ints, step.size) ∙ step.value, omega (arith, c.loop-place.invariant.1))

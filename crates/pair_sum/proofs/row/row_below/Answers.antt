@@ -18,7 +18,7 @@ overflow_mul-result g c =
     let amount = at_place-map g.T.Weighted.weight items c.args.row c.index-items-row.result c.requires.row_in c.index-items-row.is in
     let own : c.weight.result ≡ at_place ws c.args.row = cc in
     let sum : c.correlated_below.result ≡ correlated corr ws c.args.row c.args.row = c.correlated_below.ensures.value in
-    let whole = row_end corr ws (length items) c.args.row c.correlated_below.result c.weight.result laws (omega (arith, sizes_below-all g.T.Weighted.weight items)) c.requires.row_in sum own in
+    let whole = row_end corr ws (length items) c.args.row c.args.row c.correlated_below.result c.weight.result (λ j below. laws.at_most_one c.args.row j c.requires.row_in below) (omega (arith, sizes_below-all g.T.Weighted.weight items)) c.requires.row_in (omega (arith, c.requires.row_in)) sum own in
     simp to_z-of_z (fits_signed_from_abs w128 (c.correlated_below.result *ℤ c.weight.result) (omega (arith, whole.size)))
 
 pub returns-clause-value : goal.returns-clause-value
@@ -32,6 +32,6 @@ returns-clause-value g c =
     let amount = at_place-map g.T.Weighted.weight items c.args.row c.index-items-row.result c.requires.row_in c.index-items-row.is in
     let own : c.weight.result ≡ at_place ws c.args.row = cc in
     let sum : c.correlated_below.result ≡ correlated corr ws c.args.row c.args.row = c.correlated_below.ensures.value in
-    let whole = row_end corr ws (length items) c.args.row c.correlated_below.result c.weight.result laws (omega (arith, sizes_below-all g.T.Weighted.weight items)) c.requires.row_in sum own in
+    let whole = row_end corr ws (length items) c.args.row c.args.row c.correlated_below.result c.weight.result (λ j below. laws.at_most_one c.args.row j c.requires.row_in below) (omega (arith, sizes_below-all g.T.Weighted.weight items)) c.requires.row_in (omega (arith, c.requires.row_in)) sum own in
     let fits : FitsSigned w128 (c.correlated_below.result *ℤ c.weight.result) = fits_signed_from_abs w128 (c.correlated_below.result *ℤ c.weight.result) (omega (arith, whole.size)) in
     simp to_z-of_z whole.value
