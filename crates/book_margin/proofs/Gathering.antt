@@ -23,9 +23,9 @@ use Rattle.class_margin.specs.delta.Values.{AreValuedBy}
 use Rattle.class_margin.proofs.OnSide.{each_on}
 use Rattle.class_margin.proofs.Valued.{Whole, value_next}
 use Rattle.kept_buckets.specs.declared.value.VolatilityMargins.{VolatilityMargins}
-use Rattle.kept_buckets.specs.Dirty.{steps_left}
 use Rattle.kept_buckets.specs.Kept.{Kept, value_at}
 use Rattle.book_margin.specs.Right.{IsDelta, AreVolatility, AreRight, AreDeltasKept, AreVolatilitiesKept, Renews}
+use Rattle.book_margin.specs.Steps.{steps_due}
 use Rattle.book_margin.proofs.Renewed.{renews_none, renews_both, value_still}
 
 abbrev Factors : Type 0
@@ -35,7 +35,7 @@ Factors = List (FactorKey × Holding)
 pub record Renewed {A : Type 0} (p : Params) (fs : Factors) (IsKept : Kept → A → Type 0) (first now : Kept) (items : List A) (before after : ℕ) : Type 0 where
   pub renewed : Renews p fs first now
   pub kept : AllByRecursion (IsKept now) items
-  pub steps : after + steps_left now fs ≤ before + steps_left first fs
+  pub steps : after + steps_due p now fs ≤ before + steps_due p first fs
 
 module _ {A : Type 0} (p : Params) (fs : Factors) (IsKept : Kept → A → Type 0) where
   pub renewed_first : (first : Kept) (before : ℕ) → AreRight p fs first → Renewed p fs IsKept first first [] before before
@@ -43,7 +43,7 @@ module _ {A : Type 0} (p : Params) (fs : Factors) (IsKept : Kept → A → Type 
 
   pub renewed_next : (first now next : Kept) (items : List A) (i : ℕ) (x : A) (before mid after : ℕ)
       → i < length items → x ≡ get_or items i x → Renewed p fs IsKept first now (take i items) before mid
-      → Renews p fs now next → ((y : A) → IsKept now y → IsKept next y) → IsKept next x → after + steps_left next fs ≤ mid + steps_left now fs
+      → Renews p fs now next → ((y : A) → IsKept now y → IsKept next y) → IsKept next x → after + steps_due p next fs ≤ mid + steps_due p now fs
       → Renewed p fs IsKept first next (take (i + 1) items) before after
   renewed_next first now next items i x before mid after inside is so_far more still there took = record {
     renewed = renews_both first now next so_far.renewed more;
@@ -91,7 +91,7 @@ deltas_first p fs at first parts before none right = record {
 
 pub deltas_next : (p : Params) (fs : Factors) (at : ClassAt) (first now next : Kept) (buckets : List BucketId) (i : ℕ) (b : BucketId) (place : BucketAt) (m : BucketMargin) (parts more : List Whole) (before mid after : ℕ)
     → i < length buckets → b ≡ get_or buckets i b → place ≡ bucket_at at b → DeltasSoFar p fs at first now (take i buckets) parts before mid
-    → IsDelta p fs place m → Renews p fs now next → IsSome (value_at next (delta_place place)) → after + steps_left next fs ≤ mid + steps_left now fs → more ≡ parts ++ (b, m) ∷ []
+    → IsDelta p fs place m → Renews p fs now next → IsSome (value_at next (delta_place place)) → after + steps_due p next fs ≤ mid + steps_due p now fs → more ≡ parts ++ (b, m) ∷ []
     → DeltasSoFar p fs at first next (take (i + 1) buckets) more before after
 deltas_next p fs at first now next buckets i b place m parts more before mid after inside is there d own renews kept took grown = record {
   so_far = renewed_next p fs (IsKeptAt (delta_in_class at)) first now next buckets i b before mid after inside is d.so_far renews (λ k. value_still now next renews (delta_in_class at k)) (ap (λ q. is_some (value_at next (delta_place q))) (sym there) ∙ kept) took;
@@ -123,7 +123,7 @@ volatilities_first p fs at first vegas curvatures before no_vegas no_curvatures 
 pub volatilities_next : (p : Params) (fs : Factors) (at : ClassAt) (first now next : Kept) (buckets : List BucketId) (i : ℕ) (b : BucketId) (place : BucketAt) (m : VolatilityMargins)
     (vegas curvatures more_vegas more_curvatures : List Whole) (before mid after : ℕ)
     → i < length buckets → b ≡ get_or buckets i b → place ≡ bucket_at at b → VolatilitiesSoFar p fs at first now (take i buckets) vegas curvatures before mid
-    → AreVolatility p fs place m → Renews p fs now next → IsSome (value_at next (volatility_place place)) → after + steps_left next fs ≤ mid + steps_left now fs
+    → AreVolatility p fs place m → Renews p fs now next → IsSome (value_at next (volatility_place place)) → after + steps_due p next fs ≤ mid + steps_due p now fs
     → more_vegas ≡ vegas ++ (b, m.vega) ∷ [] → more_curvatures ≡ curvatures ++ (b, m.curvature) ∷ []
     → VolatilitiesSoFar p fs at first next (take (i + 1) buckets) more_vegas more_curvatures before after
 volatilities_next p fs at first now next buckets i b place m vegas curvatures more_vegas more_curvatures before mid after inside is there d own renews kept took vega_grown curvature_grown = record {

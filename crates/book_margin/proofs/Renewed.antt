@@ -1,5 +1,5 @@
 -- What is kept rightly stays so as more is kept.
-use Rattle.std.proofs.Common.{◌≡◌, ◌≢◌, ℕ, ◌+◌, ◌*◌, ◌≤◌, List, [], Bool, true, false, cond, length, Option, Some, None, refl, sym, ap, ◌∙◌, subst, arith}
+use Rattle.std.proofs.Common.{◌≡◌, ◌≢◌, ℕ, ◌+◌, ◌*◌, ◌≤◌, List, [], Bool, true, false, cond, Option, Some, None, refl, sym, ap, ◌∙◌, subst, arith}
 use Rattle.std.specs.Prelude.{is_some, IsSome, IfSome, sum_by, option_map}
 use Rattle.std.specs.BTreeMap.{is_at}
 use Rattle.std.proofs.lemmas.Bool.{and_parts, and_from, eqb-true, eq-eqb}
@@ -27,7 +27,7 @@ use Rattle.kept_buckets.specs.declared.value.KeptValue.{KeptValue}
 use Rattle.kept_buckets.specs.declared.value.KeptValue.TheVariants as value
 use Rattle.kept_buckets.specs.declared.value.VolatilityMargins.{VolatilityMargins}
 use Rattle.kept_buckets.specs.Cached.{delta_in, volatility_in, kept_delta, kept_volatility, is_measured, place_in, part_in, cached_in}
-use Rattle.kept_buckets.specs.Dirty.{measures_of, steps_left}
+use Rattle.kept_buckets.specs.Dirty.{Count, measures_of, steps_left}
 use Rattle.kept_buckets.specs.Kept.{Kept, value_at, margin_at, KeepsValue, KeepsMargin}
 use Rattle.kept_buckets.specs.Margins.{is_class}
 use Rattle.book_margin.specs.Right.{IsDelta, AreVolatility, IsRightDelta, IsRightVolatility, IsMargin, AreDeltasKept, IsWhole, AreRight, AreMarginsKept, Renews, measured_value, value_in}
@@ -212,19 +212,20 @@ pub kept_now : (old new : Kept) (place : Place) (its : KeptValue) → KeepsValue
 kept_now old new place its keeps = ap is_some (keeps.values place ∙ ap (λ t. cond t (Some its) (value_at old place)) (own_place place))
 
 -- the steps that it took
-abbrev pairs_at : Factors → Place → ℕ
-pairs_at fs place = length (factors_at place fs) * length (factors_at place fs)
+abbrev pairs_at : Count → Factors → Place → ℕ
+pairs_at count fs place = count place (factors_at place fs) * count place (factors_at place fs)
 
-pub one_saved_at : (fs : Factors) (there place : Place) → there ≡ place → (before after left then : ℕ) → after ≤ before + pairs_at fs there → then + 1 * pairs_at fs place ≤ left → after + then ≤ before + left
-one_saved_at fs there place is before after left then took saved =
-    let same : pairs_at fs there ≡ pairs_at fs place = ap (pairs_at fs) is in
+pub one_saved_at : (count : Count) (fs : Factors) (there place : Place) → there ≡ place → (before after left then : ℕ) → after ≤ before + pairs_at count fs there
+    → then + 1 * pairs_at count fs place ≤ left → after + then ≤ before + left
+one_saved_at count fs there place is before after left then took saved =
+    let same : pairs_at count fs there ≡ pairs_at count fs place = ap (pairs_at count fs) is in
     omega (arith, took, saved, same)
 
-pub two_saved_at : (fs : Factors) (first second place : Place) → first ≡ place → second ≡ place → (before mid after left then : ℕ) → mid ≤ before + pairs_at fs first → after ≤ mid + pairs_at fs second
-    → then + 2 * pairs_at fs place ≤ left → after + then ≤ before + left
-two_saved_at fs first second place is too before mid after left then one other saved =
-    let same : pairs_at fs first ≡ pairs_at fs place = ap (pairs_at fs) is in
-    let same_too : pairs_at fs second ≡ pairs_at fs place = ap (pairs_at fs) too in
+pub two_saved_at : (count : Count) (fs : Factors) (first second place : Place) → first ≡ place → second ≡ place → (before mid after left then : ℕ)
+    → mid ≤ before + pairs_at count fs first → after ≤ mid + pairs_at count fs second → then + 2 * pairs_at count fs place ≤ left → after + then ≤ before + left
+two_saved_at count fs first second place is too before mid after left then one other saved =
+    let same : pairs_at count fs first ≡ pairs_at count fs place = ap (pairs_at count fs) is in
+    let same_too : pairs_at count fs second ≡ pairs_at count fs place = ap (pairs_at count fs) too in
     omega (arith, one, other, saved, same, same_too)
 
 pub both_saved : (before mid after first second third : ℕ) → mid + second ≤ before + first → after + third ≤ mid + second → after + third ≤ before + first
@@ -305,5 +306,5 @@ module _ (old new : Kept) (at : ClassAt) (its : Cents) (keeps : KeepsMargin old 
   pub margin_now : IsSome (margin_at new at)
   margin_now = ap is_some (keeps.margins at ∙ ap (λ t. cond t (Some its) (margin_at old at)) (own_class at))
 
-  pub same_steps : (fs : Factors) → steps_left new fs ≡ steps_left old fs
-  same_steps fs = λ i. sum_by (λ (e : Place × Factors). cond (is_some (keeps.values e.0 i)) 0 (measures_of e.0.side) * (length e.1 * length e.1)) (by_place fs)
+  pub same_steps : (count : Count) (fs : Factors) → steps_left count new fs ≡ steps_left count old fs
+  same_steps count fs = λ i. sum_by (λ (e : Place × Factors). cond (is_some (keeps.values e.0 i)) 0 (measures_of e.0.side) * (count e.0 e.1 * count e.0 e.1)) (by_place fs)

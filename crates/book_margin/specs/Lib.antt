@@ -1,6 +1,7 @@
 pub mod Classes
 pub mod Right
 pub mod Measures
+pub mod Steps
 pub use Rattle.kept_buckets.specs.MhUnits as MhUnits
 pub use Rattle.kept_buckets.specs.SimmKinds as SimmKinds
 pub use Rattle.kept_buckets.specs.SimmRules as SimmRules

@@ -4,9 +4,9 @@ ghost use Rattle.kept_buckets.specs.FactorBook.Places.{factors_at};
 ghost use Rattle.class_margin.specs.BookRange.Bounded.{IsMarginable};
 ghost use Rattle.class_margin.specs.delta.Buckets.{bucket_at, delta_place};
 ghost use Rattle.class_margin.specs.volatility.Vega.{volatility_place};
-ghost use Rattle.kept_buckets.specs.Dirty.{steps_left};
 ghost use Rattle.kept_buckets.specs.Kept.{value_at};
 ghost use Rattle.book_margin.specs.Right.{AreRight, IsDelta, AreVolatility, Renews};
+ghost use Rattle.book_margin.specs.Steps.{steps_due};
 
 use class_combine::simm_params::Params;
 use class_margin::pair_sum::Steps;
@@ -34,7 +34,8 @@ pub fn delta_value<L: Ledger>(
     ensures value { IfOk result (IsDelta params.now factors.now (bucket_at at id.now)) }
     ensures renewed { Renews params.now factors.now kept.old kept.new }
     ensures kept { OnOk result (IsSome (value_at kept.new (delta_place (bucket_at at id.now)))) }
-    ensures steps { OnOk result (steps.new + steps_left kept.new factors.now ≤ steps.old + steps_left kept.old factors.now) }
+    ensures steps { OnOk result (steps.new + steps_due params.now kept.new factors.now
+        ≤ steps.old + steps_due params.now kept.old factors.now) }
 {
     match kept.delta(bucket_at(at, *id)) {
         Some(value) => Ok(value),
@@ -59,7 +60,8 @@ fn renewed_delta<L: Ledger>(
     ensures value { IfOk result (IsDelta params.now factors.now (bucket_at at id.now)) }
     ensures renewed { Renews params.now factors.now kept.old kept.new }
     ensures kept { OnOk result (IsSome (value_at kept.new (delta_place (bucket_at at id.now)))) }
-    ensures steps { OnOk result (steps.new + steps_left kept.new factors.now ≤ steps.old + steps_left kept.old factors.now) }
+    ensures steps { OnOk result (steps.new + steps_due params.now kept.new factors.now
+        ≤ steps.old + steps_due params.now kept.old factors.now) }
 {
     kept_values_save_steps();
     let value = delta_bucket(alloc, params, factors, bucket_at(at, *id), steps)?;
@@ -83,7 +85,8 @@ pub fn volatility_values<L: Ledger>(
     ensures values { IfOk result (AreVolatility params.now factors.now (bucket_at at id.now)) }
     ensures renewed { Renews params.now factors.now kept.old kept.new }
     ensures kept { OnOk result (IsSome (value_at kept.new (volatility_place (bucket_at at id.now)))) }
-    ensures steps { OnOk result (steps.new + steps_left kept.new factors.now ≤ steps.old + steps_left kept.old factors.now) }
+    ensures steps { OnOk result (steps.new + steps_due params.now kept.new factors.now
+        ≤ steps.old + steps_due params.now kept.old factors.now) }
 {
     match kept.volatility(bucket_at(at, *id)) {
         Some(values) => Ok(values),
@@ -108,7 +111,8 @@ fn renewed_volatility<L: Ledger>(
     ensures values { IfOk result (AreVolatility params.now factors.now (bucket_at at id.now)) }
     ensures renewed { Renews params.now factors.now kept.old kept.new }
     ensures kept { OnOk result (IsSome (value_at kept.new (volatility_place (bucket_at at id.now)))) }
-    ensures steps { OnOk result (steps.new + steps_left kept.new factors.now ≤ steps.old + steps_left kept.old factors.now) }
+    ensures steps { OnOk result (steps.new + steps_due params.now kept.new factors.now
+        ≤ steps.old + steps_due params.now kept.old factors.now) }
 {
     kept_values_save_steps();
     let vega = vega_bucket(alloc, params, factors, bucket_at(at, *id), steps)?;

@@ -4,8 +4,8 @@ ghost use Rattle.class_margin.specs.BookRange.Bounded.{IsMarginable};
 ghost use Rattle.class_margin.specs.delta.Delta.{AreDeltaParts};
 ghost use Rattle.class_margin.specs.volatility.Vega.{AreVegaParts};
 ghost use Rattle.class_margin.specs.volatility.Curvature.{AreCurvatureParts};
-ghost use Rattle.kept_buckets.specs.Dirty.{steps_left};
 ghost use Rattle.book_margin.specs.Right.{AreRight, AreDeltasKept, AreVolatilitiesKept, Renews};
+ghost use Rattle.book_margin.specs.Steps.{steps_due};
 
 use crate::bucket::{delta_value, volatility_values};
 use class_combine::simm_params::Params;
@@ -41,7 +41,8 @@ pub fn delta_parts<L: Ledger>(
     ensures parts { IfOk result (λ parts. AreDeltaParts params.now at factors.now parts.items) }
     ensures renewed { Renews params.now factors.now kept.old kept.new }
     ensures kept { OnOk result (AreDeltasKept factors.now kept.new at) }
-    ensures steps { OnOk result (steps.new + steps_left kept.new factors.now ≤ steps.old + steps_left kept.old factors.now) }
+    ensures steps { OnOk result (steps.new + steps_due params.now kept.new factors.now
+        ≤ steps.old + steps_due params.now kept.old factors.now) }
 {
     let buckets = delta_buckets(alloc, factors, at)?;
     let mut parts = Vec::with_capacity(alloc, buckets.len())?;
@@ -67,7 +68,8 @@ pub fn volatility_parts<L: Ledger>(
     ensures curvatures { IfOk result (λ parts. AreCurvatureParts params.now at factors.now parts.curvatures.items) }
     ensures renewed { Renews params.now factors.now kept.old kept.new }
     ensures kept { OnOk result (AreVolatilitiesKept factors.now kept.new at) }
-    ensures steps { OnOk result (steps.new + steps_left kept.new factors.now ≤ steps.old + steps_left kept.old factors.now) }
+    ensures steps { OnOk result (steps.new + steps_due params.now kept.new factors.now
+        ≤ steps.old + steps_due params.now kept.old factors.now) }
 {
     let buckets = volatility_buckets(alloc, factors, at)?;
     let mut vegas = Vec::with_capacity(alloc, buckets.len())?;

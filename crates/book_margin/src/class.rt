@@ -6,10 +6,10 @@ ghost use Rattle.kept_buckets.specs.FactorBook.declared.holding.Holding.{Holding
 ghost use Rattle.class_margin.specs.names_delta.Values.{nets_in};
 ghost use Rattle.class_combine.specs.Classes.{IsClassMargin};
 ghost use Rattle.class_margin.specs.BookRange.Bounded.{IsMarginable};
-ghost use Rattle.kept_buckets.specs.Dirty.{steps_left};
 ghost use Rattle.kept_buckets.specs.Kept.{margin_at};
 ghost use Rattle.book_margin.specs.Classes.{AreClassParts, AreBookParts};
 ghost use Rattle.book_margin.specs.Right.{AreRight, IsMargin, IsWhole, Renews};
+ghost use Rattle.book_margin.specs.Steps.{steps_due};
 
 use crate::buckets::{delta_parts, volatility_parts};
 use crate::measures::measures_from;
@@ -37,7 +37,8 @@ pub fn renew_class<L: Ledger>(
     requires right { AreRight params.now factors.now kept.old }
     ensures renewed { Renews params.now factors.now kept.old kept.new }
     ensures kept { OnOk result (IsSome (margin_at kept.new at)) }
-    ensures steps { OnOk result (steps.new + steps_left kept.new factors.now ≤ steps.old + steps_left kept.old factors.now) }
+    ensures steps { OnOk result (steps.new + steps_due params.now kept.new factors.now
+        ≤ steps.old + steps_due params.now kept.old factors.now) }
     ensures at_once { IsSome (margin_at kept.old at) → IsOk result }
 {
     match kept.margin(at) {
@@ -65,7 +66,8 @@ fn renewed_margin<L: Ledger>(
     ensures margin { IfOk result (λ m. IsMargin params.now factors.now at m.0) }
     ensures renewed { Renews params.now factors.now kept.old kept.new }
     ensures whole { OnOk result (IsWhole factors.now kept.new at) }
-    ensures steps { OnOk result (steps.new + steps_left kept.new factors.now ≤ steps.old + steps_left kept.old factors.now) }
+    ensures steps { OnOk result (steps.new + steps_due params.now kept.new factors.now
+        ≤ steps.old + steps_due params.now kept.old factors.now) }
 {
     let deltas = delta_parts(alloc, params, factors, kept, at, steps)?;
     let volatilities = volatility_parts(alloc, params, factors, kept, at, steps)?;

@@ -6,8 +6,8 @@ ghost use Rattle.kept_buckets.specs.FactorBook.Factors.{factors_of};
 ghost use Rattle.class_combine.specs.Sums.{AreOfBook, StandFor};
 ghost use Rattle.class_combine.specs.Whole.{IsTotal, HasProductMargins};
 ghost use Rattle.class_margin.specs.BookRange.Bounded.{IsMarginable};
-ghost use Rattle.kept_buckets.specs.Dirty.{steps_left};
 ghost use Rattle.book_margin.specs.Right.{AreRight, AreMarginsKept, IsFresh, Renews};
+ghost use Rattle.book_margin.specs.Steps.{steps_due};
 
 use crate::laws::nothing_is_right;
 use crate::renewal::renew;
@@ -102,7 +102,8 @@ pub fn margin_over_kept<L: Ledger>(
     ensures margins { IfOk result HasProductMargins }
     ensures renewed { Renews params.now factors.now kept.old kept.new }
     ensures fresh { OnOk result (IsFresh factors.now kept.new) }
-    ensures steps { OnOk result (steps.new + steps_left kept.new factors.now ≤ steps.old + steps_left kept.old factors.now) }
+    ensures steps { OnOk result (steps.new + steps_due params.now kept.new factors.now
+        ≤ steps.old + steps_due params.now kept.old factors.now) }
     ensures at_once { AreMarginsKept kept.old → IsOk result }
 {
     products_are_netted();

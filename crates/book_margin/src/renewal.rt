@@ -5,10 +5,10 @@ ghost use Rattle.kept_buckets.specs.FactorBook.declared.at.ClassAt.{ClassAt as A
 ghost use Rattle.class_combine.specs.Classes.{class_in};
 ghost use Rattle.class_combine.specs.Whole.{classes_in, AreProductClasses};
 ghost use Rattle.class_margin.specs.BookRange.Bounded.{IsMarginable};
-ghost use Rattle.kept_buckets.specs.Dirty.{steps_left};
 ghost use Rattle.kept_buckets.specs.Kept.{margin_at};
 ghost use Rattle.book_margin.specs.Classes.{products_of};
 ghost use Rattle.book_margin.specs.Right.{AreRight, AreMarginsKept, IsFresh, Renews};
+ghost use Rattle.book_margin.specs.Steps.{steps_due};
 
 use crate::class::renew_class;
 use class_combine::ProductClasses;
@@ -38,7 +38,8 @@ pub fn renew<L: Ledger>(
     ensures margins { IfOk result AreProductClasses }
     ensures renewed { Renews params.now factors.now kept.old kept.new }
     ensures fresh { OnOk result (IsFresh factors.now kept.new) }
-    ensures steps { OnOk result (steps.new + steps_left kept.new factors.now ≤ steps.old + steps_left kept.old factors.now) }
+    ensures steps { OnOk result (steps.new + steps_due params.now kept.new factors.now
+        ≤ steps.old + steps_due params.now kept.old factors.now) }
     ensures at_once { AreMarginsKept kept.old → IsOk result }
 {
     for product in ProductClass::ALL {
@@ -60,7 +61,8 @@ fn renew_product<L: Ledger>(
     requires right { AreRight params.now factors.now kept.old }
     ensures renewed { Renews params.now factors.now kept.old kept.new }
     ensures kept { OnOk result ((class : Class) → IsSome (margin_at kept.new (record { product = product; class = class }))) }
-    ensures steps { OnOk result (steps.new + steps_left kept.new factors.now ≤ steps.old + steps_left kept.old factors.now) }
+    ensures steps { OnOk result (steps.new + steps_due params.now kept.new factors.now
+        ≤ steps.old + steps_due params.now kept.old factors.now) }
     ensures at_once { AreMarginsKept kept.old → IsOk result }
 {
     for class in RiskClass::ALL {

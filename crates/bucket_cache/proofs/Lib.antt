@@ -15,4 +15,7 @@ pub mod Keeping
 pub mod Standing
 pub mod Batches
 pub mod Replaced
+pub mod Copies
+pub mod Working
+pub mod Gone
 pub use Rattle.book_margin.proofs.ClassMargin as ClassMargin

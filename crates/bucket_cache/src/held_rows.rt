@@ -27,6 +27,16 @@ impl Model for HeldRows {
 }
 
 impl HeldRows {
+    /// The same rows for one more holder. It takes no memory. The only error comes at 2^63 holders.
+    pub fn share(&self) -> Result<HeldRows, AllocError>
+        ensures { IfOk result (λ rows. rows ≡ self.now) }
+    {
+        Ok(HeldRows {
+            batch: self.batch.share()?,
+            index: self.index,
+        })
+    }
+
     /// Lends the rows.
     pub fn as_slice(&self) -> &[CrifRow]
         ensures { result.now ≡ self.now }

@@ -6,10 +6,13 @@ mod admitting;
 mod batch;
 mod booking;
 mod changing;
+mod copying;
 mod exchanging;
 mod fault;
 mod figures;
 mod held_rows;
+mod laws;
+mod leaving;
 mod lending;
 mod lent;
 mod live;
@@ -23,6 +26,7 @@ mod touching;
 pub use batch::batch_margin;
 pub use fault::{BookFault, WithdrawFault};
 pub use figures::{BatchFigures, batch_figures, batch_parameters};
+pub use laws::touched_values_cost;
 pub use live::LiveMargin;
 
 // what the crates above reach through this one

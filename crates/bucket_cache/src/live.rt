@@ -1,3 +1,4 @@
+mod copies;
 mod tables;
 
 ghost use Rattle.std.specs.Prelude.{◌≡◌, ◌+◌, ◌^◌, ◌<◌, ◌≤◌, ◌++◌, [], length, map, None, Some, Err, IsOk, IfOk, IfSome, OnOk, OnErr, ℕ, pos, ◌≤ℤ◌, ◌<ℤ◌, true, false, is_some};
@@ -11,8 +12,9 @@ ghost use Rattle.book_margin.specs.FactorBook.declared.at.BucketAt.{BucketAt as 
 ghost use Rattle.book_margin.specs.FactorBook.Factors.{factors_of};
 ghost use Rattle.book_margin.specs.KeptBuckets.Touched.{Forgets, SameElsewhere};
 ghost use Rattle.book_margin.specs.KeptBuckets.Cached.{cached_in};
-ghost use Rattle.book_margin.specs.KeptBuckets.Dirty.{dirty_in, steps_left};
+ghost use Rattle.book_margin.specs.KeptBuckets.Dirty.{dirty_in};
 ghost use Rattle.book_margin.specs.Right.{value_in, Renews};
+ghost use Rattle.book_margin.specs.Steps.{steps_due};
 ghost use Rattle.bucket_cache.specs.Cached.{IsCached};
 ghost use Rattle.bucket_cache.specs.Live.{put_trades, without, named, rows_moved, first_unadmitted, first_unknown, name_at, rows_named};
 
@@ -184,8 +186,8 @@ impl LiveMargin {
         ensures all { OnOk result ((at : At) (measure : Kind) → IsCached at measure self.new) }
         ensures fresh { OnOk result (self.new.is_fresh ≡ true) }
         ensures still_stale { OnErr result (self.new.is_fresh ≡ self.old.is_fresh) }
-        ensures steps { let factors = factors_of (rows_of self.old.book) in
-            OnOk result (steps.new + steps_left self.new.kept factors ≤ steps.old + steps_left self.old.kept factors) }
+        ensures steps { let p = self.old.params in let factors = factors_of (rows_of self.old.book) in
+            OnOk result (steps.new + steps_due p self.new.kept factors ≤ steps.old + steps_due p self.old.kept factors) }
         ensures at_once { self.old.is_fresh ≡ true → IsOk result }
         ensures as_it_was { self.old.is_fresh ≡ true → self.new ≡ self.old }
         ensures no_step { self.old.is_fresh ≡ true → steps.new ≡ steps.old }

@@ -2,9 +2,9 @@
 ghost use Rattle.std.specs.Prelude.{◌≡◌, ◌+◌, ◌≤◌, List, IfOk, OnOk};
 ghost use Rattle.book_margin.specs.SimmKinds.declared.row.CrifRow.{CrifRow as Row};
 ghost use Rattle.book_margin.specs.SimmRules.Simm.{simm};
-ghost use Rattle.book_margin.specs.KeptBuckets.Dirty.{steps_left};
 ghost use Rattle.book_margin.specs.ClassCombine.Whole.{IsTotal};
 ghost use Rattle.book_margin.specs.Right.{AreRight, IsFresh, Renews};
+ghost use Rattle.book_margin.specs.Steps.{steps_due};
 ghost use Rattle.bucket_cache.specs.Held.{IsMarginBook};
 
 use crate::sums::Sums;
@@ -38,7 +38,8 @@ pub fn margin_of<L: Ledger>(
     ensures total { IfOk result (λ b. IsTotal b.total.0) }
     ensures renewed { Renews params.now sums.now.factors kept.old kept.new }
     ensures fresh { OnOk result (IsFresh sums.now.factors kept.new) }
-    ensures steps { OnOk result (steps.new + steps_left kept.new sums.now.factors ≤ steps.old + steps_left kept.old sums.now.factors) }
+    ensures steps { OnOk result (steps.new + steps_due params.now kept.new sums.now.factors
+        ≤ steps.old + steps_due params.now kept.old sums.now.factors) }
 {
     range_bounds(params);
     margin_over_kept(

@@ -1,5 +1,5 @@
 //! What the rows of a book come to, kept as rows come and go.
-ghost use Rattle.std.specs.Prelude.{◌≡◌, ◌++◌, List, [], OnOk, OnErr};
+ghost use Rattle.std.specs.Prelude.{◌≡◌, ◌++◌, List, [], IfOk, OnOk, OnErr};
 ghost use Rattle.book_margin.specs.SimmKinds.declared.row.CrifRow.{CrifRow as Row};
 ghost use Rattle.book_margin.specs.SimmRules.Params.{Params as Rules};
 
@@ -42,6 +42,18 @@ impl Sums {
             sizes,
             add_ons,
         }
+    }
+
+    /// Equal sums, of the same rows. It costs the keys. The only error is want of memory.
+    pub fn copy(&self, alloc: Global) -> Result<Sums, AllocError>
+        ensures { IfOk result (λ copy. copy ≡ self.now) }
+    {
+        Ok(Sums {
+            rows: self.rows,
+            factors: self.factors.copy(alloc)?,
+            sizes: self.sizes,
+            add_ons: self.add_ons.copy(alloc)?,
+        })
     }
 
     /// Adds the rows of some trades. For want of memory nothing changes.

@@ -6,6 +6,7 @@ use Rattle.std.specs.List.{filter, AllByRecursion}
 use Rattle.std.specs.List.Sorted.{IsStrictlySortedBy}
 use Rattle.std.proofs.lemmas.List.{get_or-map, length-map}
 use Rattle.std.proofs.lemmas.List.Sorted.{IsNonDecreasingBy-from_default}
+use Rattle.std.proofs.lemmas.Simd.{map-map}
 use Rattle.measured_bucket.specs.SimmKinds.declared.credit_tenor.CreditTenor.TheVariants as credit
 use Rattle.measured_bucket.specs.SimmKinds.Order.{same_name}
 use Rattle.measured_bucket.specs.SimmRules.Params.{CreditBucket}
@@ -18,6 +19,7 @@ use Rattle.measured_bucket.specs.SimmRules.Credit.{same_point, credit_rho, issue
 use Rattle.measured_bucket.specs.WeightedBucket.declared.group.Grouped.{Grouped}
 use Rattle.measured_bucket.specs.WeightedBucket.Group.{at, group_net, group_factor, CanConcentrate}
 use Rattle.measured_bucket.specs.SimmRules.Bucket.{Weighted}
+use Rattle.measured_bucket.specs.Explained.{Unweighed, from_group}
 use Rattle.measured_bucket.specs.Measured.{AreCorrelated}
 use Rattle.measured_bucket.specs.Values.{weighed_as}
 use Rattle.measured_bucket.proofs.Alike.{maps_alike, totals_alike, all_at}
@@ -28,6 +30,7 @@ use Rattle.measured_bucket.proofs.Valued.{correlated}
 use Rattle.measured_bucket.proofs.Weighings.{weighed_with}
 use Rattle.class_credit.specs.Groups.{issuer_net, net_at, changes, AreGrouped, weighed_in, CanWeigh, AreWeighable, issuer_rho}
 use Rattle.class_credit.specs.Points.{point_cmp}
+use Rattle.class_credit.specs.Unweighed.{unweighed_point, weighing_in}
 use Rattle.class_credit.proofs.CreditPoints.{point_total, point_tests, issuer_first}
 use Rattle.class_credit.proofs.Grouping.{grouped_at}
 use Rattle.class_credit.proofs.Numbers.{NotAfter, numbers_ascend, numbers_tell}
@@ -131,6 +134,18 @@ module _ (points : List (Amount CreditPoint)) (threshold : ℤ) (ascends : IsStr
 
   pub points_made : (w : ℤ) → map (weighed_in w grouped) grouped ≡ map (λ a. weighed_as (weighted_point w threshold points a)) points
   points_made w = maps_alike (weighed_in w grouped) (λ a. weighed_as (weighted_point w threshold points a)) grouped points no_group none count (weighed_is w)
+
+  -- what they are weighed from
+  weighing_is : (w : ℤ) (k : ℕ) → k < length points → weighing_in w grouped (at grouped k) ≡ (unweighed_point w threshold points (point_at k)).from
+  weighing_is w k h =
+      ap (λ t. from_group w t (group_net grouped (at grouped k).group) (at grouped k).x) (threshold_is k h)
+      ∙ ap (λ n. from_group w threshold n (at grouped k).x) (net_of_group k h)
+      ∙ ap (from_group w threshold (total_by (λ a. a.amount) (filter (is_of (issuer k)) points))) (x_is k h)
+
+  pub weighings_made : (w : ℤ) → map (weighing_in w grouped) grouped ≡ map (λ f. f.from) (map (unweighed_point w threshold points) points)
+  weighings_made w =
+      maps_alike (weighing_in w grouped) (λ a. (unweighed_point w threshold points a).from) grouped points no_group none count (weighing_is w)
+      ∙ sym (map-map (λ (f : Unweighed CreditPoint). f.from) (unweighed_point w threshold points) points)
 
   -- ---- correlated
 

@@ -5,19 +5,24 @@ use Rattle.std.proofs.lemmas.List.Elements.{All-from_recursion}
 use Rattle.std.proofs.lemmas.Simd.{map-map}
 use Rattle.measured_bucket.specs.SimmKinds.declared.kinds.Tenor.{Tenor}
 use Rattle.measured_bucket.specs.SimmKinds.Tenors.{tenor_at}
-use Rattle.measured_bucket.specs.SimmRules.Curvature.{scale_of}
+use Rattle.measured_bucket.specs.SimmRules.Curvature.{scale_of, curved}
 use Rattle.measured_bucket.specs.SimmRules.Risks.{CreditPoint, Amount}
+use Rattle.measured_bucket.specs.SimmRules.Bucket.{Weighted}
 use Rattle.measured_bucket.specs.SimmRules.Credit.{curved_point}
 use Rattle.measured_bucket.specs.WeightedBucket.declared.weighed.Weighed.{Weighed}
+use Rattle.measured_bucket.specs.Explained.{Unweighed, weighted_from}
+use Rattle.measured_bucket.specs.declared.weighing.Weighing.{Weighing}
 use Rattle.measured_bucket.specs.Risk.{risk_of}
 use Rattle.measured_bucket.specs.Values.{alone, weighed_as, IsInRange}
 use Rattle.measured_bucket.proofs.Columns.{IsClose, IsColumn, is_column}
 use Rattle.measured_bucket.proofs.Curved.{with_risk, risk_alone, risk_none, risk_close}
+use Rattle.measured_bucket.proofs.Explaining.{made_by, listed_by}
 use Rattle.measured_bucket.proofs.Lists.{each_weaker, each_unmap, maps_agree}
 use Rattle.measured_bucket.proofs.Scales.{scale_of-size, times_size}
 use Rattle.measured_bucket.proofs.Sizes.{each_small, size_small}
 use Rattle.class_credit.specs.declared.points.PointNet.{PointNet}
 use Rattle.class_credit.specs.Points.{curved_net, point_view, points_view}
+use Rattle.class_credit.specs.Unweighed.{scaled_net, weighing_at, uncurved_point}
 
 -- ---- one
 
@@ -63,3 +68,20 @@ module _ (nets : List PointNet) (range : IsInRange alone (points_view nets)) whe
       (λ gross h. omega (arith, h, size_small alone (λ (x : CreditPoint). omega (arith, ints)) (points_view nets) range, range.few)) factors
       (e ∙ ap (λ z. map (λ point. curved_net z (point_view point)) nets) is ∙ sym (map-map (curved_net (sigma_of curvature)) point_view nets)
       ∙ maps_agree (curved_net (sigma_of curvature)) (λ a. weighed_as (curved_point curvature a)) (net_risk curvature) (points_view nets))
+
+-- ---- what they are weighed from
+
+abbrev pub risk_from : Unweighed CreditPoint → Weighted CreditPoint
+risk_from = weighted_from (λ weight amount cr. risk_of weight amount)
+
+uncurved_is : (curvature : Bool) (a : Amount CreditPoint) → curved_point curvature a ≡ risk_from (uncurved_point curvature a)
+uncurved_is true a = sym (ap (curved a.of) (risk_alone (pos 10000) (tenor_at (a.of).tenor) a.amount))
+uncurved_is false a = sym (ap (curved a.of) (risk_none (scaled_net a)))
+
+pub curved_made : (curvature : Bool) (points : List (Amount CreditPoint)) → map (curved_point curvature) points ≡ map risk_from (map (uncurved_point curvature) points)
+curved_made curvature points = made_by (λ weight amount cr. risk_of weight amount) (uncurved_point curvature) (curved_point curvature) (uncurved_is curvature) points
+
+pub curved_listed : (curvature : Bool) (sigma : ℤ) (nets : List PointNet) (weighings : List Weighing) → weighings ≡ map (λ point. weighing_at sigma (point_view point)) nets → sigma ≡ (if curvature then pos 10000 else pos 0)
+    → weighings ≡ map (λ f. f.from) (map (uncurved_point curvature) (points_view nets))
+curved_listed curvature sigma nets weighings e is =
+    listed_by (uncurved_point curvature) point_view nets weighings (e ∙ ap (λ z. map (λ point. weighing_at z (point_view point)) nets) is)

@@ -6,4 +6,3 @@ pub mod Grouping
 pub mod CreditValues
 pub mod Columns
 pub mod Curving
-pub mod Measured

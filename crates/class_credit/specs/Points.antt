@@ -1,7 +1,7 @@
 -- The points of a bucket of credit, and their volatilities, among the factors of a book: where they stand, in which order, and
 -- which can be measured.
 -- (ISDA SIMM methodology, credit spread risk.)
-use Rattle.std.specs.Prelude.{ℕ, List, map, Option, Some, None, ℤ, ◌*ℤ◌}
+use Rattle.std.specs.Prelude.{List, map, Option, Some, None, ℤ, ◌*ℤ◌}
 use Rattle.std.specs.declared.cmp.Ordering.{Ordering}
 use Rattle.std.specs.Ordering.{nat_cmp, then_cmp, on}
 use Rattle.std.specs.List.Sorted.{IsStrictlySortedBy}
@@ -16,7 +16,6 @@ use Rattle.measured_bucket.specs.SimmKinds.Tenors.{tenor_at}
 use Rattle.measured_bucket.specs.SimmRules.Risks.{Risk, Of_rate, Of_rate_volatility, Of_credit, Of_credit_volatility, Of_base_correlation, Of_price, Of_price_volatility, Of_currency, Of_pair_volatility, CreditClass, Qualifying, Non_qualifying, CreditPoint, credit_point, Amount, select}
 use Rattle.measured_bucket.specs.SimmRules.Credit.{as_credit, as_credit_volatility}
 use Rattle.measured_bucket.specs.SimmRules.Curvature.{scale_of}
-use Rattle.measured_bucket.specs.SimmParams.ClassKinds.{credit_class}
 use Rattle.measured_bucket.specs.FactorBook.declared.place.Place.{Place}
 use Rattle.measured_bucket.specs.FactorBook.declared.place.BookSide.{BookSide}
 use Rattle.measured_bucket.specs.FactorBook.declared.place.BookSide.TheVariants as side
@@ -25,7 +24,6 @@ use Rattle.measured_bucket.specs.FactorBook.Factors.{net_of}
 use Rattle.measured_bucket.specs.WeightedBucket.declared.weighed.Weighed.{Weighed}
 use Rattle.measured_bucket.specs.Risk.{curved_by}
 use Rattle.measured_bucket.specs.Values.{nets_in, IsInRange}
-use Rattle.class_credit.specs.declared.at.CreditAt.{CreditAt}
 use Rattle.class_credit.specs.declared.points.Point.{Point}
 use Rattle.class_credit.specs.declared.points.PointNet.{PointNet}
 
@@ -51,13 +49,6 @@ points_in class at product factors = select (as_credit class at) (nets_in produc
 
 abbrev pub volatilities_in : CreditClass → Bucket → ProductClass → List (FactorKey × Holding) → List (Amount CreditPoint)
 volatilities_in class at product factors = select (as_credit_volatility class at) (nets_in product factors)
-
--- those of a bucket as the code names it
-abbrev pub points_at : CreditAt → List (FactorKey × Holding) → List (Amount CreditPoint)
-points_at at factors = points_in (credit_class at.kind) at.bucket at.product factors
-
-abbrev pub volatilities_at : CreditAt → List (FactorKey × Holding) → List (Amount CreditPoint)
-volatilities_at at factors = volatilities_in (credit_class at.kind) at.bucket at.product factors
 
 -- the point of a credit curve that a risk is of, or of whose volatility it is, in whichever bucket
 abbrev pub as_point : Risk → Option CreditPoint

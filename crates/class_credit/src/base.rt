@@ -1,23 +1,25 @@
 //! Base correlation: the index families of credit that qualifies, in one bucket, without concentration.
-ghost use Rattle.std.specs.Prelude.{◌≡◌, ℕ, ◌+◌, ◌*◌, ◌^◌, ◌≤◌, All, IfOk, List, length, map, option_map, unsigned_abs};
+ghost use Rattle.std.specs.Prelude.{◌≡◌, ℕ, ◌+◌, ◌*◌, ◌*ℤ◌, ◌^◌, ◌≤◌, All, IfOk, List, length, map, option_map, pos, unsigned_abs};
+ghost use Rattle.measured_bucket.specs.MhUnits.Rounding.{away};
 ghost use Rattle.measured_bucket.specs.SimmKinds.Order.{same_name};
 ghost use Rattle.measured_bucket.specs.SimmRules.BaseCorrelation.{as_index, base_value, index_rho, weighted_index};
 ghost use Rattle.measured_bucket.specs.SimmRules.Concentration.{one};
 ghost use Rattle.measured_bucket.specs.SimmRules.Risks.{risk};
-ghost use Rattle.measured_bucket.specs.FactorBook.Places.{factors_at};
 ghost use Rattle.measured_bucket.specs.WeightedBucket.declared.scaling.Scaling.TheVariants as ways;
+ghost use Rattle.measured_bucket.specs.Explained.{without_group};
 ghost use Rattle.measured_bucket.specs.Measured.{IsNear, IsSound};
-ghost use Rattle.measured_bucket.specs.Values.{IsInRange, IsSmall};
-ghost use Rattle.class_credit.specs.Base.{base_place, index_nets, index_weight, indices_of, indices_view, weighed_net, AreIndices};
+ghost use Rattle.measured_bucket.specs.Values.{IsSmall};
+ghost use Rattle.class_credit.specs.Base.{index_nets, index_weight, indices_view, weighed_net, AreIndices};
+ghost use Rattle.class_credit.specs.Unweighed.{unweighed_index};
 
-use measured_bucket::factor_book::{BookSide, Factors, Place, PlaceFactors};
+use measured_bucket::factor_book::PlaceFactors;
 use measured_bucket::mh_units::{Corr6, Rate4, div_away};
 use measured_bucket::pair_sum::Steps;
-use measured_bucket::simm_kinds::{BucketId, Factor, FactorKey, FullName, ProductClass, RiskClass};
+use measured_bucket::simm_kinds::{Factor, FactorKey, FullName};
 use measured_bucket::simm_params::Params;
 use measured_bucket::simm_rules::BucketMargin;
 use measured_bucket::weighted_bucket::{Scaling, Weighed};
-use measured_bucket::{Column, EvenRho, Measured, measure};
+use measured_bucket::{Column, EvenRho, Measured, Weighing, measure};
 use std::alloc::{AllocError, Global};
 use std::sync::ledger::Ledger;
 
@@ -56,6 +58,10 @@ impl<'a> Measured for BaseCorrelation<'a> {
 
     ghost weighted = { λ x. map (weighted_index x.params.now) (indices_view x.indices.now) };
 
+    ghost unweighed = { λ x. map (unweighed_index x.params.now) (indices_view x.indices.now) };
+
+    ghost weigh = { λ weight amount _. away (weight *ℤ amount) (pos (10 ^ 4)) };
+
     ghost cr = { λ _. one };
 
     ghost near = { λ x. IsNear (10 ^ 10) 346999999 1 (index_weight x.params.now) (indices_view x.indices.now) };
@@ -68,6 +74,10 @@ impl<'a> Measured for BaseCorrelation<'a> {
 
     fn nets(&self) -> &[IndexNet<'a>] {
         self.indices
+    }
+
+    fn weighings(&self, alloc: Global) -> Result<Vec<Weighing>, AllocError> {
+        index_weighings(alloc, self.params.base_weight(), self.indices)
     }
 
     fn column(&self, alloc: Global) -> Result<Column<EvenRho>, AllocError> {
@@ -85,24 +95,22 @@ impl<'a> Measured for BaseCorrelation<'a> {
     }
 }
 
-/// The value of the one bucket of a product class's base correlations. The factors are those of a book in range. `n` index
-/// families take at most `n * n` steps. Want of memory is the only error.
+/// The value of the one bucket of a product class's base correlations, of the index families of its place, which are in range and in
+/// order. `n` index families take at most `n * n` steps. Want of memory is the only error.
 pub fn base_correlation<L: Ledger>(
     alloc: Global,
     params: &Params,
-    factors: &Factors,
-    product: ProductClass,
+    lent: &PlaceFactors,
     steps: &mut Steps<L>,
 ) -> Result<BucketMargin, AllocError>
-    requires { IsInRange (index_weight params.now) (indices_of product factors.now) }
-    ensures value { IfOk result (λ m. m ≡ base_value params.now (indices_of product factors.now)) }
+    requires { AreIndices params.now (index_nets lent.now) }
+    ensures value { IfOk result (λ m. m ≡ base_value params.now (index_nets lent.now)) }
     ensures sound { IfOk result IsSound }
-    ensures near { let indices = indices_of product factors.now in IfOk result (λ m.
+    ensures near { let indices = index_nets lent.now in IfOk result (λ m.
         IsNear (10 ^ 10) 346999999 1 (index_weight params.now) indices (unsigned_abs m.gross)) }
-    ensures steps { let n = length (indices_of product factors.now) in steps.new ≤ steps.old + n * n }
+    ensures steps { let n = length (index_nets lent.now) in steps.new ≤ steps.old + n * n }
 {
-    factors.facts();
-    let indices = indices_at(alloc, factors, product)?;
+    let indices = indices_among(alloc, lent)?;
     let measured = BaseCorrelation {
         params,
         indices: indices.as_slice(),
@@ -110,33 +118,11 @@ pub fn base_correlation<L: Ledger>(
     measure(alloc, &measured, steps)
 }
 
-// The nets to the index families of a product class, in their order.
-fn indices_at<'a>(
+/// The nets to the index families of a place, in their order. Want of memory is the only error.
+pub fn indices_among<'a>(
     alloc: Global,
-    factors: &'a Factors,
-    product: ProductClass,
+    lent: &'a PlaceFactors,
 ) -> Result<Vec<IndexNet<'a>>, AllocError>
-    ensures { IfOk result (λ nets. indices_view nets.items ≡ index_nets (factors_at (base_place product) factors.now)) }
-{
-    match factors.at(&base_place(product)) {
-        Some(lent) => indices_among(alloc, lent),
-        None => Ok(Vec::new(alloc)),
-    }
-}
-
-// Base correlations stand in one bucket on the delta side of credit that qualifies.
-fn base_place(product: ProductClass) -> Place
-    ensures { result ≡ base_place product }
-{
-    Place {
-        product,
-        class: RiskClass::CreditQ,
-        side: BookSide::Delta,
-        bucket: BucketId::Single,
-    }
-}
-
-fn indices_among<'a>(alloc: Global, lent: &'a PlaceFactors) -> Result<Vec<IndexNet<'a>>, AllocError>
     ensures { IfOk result (λ nets. indices_view nets.items ≡ index_nets lent.now) }
 {
     let mut nets = Vec::with_capacity(alloc, lent.len())?;
@@ -174,6 +160,21 @@ fn weigh_indices(
         weighed.push(weigh_index(weight, index.net))?;
     }
     Ok(weighed)
+}
+
+// What each net is weighed from.
+fn index_weighings(
+    alloc: Global,
+    weight: Rate4,
+    indices: &[IndexNet],
+) -> Result<Vec<Weighing>, AllocError>
+    ensures { IfOk result (λ weighings. weighings.items ≡ map (λ index. without_group weight.0 index.net) indices.now) }
+{
+    let mut weighings = Vec::with_capacity(alloc, indices.len())?;
+    for index in indices {
+        weighings.push(Weighing::ungrouped(weight, index.net))?;
+    }
+    Ok(weighings)
 }
 
 // The weight times the net, away from zero to the cent. There is no concentration.

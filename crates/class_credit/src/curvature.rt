@@ -7,8 +7,10 @@ ghost use Rattle.measured_bucket.specs.SimmParams.ListedBuckets.{credit_bucket_v
 ghost use Rattle.measured_bucket.specs.SimmParams.Ranges.{sigmas, IsWithin};
 ghost use Rattle.measured_bucket.specs.WeightedBucket.declared.scaling.Scaling.TheVariants as ways;
 ghost use Rattle.measured_bucket.specs.Measured.{IsNear};
+ghost use Rattle.measured_bucket.specs.Risk.{risk_of};
 ghost use Rattle.measured_bucket.specs.Values.{alone};
 ghost use Rattle.class_credit.specs.Points.{credit_view, curved_net, point_view, points_view, ArePoints};
+ghost use Rattle.class_credit.specs.Unweighed.{scaled_net, uncurved_point, weighing_at};
 
 use crate::groups::group_points;
 use crate::issuers::IssuerRho;
@@ -17,7 +19,7 @@ use crate::points::PointNet;
 use measured_bucket::mh_units::{Corr6, Rate4};
 use measured_bucket::simm_params::BucketTerms;
 use measured_bucket::weighted_bucket::{Scaling, Weighed};
-use measured_bucket::{Column, Measured, TenorScale, curve};
+use measured_bucket::{Column, Measured, TenorScale, Weighing, curve};
 use std::alloc::{AllocError, Global};
 
 /// The curvature of the volatilities of a bucket.
@@ -46,6 +48,10 @@ impl<'a> Measured for CreditCurvature<'a> {
 
     ghost weighted = { λ x. map (curved_point x.listed.bucket.terms.curvature) (points_view x.points.now) };
 
+    ghost unweighed = { λ x. map (uncurved_point x.listed.bucket.terms.curvature) (points_view x.points.now) };
+
+    ghost weigh = { λ weight amount _. risk_of weight amount };
+
     ghost cr = { λ _. one };
 
     ghost near = { λ x. IsNear 20000 1 1 alone (points_view x.points.now) };
@@ -58,6 +64,11 @@ impl<'a> Measured for CreditCurvature<'a> {
 
     fn nets(&self) -> &[PointNet<'a>] {
         self.points
+    }
+
+    fn weighings(&self, alloc: Global) -> Result<Vec<Weighing>, AllocError> {
+        let sigma = volatility_in(&self.listed.bucket.terms);
+        curvature_weighings(alloc, sigma, self.points)
     }
 
     fn column(&self, alloc: Global) -> Result<Column<IssuerRho>, AllocError> {
@@ -107,6 +118,31 @@ fn curve_point(sigma: Rate4, point: &PointNet) -> Weighed
     requires small { unsigned_abs point.now.net ≤ 2 * 10 ^ 20 }
     ensures { result ≡ curved_net sigma.0 (point_view point.now) }
 {
+    curve(sigma, scaled_net(point))
+}
+
+// A net, times what its tenor counts.
+fn scaled_net(point: &PointNet) -> i128
+    requires { unsigned_abs point.now.net ≤ 2 * 10 ^ 20 }
+    ensures value { result ≡ scaled_net (point_view point.now) }
+    ensures size { unsigned_abs result ≤ 219 * 10 ^ 22 }
+{
     let tenor = point.point.tenor.tenor();
-    curve(sigma, TenorScale::Curved.scaled(tenor, point.net))
+    TenorScale::Curved.scaled(tenor, point.net)
+}
+
+// What each net is weighed from.
+fn curvature_weighings(
+    alloc: Global,
+    sigma: Rate4,
+    points: &[PointNet],
+) -> Result<Vec<Weighing>, AllocError>
+    requires { All (λ point. unsigned_abs point.net ≤ 2 * 10 ^ 20) points.now }
+    ensures { IfOk result (λ weighings. weighings.items ≡ map (λ point. weighing_at sigma.0 (point_view point)) points.now) }
+{
+    let mut weighings = Vec::with_capacity(alloc, points.len())?;
+    for point in points {
+        weighings.push(Weighing::ungrouped(sigma, scaled_net(point)))?;
+    }
+    Ok(weighings)
 }

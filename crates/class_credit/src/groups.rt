@@ -1,10 +1,15 @@
 //! The points of a bucket of credit in concentration groups: an issuer's points in a bucket are one group.
 ghost use Rattle.std.specs.Prelude.{◌≡◌, ◌-◌, ◌<◌, IfOk, map, length};
-ghost use Rattle.class_credit.specs.Groups.{changes, issuers_view, weighed_in, AreGrouped, CanWeigh};
+ghost use Rattle.std.specs.List.Sorted.{IsStrictlySortedBy};
+ghost use Rattle.measured_bucket.specs.WeightedBucket.Group.{group_net};
+ghost use Rattle.class_credit.specs.Groups.{changes, issuers_view, weighed_in, AreGrouped, AreWeighable, CanWeigh};
+ghost use Rattle.class_credit.specs.Points.{point_cmp, points_view};
+ghost use Rattle.class_credit.specs.Unweighed.{unweighed_point, weighing_in};
 
 use crate::points::PointNet;
+use measured_bucket::Weighing;
 use measured_bucket::mh_units::Rate4;
-use measured_bucket::weighted_bucket::{Grouped, Weighed, group_cr, weigh};
+use measured_bucket::weighted_bucket::{Grouped, Weighed, group_cr, group_nets, weigh};
 use std::alloc::{AllocError, Global};
 
 /// Nets in which an issuer's stand together, each in the group of its issuer. Groups are numbered in the order of their issuers:
@@ -61,4 +66,41 @@ pub fn weigh_points(
         })?;
     }
     Ok(weighed)
+}
+
+/// What each net is weighed from by this weight: itself, and the group of its issuer over the threshold, in cents. Want of
+/// memory is the only error.
+pub fn point_weighings(
+    alloc: Global,
+    weight: Rate4,
+    threshold: i64,
+    points: &[PointNet],
+) -> Result<Vec<Weighing>, AllocError>
+    requires ascends { IsStrictlySortedBy point_cmp (map (λ a. a.of) (points_view points.now)) }
+    requires weighable { AreWeighable weight.0 threshold (points_view points.now) }
+    ensures { let amounts = points_view points.now in IfOk result (λ weighings.
+        weighings.items ≡ map (λ factor. factor.from) (map (unweighed_point weight.0 threshold amounts) amounts)) }
+{
+    let grouped = group_points(alloc, threshold, points)?;
+    let amounts = grouped.as_slice();
+    let nets = group_nets(alloc, amounts)?;
+    group_weighings(alloc, weight, amounts, nets.as_slice())
+}
+
+// What each net is weighed from, where these are the nets of their groups.
+fn group_weighings(
+    alloc: Global,
+    weight: Rate4,
+    grouped: &[Grouped],
+    nets: &[i128],
+) -> Result<Vec<Weighing>, AllocError>
+    requires { nets.now ≡ map (λ amount. group_net grouped.now amount.group) grouped.now }
+    ensures { IfOk result (λ weighings. weighings.items ≡ map (weighing_in weight.0 grouped.now) grouped.now) }
+{
+    let mut weighings = Vec::with_capacity(alloc, grouped.len())?;
+    for place in 0..grouped.len() {
+        let amount = grouped[place];
+        weighings.push(Weighing::in_group(weight, amount.x, nets[place], amount.threshold))?;
+    }
+    Ok(weighings)
 }

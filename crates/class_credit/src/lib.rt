@@ -3,7 +3,6 @@
 //! (ISDA SIMM methodology, credit spread risk; base correlation margin.)
 #![tactic(auto)]
 
-mod at;
 mod base;
 mod credit;
 mod curvature;
@@ -14,12 +13,11 @@ mod listed;
 mod points;
 mod vega;
 
-pub use at::CreditAt;
-pub use base::{BaseCorrelation, IndexNet, base_correlation};
+pub use base::{BaseCorrelation, IndexNet, base_correlation, indices_among};
 pub use credit::{credit_curvature, credit_delta, credit_vega};
 pub use curvature::CreditCurvature;
 pub use delta::CreditDelta;
 pub use issuers::IssuerRho;
 pub use listed::ListedCredit;
-pub use points::{Point, PointNet};
+pub use points::{Point, PointNet, points_among};
 pub use vega::CreditVega;

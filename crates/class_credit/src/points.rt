@@ -1,11 +1,9 @@
-//! The points of a bucket of credit, and their volatilities, as a book lends them.
+//! The points of a bucket of credit, or their volatilities, as a book lends them at a place.
 ghost use Rattle.std.specs.Prelude.{◌≡◌, IfOk, option_map};
 ghost use Rattle.measured_bucket.specs.SimmRules.Risks.{risk};
-ghost use Rattle.measured_bucket.specs.FactorBook.Places.{factors_at};
-ghost use Rattle.class_credit.specs.Points.{as_point, credit_view, point_nets, points_at, points_view, volatilities_at};
+ghost use Rattle.class_credit.specs.Points.{as_point, credit_view, point_nets, points_view};
 
-use crate::at::CreditAt;
-use measured_bucket::factor_book::{BookSide, Factors, Place, PlaceFactors};
+use measured_bucket::factor_book::PlaceFactors;
 use measured_bucket::simm_kinds::{CreditTenor, Factor, FactorKey, FullName, Name};
 use std::alloc::{AllocError, Global};
 
@@ -29,42 +27,11 @@ pub struct PointNet<'a> {
     pub net: i128,
 }
 
-/// The nets to the points of a bucket, in their order. Want of memory is the only error.
-pub fn delta_points<'a>(
+/// The nets to the points of a place, or to their volatilities, in their order. Want of memory is the only error.
+pub fn points_among<'a>(
     alloc: Global,
-    factors: &'a Factors,
-    at: CreditAt,
+    lent: &'a PlaceFactors,
 ) -> Result<Vec<PointNet<'a>>, AllocError>
-    ensures { IfOk result (λ nets. points_view nets.items ≡ points_at at factors.now) }
-{
-    points_at(alloc, factors, &at.place(BookSide::Delta))
-}
-
-/// The nets to the volatilities of the points of a bucket, in their order. Want of memory is the only error.
-pub fn volatile_points<'a>(
-    alloc: Global,
-    factors: &'a Factors,
-    at: CreditAt,
-) -> Result<Vec<PointNet<'a>>, AllocError>
-    ensures { IfOk result (λ nets. points_view nets.items ≡ volatilities_at at factors.now) }
-{
-    points_at(alloc, factors, &at.place(BookSide::Volatility))
-}
-
-fn points_at<'a>(
-    alloc: Global,
-    factors: &'a Factors,
-    place: &Place,
-) -> Result<Vec<PointNet<'a>>, AllocError>
-    ensures { IfOk result (λ nets. points_view nets.items ≡ point_nets (factors_at place.now factors.now)) }
-{
-    match factors.at(place) {
-        Some(lent) => points_among(alloc, lent),
-        None => Ok(Vec::new(alloc)),
-    }
-}
-
-fn points_among<'a>(alloc: Global, lent: &'a PlaceFactors) -> Result<Vec<PointNet<'a>>, AllocError>
     ensures { IfOk result (λ nets. points_view nets.items ≡ point_nets lent.now) }
 {
     let mut nets = Vec::with_capacity(alloc, lent.len())?;

@@ -16,14 +16,14 @@ use Rattle.measured_bucket.specs.SimmRules.Net.{Sensitivity}
 use Rattle.measured_bucket.specs.SimmRules.Risks.{risk, Amount, select}
 use Rattle.measured_bucket.specs.SimmRules.ForeignExchange.{as_currency, is_own_currency, fx_weight}
 use Rattle.measured_bucket.specs.FactorBook.declared.holding.Holding.{Holding}
-use Rattle.measured_bucket.specs.FactorBook.Factors.{IsBook}
+use Rattle.measured_bucket.specs.FactorBook.Factors.{net_of, IsBook}
 use Rattle.measured_bucket.specs.FactorBook.Places.{stands_at, factors_at}
 use Rattle.measured_bucket.specs.Values.{nets_in, IsInRange}
 use Rattle.measured_bucket.proofs.Keys.{then_Equal, and_trues, key_with, by_factor}
 use Rattle.measured_bucket.proofs.Lists.{each_map, each_weaker, kept_pass, map-itself}
 use Rattle.measured_bucket.proofs.Selected.{select_none, select_some, select_place, select_ascends}
 use Rattle.class_exchange.specs.declared.currencies.CurrencyNet.{CurrencyNet}
-use Rattle.class_exchange.specs.Currencies.{unless_own, as_risky, risky_nets, currencies_in, currency_place, currency_net, currency_view, currencies_view, IsRisky, AreCurrencies}
+use Rattle.class_exchange.specs.Currencies.{unless_own, as_risky, risky_nets, currencies_in, currency_place, currency_net, currency_view, currencies_view, AreRisky, IsRisky, AreCurrencies}
 
 is_currency : (f : Factor) (x : List ℕ) → as_currency (risk f) ≡ Some x → f ≡ factor.Fx x
 is_currency (factor.IrCurve c t s) x h = absurd (cc)
@@ -92,21 +92,29 @@ module _ (p : Params) where
 
   -- ---- as the code has them
 
-  module _ (product : ProductClass) (fs : List (FactorKey × Holding)) (nets : List CurrencyNet) (are : nets ≡ map (currency_net p) (currencies_in p product fs)) where
-    abbrev amounts : List (Amount (List ℕ))
-    amounts = currencies_in p product fs
+  each_other : (ss : List Sensitivity) → AllByRecursion (λ a. is_other a ≡ true) (select (as_risky p) ss)
+  each_other ss = subst (AllByRecursion (λ a. is_other a ≡ true)) (sym (select-risky ss)) (kept_pass is_other (select as_currency ss))
 
-    pub views : currencies_view nets ≡ currencies_in p product fs
+  module _ (its : List (FactorKey × Holding)) (nets : List CurrencyNet) (are : nets ≡ map (currency_net p) (risky_nets p its)) where
+    abbrev amounts : List (Amount (List ℕ))
+    amounts = risky_nets p its
+
+    pub views : currencies_view nets ≡ amounts
     views = ap currencies_view are ∙ map-map currency_view (currency_net p) amounts ∙ map-itself (λ a. currency_view (currency_net p a)) (λ a. refl) amounts
 
     each_risky : AllByRecursion (λ a. IsRisky p (currency_net p a)) amounts
     each_risky =
         each_weaker (λ (a : Amount (List ℕ)). is_other a ≡ true) (λ a. IsRisky p (currency_net p a)) (λ a other. record { other = not-true (is_own_currency p a.of) other; category = refl }) amounts
-        (kept_pass is_other (select as_currency (nets_in product fs)))
+        (each_other (map net_of its))
 
-    pub are_currencies : IsBook fs → IsInRange (fx_weight p) (currencies_in p product fs) → AreCurrencies p nets
-    are_currencies book range = record {
-      ascends = subst (λ xs. IsStrictlySortedBy name_cmp (map (λ a. a.of) xs)) (sym views) (currencies_ascend product fs book);
-      range = subst (IsInRange (fx_weight p)) (sym views) range;
-      risky = subst (All (IsRisky p)) (sym are) (All-from_recursion (IsRisky p) (map (currency_net p) amounts) (each_map (IsRisky p) (currency_net p) amounts each_risky));
+    pub all_risky : All (IsRisky p) nets
+    all_risky =
+        subst (All (IsRisky p)) (sym are) (All-from_recursion (IsRisky p) (map (currency_net p) amounts)
+        (each_map (IsRisky p) (currency_net p) amounts each_risky))
+
+    pub are_currencies : AreRisky p amounts → AreCurrencies p nets
+    are_currencies risky = record {
+      ascends = subst (λ xs. IsStrictlySortedBy name_cmp (map (λ a. a.of) xs)) (sym views) risky.ascends;
+      range = subst (IsInRange (fx_weight p)) (sym views) risky.range;
+      risky = all_risky;
     }

@@ -43,6 +43,11 @@ as_risky p risk = unless_own p (as_currency risk)
 abbrev pub risky_nets : Params → List (FactorKey × Holding) → List (Amount (List ℕ))
 risky_nets p factors = select (as_risky p) (map net_of factors)
 
+-- those that can be measured: different ones in order, in range
+pub record AreRisky (p : Params) (amounts : List (Amount (List ℕ))) : Type 0 where
+  pub ascends : IsStrictlySortedBy name_cmp (map (λ a. a.of) amounts)
+  pub range : IsInRange (fx_weight p) amounts
+
 -- a currency's factor, weighed
 abbrev pub weighed_currency : Params → Amount (List ℕ) → Weighed
 weighed_currency p a = weighed_as (weighted_currency p a)

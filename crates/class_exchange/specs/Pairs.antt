@@ -2,11 +2,15 @@
 -- what those of a pair come to over its tenors.
 -- (ISDA SIMM methodology, foreign exchange risk: vega and curvature.)
 use Rattle.std.specs.Prelude.{◌*◌, ◌^◌, ◌≤◌, List, map, ℤ, ◌*ℤ◌, unsigned_abs}
+use Rattle.std.specs.declared.cmp.Ordering.{Ordering}
+use Rattle.std.specs.Ordering.{nat_cmp, ordering_then}
+use Rattle.std.specs.List.Sorted.{IsStrictlySortedBy}
 use Rattle.measured_bucket.specs.SimmKinds.declared.currency_pair.CurrencyPair.{CurrencyPair}
 use Rattle.measured_bucket.specs.SimmKinds.declared.kinds.ProductClass.{ProductClass}
 use Rattle.measured_bucket.specs.SimmKinds.declared.kinds.RiskClass.TheVariants as class
 use Rattle.measured_bucket.specs.SimmKinds.declared.kinds.BucketId.TheVariants as bucket
 use Rattle.measured_bucket.specs.SimmKinds.declared.key.FactorKey.{FactorKey}
+use Rattle.measured_bucket.specs.SimmKinds.Order.{pair_cmp, tenor_place}
 use Rattle.measured_bucket.specs.SimmKinds.Pair.{Pair}
 use Rattle.measured_bucket.specs.SimmRules.Params.{Params}
 use Rattle.measured_bucket.specs.SimmRules.Sums.{total_by}
@@ -43,6 +47,16 @@ pair_nets factors = select as_pair_volatility (map net_of factors)
 -- those of a book in range, each at the volatility of its pair
 abbrev pub ArePairsInRange : Params → List (Amount PairVolatility) → Type 0
 ArePairsInRange p amounts = AreRunsInRange (λ v. fx_sigma p v.pair) amounts
+
+-- ---- their order: by pair and tenor
+
+abbrev pub pair_volatility_cmp : PairVolatility → PairVolatility → Ordering
+pair_volatility_cmp x y = ordering_then (pair_cmp x.pair y.pair) (nat_cmp (tenor_place x.tenor) (tenor_place y.tenor))
+
+-- those that can be measured: different ones in order, in range
+pub record ArePairs (p : Params) (amounts : List (Amount PairVolatility)) : Type 0 where
+  pub ascends : IsStrictlySortedBy pair_volatility_cmp (map (λ a. a.of) amounts)
+  pub range : ArePairsInRange p amounts
 
 -- ---- what those of a pair come to, each times what its tenor counts
 

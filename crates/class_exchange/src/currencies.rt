@@ -1,11 +1,11 @@
-//! The currencies of a product class, as a book lends them. A sensitivity to the calculation currency is no risk.
-ghost use Rattle.std.specs.Prelude.{◌≡◌, IfOk, map};
+//! The currencies of a product class, as a book lends them at their place. A sensitivity to the calculation currency is no risk.
+ghost use Rattle.std.specs.Prelude.{◌≡◌, All, IfOk};
 ghost use Rattle.measured_bucket.specs.SimmRules.Risks.{risk};
-ghost use Rattle.measured_bucket.specs.FactorBook.Places.{factors_at};
-ghost use Rattle.class_exchange.specs.Currencies.{as_risky, currencies_in, currency_net, currency_place, risky_nets};
+ghost use Rattle.class_exchange.specs.Currencies.{as_risky, currencies_view, risky_nets};
+ghost use Rattle.class_exchange.specs.Currencies.{AreCurrencies, AreRisky, IsRisky};
 
-use measured_bucket::factor_book::{BookSide, Factors, Place, PlaceFactors};
-use measured_bucket::simm_kinds::{BucketId, Currency, Factor, FactorKey, ProductClass, RiskClass};
+use measured_bucket::factor_book::PlaceFactors;
+use measured_bucket::simm_kinds::{Currency, Factor, FactorKey};
 use measured_bucket::simm_params::{Params, VolatilityCategory};
 use std::alloc::{AllocError, Global};
 
@@ -20,52 +20,18 @@ pub struct CurrencyNet {
     pub net: i128,
 }
 
-/// The nets to the currencies of a product class, other than the calculation currency, in their order. Want of memory is the only
-/// error.
+/// The nets to the currencies of a place, other than the calculation currency, in their order; the category of each is looked up once.
+/// Want of memory is the only error.
 pub fn risky_currencies(
-    alloc: Global,
-    params: &Params,
-    factors: &Factors,
-    product: ProductClass,
-) -> Result<Vec<CurrencyNet>, AllocError>
-    ensures { IfOk result (λ nets. nets.items ≡ map (currency_net params.now) (currencies_in params.now product factors.now)) }
-{
-    currencies_at(alloc, params, factors, &currency_place(product))
-}
-
-// Where sensitivities to currencies stand: all are in one bucket.
-fn currency_place(product: ProductClass) -> Place
-    ensures { result ≡ currency_place product }
-{
-    Place {
-        product,
-        class: RiskClass::FX,
-        side: BookSide::Delta,
-        bucket: BucketId::Single,
-    }
-}
-
-fn currencies_at(
-    alloc: Global,
-    params: &Params,
-    factors: &Factors,
-    place: &Place,
-) -> Result<Vec<CurrencyNet>, AllocError>
-    ensures { IfOk result (λ nets. nets.items ≡ map (currency_net params.now) (risky_nets params.now (factors_at place.now factors.now))) }
-{
-    match factors.at(place) {
-        Some(lent) => currencies_among(alloc, params, lent),
-        None => Ok(Vec::new(alloc)),
-    }
-}
-
-// Looks up the category of each currency, once.
-fn currencies_among(
     alloc: Global,
     params: &Params,
     lent: &PlaceFactors,
 ) -> Result<Vec<CurrencyNet>, AllocError>
-    ensures { IfOk result (λ nets. nets.items ≡ map (currency_net params.now) (risky_nets params.now lent.now)) }
+    ensures nets { IfOk result (λ nets.
+        currencies_view nets.items ≡ risky_nets params.now lent.now) }
+    ensures risky { IfOk result (λ nets. All (IsRisky params.now) nets.items) }
+    ensures ready { AreRisky params.now (risky_nets params.now lent.now)
+        → IfOk result (λ nets. AreCurrencies params.now nets.items) }
 {
     let mut nets = Vec::with_capacity(alloc, lent.len())?;
     for (key, holding) in lent.iter() {

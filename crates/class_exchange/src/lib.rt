@@ -13,8 +13,9 @@ mod pairs;
 mod vega;
 
 pub use categories::CategoryRho;
-pub use currencies::CurrencyNet;
+pub use currencies::{CurrencyNet, risky_currencies};
 pub use curvature::FxCurvature;
 pub use delta::FxDelta;
 pub use exchange::{fx_curvature, fx_delta, fx_vega};
+pub use pairs::volatile_pairs;
 pub use vega::FxVega;

@@ -1,16 +1,19 @@
 //! The pairs of currencies of a product class: what the nets to the volatilities of each, as a book lends them, come to over its
 //! tenors.
 ghost use Rattle.std.specs.Prelude.{◌≡◌, ◌*◌, ◌^◌, ◌≤◌, IfOk, map, option_map, sum_by, unsigned_abs};
+ghost use Rattle.std.specs.List.Sorted.{IsStrictlySortedBy};
+ghost use Rattle.measured_bucket.specs.SimmKinds.Order.{pair_cmp};
 ghost use Rattle.measured_bucket.specs.SimmRules.Lookups.{six};
 ghost use Rattle.measured_bucket.specs.SimmRules.Risks.{risk};
-ghost use Rattle.measured_bucket.specs.SimmRules.ForeignExchange.{as_pair_volatility};
-ghost use Rattle.measured_bucket.specs.FactorBook.Places.{factors_at};
-ghost use Rattle.class_exchange.specs.Pairs.{pair_nets, pair_sums, pair_totals, pair_volatilities, pairs_place, tenor_view, volatility_view};
+ghost use Rattle.measured_bucket.specs.SimmRules.Params.{Params};
+ghost use Rattle.measured_bucket.specs.SimmRules.ForeignExchange.{as_pair_volatility, fx_sigma};
+ghost use Rattle.measured_bucket.specs.SimmParams.Facts.{IsParams};
+ghost use Rattle.measured_bucket.specs.Runs.{AreTotals};
+ghost use Rattle.class_exchange.specs.Pairs.{pair_nets, pair_sums, pair_totals, ArePairs};
+ghost use Rattle.class_exchange.specs.Pairs.{pair_volatility_cmp, tenor_view, volatility_view};
 
-use measured_bucket::factor_book::{BookSide, Factors, Place, PlaceFactors};
-use measured_bucket::simm_kinds::{
-    BucketId, CurrencyPair, Factor, FactorKey, ProductClass, RiskClass, Tenor,
-};
+use measured_bucket::factor_book::PlaceFactors;
+use measured_bucket::simm_kinds::{CurrencyPair, Factor, FactorKey, Tenor};
 use measured_bucket::simm_params::Params;
 use measured_bucket::{EvenRho, TenorNet, TenorScale, TenorSum, tenor_sums};
 use std::alloc::{AllocError, Global};
@@ -22,45 +25,23 @@ struct PairVolatility {
     tenor: Tenor,
 }
 
-/// What the nets to the volatilities of each pair of a product class come to over its tenors, in the order of the pairs. The sizes of
-/// the nets come to no more than those of 200,000 amounts that a batch can have. Want of memory is the only error.
+/// What the nets to the volatilities of each pair of a place, which are in order, come to over its tenors, in the order of the pairs.
+/// The sizes of the nets come to no more than those of 200,000 amounts that a batch can have. Want of memory is the only error.
 pub fn volatile_pairs(
     alloc: Global,
-    factors: &Factors,
-    product: ProductClass,
+    lent: &PlaceFactors,
     scale: TenorScale,
 ) -> Result<Vec<TenorSum<CurrencyPair>>, AllocError>
-    requires { sum_by (λ a. unsigned_abs a.amount) (pair_volatilities product factors.now) ≤ 2 * 10 ^ 20 }
-    ensures { IfOk result (λ sums. pair_sums sums.items ≡ pair_totals scale (pair_volatilities product factors.now)) }
+    requires order { IsStrictlySortedBy pair_volatility_cmp (map (λ a. a.of) (pair_nets lent.now)) }
+    requires sizes { sum_by (λ a. unsigned_abs a.amount) (pair_nets lent.now) ≤ 2 * 10 ^ 20 }
+    ensures sums { IfOk result (λ sums.
+        pair_sums sums.items ≡ pair_totals scale (pair_nets lent.now)) }
+    ensures ready { (p : Params) → IsParams p → ArePairs p (pair_nets lent.now)
+        → IfOk result (λ sums.
+        AreTotals pair_cmp scale (fx_sigma p) (pair_sums sums.items)) }
 {
-    factors.facts();
-    let nets = tenors_at(alloc, factors, &pairs_place(product))?;
+    let nets = tenors_among(alloc, lent)?;
     tenor_sums(alloc, scale, nets.as_slice())
-}
-
-// Where they stand: there is one bucket.
-fn pairs_place(product: ProductClass) -> Place
-    ensures { result ≡ pairs_place product }
-{
-    Place {
-        product,
-        class: RiskClass::FX,
-        side: BookSide::Volatility,
-        bucket: BucketId::Single,
-    }
-}
-
-fn tenors_at(
-    alloc: Global,
-    factors: &Factors,
-    place: &Place,
-) -> Result<Vec<TenorNet<CurrencyPair>>, AllocError>
-    ensures { IfOk result (λ nets. map tenor_view nets.items ≡ pair_nets (factors_at place.now factors.now)) }
-{
-    match factors.at(place) {
-        Some(lent) => tenors_among(alloc, lent),
-        None => Ok(Vec::new(alloc)),
-    }
 }
 
 fn tenors_among(

@@ -2,6 +2,7 @@
 ghost use Rattle.std.specs.Prelude.{◌≡◌, ◌^◌, All, IfOk, map};
 ghost use Rattle.measured_bucket.specs.SimmKinds.Order.{pair_cmp, same_pair};
 ghost use Rattle.measured_bucket.specs.SimmKinds.Pair.{Pair};
+ghost use Rattle.measured_bucket.specs.SimmRules.Bucket.{weighted_value};
 ghost use Rattle.measured_bucket.specs.SimmRules.Concentration.{one};
 ghost use Rattle.measured_bucket.specs.SimmRules.ForeignExchange.{fx_sigma, fx_vega_threshold, pair_rho};
 ghost use Rattle.measured_bucket.specs.WeightedBucket.declared.scaling.Scaling.TheVariants as ways;
@@ -10,13 +11,16 @@ ghost use Rattle.measured_bucket.specs.Runs.{AreTotals};
 ghost use Rattle.measured_bucket.specs.Values.{weighed_as};
 ghost use Rattle.measured_bucket.specs.declared.tenor_scale.TenorScale.TheVariants as scale;
 ghost use Rattle.class_exchange.specs.Pairs.{pair_sum, pair_sums, vega_pair, CanWeigh};
+ghost use Rattle.class_exchange.specs.Unweighed.{unweighed_pair};
 
 use crate::pairs::vol_rho;
 use measured_bucket::mh_units::Corr6;
 use measured_bucket::simm_kinds::CurrencyPair;
 use measured_bucket::simm_params::Params;
 use measured_bucket::weighted_bucket::{Scaling, Weighed};
-use measured_bucket::{Column, EvenRho, Measured, TenorSum, VegaTerms, weigh_vega};
+use measured_bucket::{
+    Column, EvenRho, Measured, TenorSum, VegaTerms, Weighing, vega_weighing, weigh_vega,
+};
 use std::alloc::{AllocError, Global};
 
 /// The vega of the pairs of a product class.
@@ -45,6 +49,10 @@ impl<'a> Measured for FxVega<'a> {
 
     ghost weighted = { λ x. map (vega_pair x.params.now) (pair_sums x.pairs.now) };
 
+    ghost unweighed = { λ x. map (unweighed_pair x.params.now) (pair_sums x.pairs.now) };
+
+    ghost weigh = { weighted_value };
+
     ghost cr = { λ _. one };
 
     ghost near = { λ x. IsNear (10 ^ 10) 832799998 695 (fx_sigma x.params.now) (pair_sums x.pairs.now) };
@@ -57,6 +65,12 @@ impl<'a> Measured for FxVega<'a> {
 
     fn nets(&self) -> &[TenorSum<CurrencyPair>] {
         self.pairs
+    }
+
+    fn weighings(&self, alloc: Global) -> Result<Vec<Weighing>, AllocError> {
+        self.params.facts();
+        self.params.pair_facts();
+        pair_weighings(alloc, self.params, self.pairs)
     }
 
     fn column(&self, alloc: Global) -> Result<Column<EvenRho>, AllocError> {
@@ -93,6 +107,29 @@ fn weigh_pair(params: &Params, pair: &TenorSum<CurrencyPair>) -> Weighed
     ensures { result ≡ weighed_as (vega_pair params.now (pair_sum pair.now)) }
 {
     weigh_vega(&vega_terms(params, pair.of), pair.sum)
+}
+
+// What each sum is weighed from.
+fn pair_weighings(
+    alloc: Global,
+    params: &Params,
+    pairs: &[TenorSum<CurrencyPair>],
+) -> Result<Vec<Weighing>, AllocError>
+    requires { All (CanWeigh params.now) pairs.now }
+    ensures { IfOk result (λ weighings. weighings.items ≡ map (λ pair. (unweighed_pair params.now (pair_sum pair)).from) pairs.now) }
+{
+    let mut weighings = Vec::with_capacity(alloc, pairs.len())?;
+    for pair in pairs {
+        weighings.push(pair_weighing(params, pair))?;
+    }
+    Ok(weighings)
+}
+
+fn pair_weighing(params: &Params, pair: &TenorSum<CurrencyPair>) -> Weighing
+    requires { CanWeigh params.now pair.now }
+    ensures { result ≡ (unweighed_pair params.now (pair_sum pair.now)).from }
+{
+    vega_weighing(&vega_terms(params, pair.of), pair.sum)
 }
 
 // What the categories of a pair's currencies say of its vega.

@@ -19,8 +19,7 @@ use Rattle.class_rates.proofs.FactorBook.Grouping.{any_is, any-filter}
 use Rattle.class_rates.proofs.FactorBook.Sorting.{any_different, different_ascends}
 use Rattle.class_rates.proofs.FactorBook.Standing.{exact_ids}
 use Rattle.book_range.proofs.Buckets.{id_total}
-use Rattle.class_margin.proofs.rates_delta.Lists.{filter_agrees}
-use Rattle.class_margin.proofs.delta.Lists.{filter_twice}
+use Rattle.book_range.proofs.Lists.{filter_agrees, filter_twice}
 
 pub buckets_ascend : (at : SideAt) (fs : List (FactorKey × Holding)) → IsStrictlySortedBy bucket_id_cmp (buckets_on at fs)
 buckets_ascend at fs = different_ascends bucket_id_cmp id_total (map (λ f. bucket_of f.0.factor) (filter (λ f. is_on at f.0) fs))

@@ -4,10 +4,11 @@ pub mod Counts
 pub mod Bounds
 pub mod Totals
 pub mod Listed
+pub mod Owned
+pub mod Sizes
 pub mod InBook
 pub mod Classes
 pub mod Margined
 pub mod Currencies
-pub mod Named
 pub mod OneBucket
 pub mod Lent

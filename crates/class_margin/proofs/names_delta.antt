@@ -1,6 +1,6 @@
-pub mod Valued
 pub mod Parts
 pub mod Empty
 pub mod Shrinking
 pub mod ValueSized
 pub mod Told
+pub mod ByClass

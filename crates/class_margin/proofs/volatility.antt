@@ -1,10 +1,10 @@
 pub mod Bounds
-pub mod Listed
 pub mod VolatilePlaces
 pub mod InBook
 pub mod Parts
 pub mod Ready
 pub mod Sizes
+pub mod Currencies
 pub mod Classes
 pub mod ByBucket
 pub mod Margined

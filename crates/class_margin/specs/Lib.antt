@@ -1,3 +1,5 @@
+pub mod Table
+pub mod value
 pub mod rates_delta
 pub mod names_delta
 pub mod volatilities

@@ -5,16 +5,20 @@
 
 mod curvature;
 mod delta;
+mod listed;
 mod names_delta;
 mod rates_delta;
+mod ratios;
+mod table;
+mod value;
 mod vega;
-mod volatilities;
 mod volatility;
 
 pub use delta::{
     base_from, bucket_at, delta_bucket, delta_buckets, delta_from, delta_hangs_on_its_factors,
 };
 pub use names_delta::products_are_netted;
+pub use value::{Slot, buckets_can_be_measured, is_base};
 pub use volatility::{
     curvature_bucket, curvature_from, curvature_hangs_on_its_factors, vega_bucket, vega_from,
     vega_hangs_on_its_factors, volatility_buckets,

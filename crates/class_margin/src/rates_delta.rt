@@ -2,9 +2,7 @@
 //! (ISDA SIMM methodology, interest rate risk: delta margin.)
 
 mod across;
-mod currency_bucket;
 mod laws;
 
-pub use across::combine;
-pub use currency_bucket::bucket;
+pub use across::{combine, values_of};
 pub use laws::{currencies_make_delta, rates_stand_by_currency};

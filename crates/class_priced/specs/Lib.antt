@@ -1,4 +1,5 @@
 pub mod Names
 pub mod Sums
 pub mod Weights
+pub mod Unweighed
 pub mod Listed

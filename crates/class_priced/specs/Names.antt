@@ -2,6 +2,8 @@
 -- can be measured.
 -- (ISDA SIMM methodology, equity and commodity risk.)
 use Rattle.std.specs.Prelude.{ℕ, List, map, Option, Some, None, ℤ}
+use Rattle.std.specs.declared.cmp.Ordering.{Ordering}
+use Rattle.std.specs.Ordering.{nat_cmp, ordering_then}
 use Rattle.std.specs.List.Sorted.{IsStrictlySortedBy}
 use Rattle.measured_bucket.specs.SimmKinds.declared.kinds.ProductClass.{ProductClass}
 use Rattle.measured_bucket.specs.SimmKinds.declared.kinds.RiskClass.{RiskClass}
@@ -9,17 +11,16 @@ use Rattle.measured_bucket.specs.SimmKinds.declared.kinds.RiskClass.TheVariants 
 use Rattle.measured_bucket.specs.SimmKinds.declared.bucket.Bucket.{Bucket}
 use Rattle.measured_bucket.specs.SimmKinds.declared.key.FactorKey.{FactorKey}
 use Rattle.measured_bucket.specs.SimmKinds.Factors.{bucket_id_of}
-use Rattle.measured_bucket.specs.SimmKinds.Order.{name_cmp}
+use Rattle.measured_bucket.specs.SimmKinds.Order.{name_cmp, tenor_place}
 use Rattle.measured_bucket.specs.SimmRules.Risks.{Risk, Of_rate, Of_rate_volatility, Of_credit, Of_credit_volatility, Of_base_correlation, Of_price, Of_price_volatility, Of_currency, Of_pair_volatility, PricedClass, Equities, Commodities, Amount, select}
 use Rattle.measured_bucket.specs.SimmRules.Priced.{NameVolatility, as_price, as_price_volatility}
-use Rattle.measured_bucket.specs.SimmParams.ClassKinds.{priced_class}
 use Rattle.measured_bucket.specs.FactorBook.declared.place.Place.{Place}
 use Rattle.measured_bucket.specs.FactorBook.declared.place.BookSide.{BookSide}
 use Rattle.measured_bucket.specs.FactorBook.declared.place.BookSide.TheVariants as side
 use Rattle.measured_bucket.specs.FactorBook.declared.holding.Holding.{Holding}
 use Rattle.measured_bucket.specs.FactorBook.Factors.{net_of}
+use Rattle.measured_bucket.specs.Runs.{AreRunsInRange}
 use Rattle.measured_bucket.specs.Values.{nets_in, IsInRange}
-use Rattle.class_priced.specs.declared.at.PricedAt.{PricedAt}
 use Rattle.class_priced.specs.declared.names.NameNet.{NameNet}
 
 -- ---- where they stand
@@ -44,13 +45,6 @@ names_in class at product factors = select (as_price class at) (nets_in product 
 
 abbrev pub volatilities_in : PricedClass → Bucket → ProductClass → List (FactorKey × Holding) → List (Amount NameVolatility)
 volatilities_in class at product factors = select (as_price_volatility class at) (nets_in product factors)
-
--- those of a bucket as the code names it
-abbrev pub names_at : PricedAt → List (FactorKey × Holding) → List (Amount (List ℕ))
-names_at at factors = names_in (priced_class at.kind) at.bucket at.product factors
-
-abbrev pub volatilities_at : PricedAt → List (FactorKey × Holding) → List (Amount NameVolatility)
-volatilities_at at factors = volatilities_in (priced_class at.kind) at.bucket at.product factors
 
 -- the name that a risk is of, and the volatility of a name, in whichever bucket
 abbrev pub as_name : Risk → Option (List ℕ)
@@ -85,6 +79,17 @@ volatility_nets factors = select as_name_volatility (map net_of factors)
 pub record AreNames (weight : ℤ) (names : List (Amount (List ℕ))) : Type 0 where
   pub ascends : IsStrictlySortedBy name_cmp (map (λ a. a.of) names)
   pub range : IsInRange (λ _. weight) names
+
+-- ---- the order of their volatilities: by name and tenor
+
+abbrev pub name_volatility_cmp : NameVolatility → NameVolatility → Ordering
+name_volatility_cmp x y =
+    ordering_then (name_cmp x.name y.name) (nat_cmp (tenor_place x.tenor) (tenor_place y.tenor))
+
+-- those that can be measured: different ones in order, in range at this volatility
+pub record AreNameVolatilities (sigma : ℤ) (amounts : List (Amount NameVolatility)) : Type 0 where
+  pub ascends : IsStrictlySortedBy name_volatility_cmp (map (λ a. a.of) amounts)
+  pub range : AreRunsInRange (λ _. sigma) amounts
 
 -- ---- as the code has them
 

@@ -6,18 +6,20 @@ ghost use Rattle.measured_bucket.specs.SimmRules.Priced.{name_rho};
 ghost use Rattle.measured_bucket.specs.SimmParams.ListedBuckets.{priced_bucket_view};
 ghost use Rattle.measured_bucket.specs.SimmParams.Ranges.{sigmas, IsWithin};
 ghost use Rattle.measured_bucket.specs.WeightedBucket.declared.scaling.Scaling.TheVariants as ways;
+ghost use Rattle.measured_bucket.specs.Explained.{without_group};
 ghost use Rattle.measured_bucket.specs.Measured.{IsNear};
-ghost use Rattle.measured_bucket.specs.Risk.{curved_by};
+ghost use Rattle.measured_bucket.specs.Risk.{curved_by, risk_of};
 ghost use Rattle.measured_bucket.specs.Runs.{AreTotals};
 ghost use Rattle.measured_bucket.specs.declared.tenor_scale.TenorScale.TheVariants as scale;
 ghost use Rattle.class_priced.specs.Sums.{name_sums};
+ghost use Rattle.class_priced.specs.Unweighed.{uncurved_name};
 ghost use Rattle.class_priced.specs.Weights.{curved_at, curved_name};
 
 use crate::listed::ListedPriced;
 use measured_bucket::mh_units::{Corr6, Rate4};
 use measured_bucket::simm_kinds::FullName;
 use measured_bucket::weighted_bucket::{Scaling, Weighed};
-use measured_bucket::{Column, EvenRho, Measured, TenorSum, curve};
+use measured_bucket::{Column, EvenRho, Measured, TenorSum, Weighing, curve};
 use std::alloc::{AllocError, Global};
 
 /// The curvature of the names of a bucket.
@@ -46,6 +48,11 @@ impl<'a> Measured for PricedCurvature<'a> {
 
     ghost weighted = { λ x. map (curved_name (priced_bucket_view x.listed.bucket)) (name_sums x.names.now) };
 
+    ghost unweighed = { λ x. let b = priced_bucket_view x.listed.bucket in
+        map (uncurved_name b) (name_sums x.names.now) };
+
+    ghost weigh = { λ weight amount _. risk_of weight amount };
+
     ghost cr = { λ _. one };
 
     ghost near = { λ x. IsNear 219000000 1 1 (λ _. x.listed.bucket.sigma.0) (name_sums x.names.now) };
@@ -58,6 +65,10 @@ impl<'a> Measured for PricedCurvature<'a> {
 
     fn nets(&self) -> &[TenorSum<&'a FullName>] {
         self.names
+    }
+
+    fn weighings(&self, alloc: Global) -> Result<Vec<Weighing>, AllocError> {
+        name_weighings(alloc, volatility_in(&self.listed), self.names)
     }
 
     fn column(&self, alloc: Global) -> Result<Column<EvenRho>, AllocError> {
@@ -98,4 +109,20 @@ fn curve_names(
         risks.push(curve(sigma, name.sum))?;
     }
     Ok(risks)
+}
+
+// What each sum is weighed from.
+fn name_weighings(
+    alloc: Global,
+    sigma: Rate4,
+    names: &[TenorSum<&FullName>],
+) -> Result<Vec<Weighing>, AllocError>
+    ensures { IfOk result (λ weighings.
+        weighings.items ≡ map (λ name. without_group sigma.0 name.sum) names.now) }
+{
+    let mut weighings = Vec::with_capacity(alloc, names.len())?;
+    for name in names {
+        weighings.push(Weighing::ungrouped(sigma, name.sum))?;
+    }
+    Ok(weighings)
 }

@@ -3,7 +3,6 @@
 //! (ISDA SIMM methodology, equity and commodity risk.)
 #![tactic(auto)]
 
-mod at;
 mod curvature;
 mod delta;
 mod listed;
@@ -11,10 +10,9 @@ mod names;
 mod priced;
 mod vega;
 
-pub use at::PricedAt;
 pub use curvature::PricedCurvature;
 pub use delta::PricedDelta;
 pub use listed::ListedPriced;
-pub use names::NameNet;
+pub use names::{NameNet, delta_names, volatile_names};
 pub use priced::{priced_curvature, priced_delta, priced_vega};
 pub use vega::PricedVega;

@@ -1,13 +1,14 @@
-//! The names of a bucket of equity or of commodities, as a book lends them: the net to each, and what the nets to its volatilities
-//! come to over their tenors.
-ghost use Rattle.std.specs.Prelude.{◌≡◌, ◌*◌, ◌^◌, ◌≤◌, IfOk, map, option_map, sum_by, unsigned_abs};
+//! The names of a bucket of equity or of commodities, as a book lends them at its place: the net
+//! to each, and what the nets to its volatilities come to over their tenors.
+ghost use Rattle.std.specs.Prelude.{◌≡◌, ◌*◌, ◌^◌, ◌≤◌, ◌≤ℤ◌, ℤ, IfOk, map, option_map, pos, sum_by, unsigned_abs};
+ghost use Rattle.std.specs.List.Sorted.{IsStrictlySortedBy};
+ghost use Rattle.measured_bucket.specs.SimmKinds.Order.{name_cmp};
 ghost use Rattle.measured_bucket.specs.SimmRules.Risks.{risk};
-ghost use Rattle.measured_bucket.specs.FactorBook.Places.{factors_at};
-ghost use Rattle.class_priced.specs.Names.{as_name, as_name_volatility, name_nets, names_at, names_view, volatilities_at, volatility_nets};
+ghost use Rattle.measured_bucket.specs.Runs.{AreTotals};
+ghost use Rattle.class_priced.specs.Names.{as_name, as_name_volatility, name_nets, name_volatility_cmp, names_view, volatility_nets, AreNameVolatilities};
 ghost use Rattle.class_priced.specs.Sums.{name_sums, name_totals, tenor_view, volatility_view};
 
-use crate::at::PricedAt;
-use measured_bucket::factor_book::{BookSide, Factors, Place, PlaceFactors};
+use measured_bucket::factor_book::PlaceFactors;
 use measured_bucket::simm_kinds::{Factor, FactorKey, FullName, Tenor};
 use measured_bucket::{TenorNet, TenorScale, TenorSum, tenor_sums};
 use std::alloc::{AllocError, Global};
@@ -28,31 +29,11 @@ struct NameVolatility<'a> {
     tenor: Tenor,
 }
 
-/// The nets to the names of a bucket, in their order. Want of memory is the only error.
+/// The nets to the names of a place, in their order. Want of memory is the only error.
 pub fn delta_names<'a>(
     alloc: Global,
-    factors: &'a Factors,
-    at: PricedAt,
+    lent: &'a PlaceFactors,
 ) -> Result<Vec<NameNet<'a>>, AllocError>
-    ensures { IfOk result (λ nets. names_view nets.items ≡ names_at at factors.now) }
-{
-    names_at(alloc, factors, &at.place(BookSide::Delta))
-}
-
-fn names_at<'a>(
-    alloc: Global,
-    factors: &'a Factors,
-    place: &Place,
-) -> Result<Vec<NameNet<'a>>, AllocError>
-    ensures { IfOk result (λ nets. names_view nets.items ≡ name_nets (factors_at place.now factors.now)) }
-{
-    match factors.at(place) {
-        Some(lent) => names_among(alloc, lent),
-        None => Ok(Vec::new(alloc)),
-    }
-}
-
-fn names_among<'a>(alloc: Global, lent: &'a PlaceFactors) -> Result<Vec<NameNet<'a>>, AllocError>
     ensures { IfOk result (λ nets. names_view nets.items ≡ name_nets lent.now) }
 {
     let mut nets = Vec::with_capacity(alloc, lent.len())?;
@@ -77,33 +58,26 @@ fn name_of(key: &FactorKey) -> Option<&FullName>
     }
 }
 
-/// What the nets to the volatilities of each name of a bucket come to over its tenors, in the order of the names. The sizes of the
-/// nets come to no more than those of 200,000 amounts that a batch can have. Want of memory is the only error.
+/// What the nets to the volatilities of each name of a place, which are in order, come to over its
+/// tenors, in the order of the names. The sizes of the nets come to no more than those of 200,000
+/// amounts that a batch can have. Where these volatilities can be measured, so can what they come
+/// to. Want of memory is the only error.
 pub fn volatile_names<'a>(
     alloc: Global,
-    factors: &'a Factors,
-    at: PricedAt,
+    lent: &'a PlaceFactors,
     scale: TenorScale,
 ) -> Result<Vec<TenorSum<&'a FullName>>, AllocError>
-    requires { sum_by (λ a. unsigned_abs a.amount) (volatilities_at at factors.now) ≤ 2 * 10 ^ 20 }
-    ensures { IfOk result (λ sums. name_sums sums.items ≡ name_totals scale (volatilities_at at factors.now)) }
+    requires order { let nets = volatility_nets lent.now in
+        IsStrictlySortedBy name_volatility_cmp (map (λ a. a.of) nets) }
+    requires sizes { sum_by (λ a. unsigned_abs a.amount) (volatility_nets lent.now) ≤ 2 * 10 ^ 20 }
+    ensures sums { IfOk result (λ sums.
+        name_sums sums.items ≡ name_totals scale (volatility_nets lent.now)) }
+    ensures measured { IfOk result (λ sums. (sigma : ℤ) → pos 0 ≤ℤ sigma
+        → AreNameVolatilities sigma (volatility_nets lent.now)
+        → AreTotals name_cmp scale (λ _. sigma) (name_sums sums.items)) }
 {
-    factors.facts();
-    let nets = tenors_at(alloc, factors, &at.place(BookSide::Volatility))?;
+    let nets = tenors_among(alloc, lent)?;
     tenor_sums(alloc, scale, nets.as_slice())
-}
-
-fn tenors_at<'a>(
-    alloc: Global,
-    factors: &'a Factors,
-    place: &Place,
-) -> Result<Vec<TenorNet<&'a FullName>>, AllocError>
-    ensures { IfOk result (λ nets. map tenor_view nets.items ≡ volatility_nets (factors_at place.now factors.now)) }
-{
-    match factors.at(place) {
-        Some(lent) => tenors_among(alloc, lent),
-        None => Ok(Vec::new(alloc)),
-    }
 }
 
 fn tenors_among<'a>(

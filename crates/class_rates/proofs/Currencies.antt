@@ -1,5 +1,5 @@
 -- Sensitivities to what is of one currency: where a book lends them, and in which order.
-use Rattle.std.proofs.Common.{◌≡◌, ℕ, List, [], ◌∷◌, map, Bool, true, false, cond, if◌then◌else◌, Option, Some, None, refl, sym, ap, ◌∙◌, subst}
+use Rattle.std.proofs.Common.{◌≡◌, ℕ, List, [], ◌∷◌, ◌++◌, map, Bool, true, false, cond, if◌then◌else◌, Option, Some, None, refl, sym, ap, ◌∙◌, subst, append-nil}
 use Rattle.std.specs.declared.cmp.Ordering.{Ordering}
 use Rattle.std.specs.declared.cmp.Ordering.TheVariants.{Less}
 use Rattle.std.specs.Ordering.{is_eq}
@@ -25,6 +25,10 @@ use Rattle.measured_bucket.proofs.Keys.{key_with, by_factor, chosen}
 use Rattle.measured_bucket.proofs.Lists.{map-itself}
 use Rattle.measured_bucket.proofs.Selected.{select_none, select_some, issuers_place, select_ascends}
 use Rattle.class_rates.specs.Places.{currency_place}
+
+-- what was read of a list of which nothing is left
+pub read_whole : {X Y : Type 0} (read : List X → List Y) → read [] ≡ [] → (left : List X) (front all : List Y) → left ≡ [] → front ++ read left ≡ all → front ≡ all
+read_whole read none left front all at so_far = sym (append-nil front) ∙ ap (λ ys. front ++ ys) (sym none) ∙ ap (λ xs. front ++ read xs) (sym at) ∙ so_far
 
 pub same_itself : (currency : List ℕ) → same_name currency currency ≡ true
 same_itself currency = ap is_eq (tied_itself nat_list_cmp_total currency)

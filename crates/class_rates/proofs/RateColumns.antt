@@ -1,5 +1,5 @@
 -- The rates of a currency in range: the net of their concentration group, and what is known of them when they are weighed.
-use Rattle.std.proofs.Common.{◌≡◌, ◌^◌, ℕ, ◌+◌, ◌*◌, ◌≤◌, List, [], ◌∷◌, map, Bool, true, false, not, cond, if◌then◌else◌, refl, sym, ap, ◌∙◌, subst, ℤ, pos, negsuc, ◌+ℤ◌, ◌≤ℤ◌, ◌<ℤ◌, unsigned_abs, All, arith, mul-le-mul_left, mul-le-mul_right}
+use Rattle.std.proofs.Common.{◌≡◌, ◌^◌, ℕ, ◌+◌, ◌*◌, ◌≤◌, List, [], ◌∷◌, map, Bool, true, false, not, cond, if◌then◌else◌, Option, Some, None, refl, sym, ap, ◌∙◌, subst, ℤ, pos, negsuc, ◌+ℤ◌, ◌≤ℤ◌, ◌<ℤ◌, unsigned_abs, All, arith, mul-le-mul_left, mul-le-mul_right}
 use Rattle.std.specs.Prelude.{sum_by}
 use Rattle.std.specs.List.{filter, AllByRecursion}
 use Rattle.std.specs.List.Sorted.{IsStrictlySortedBy}
@@ -14,24 +14,29 @@ use Rattle.measured_bucket.specs.SimmRules.Sums.{total_by}
 use Rattle.measured_bucket.specs.SimmRules.Risks.{Amount, Curve, Inflation, Basis}
 use Rattle.measured_bucket.specs.SimmRules.Risks.{Rate as RuleRate}
 use Rattle.measured_bucket.specs.SimmRules.Concentration.{one, cr}
-use Rattle.measured_bucket.specs.SimmRules.Bucket.{weighted_value}
+use Rattle.measured_bucket.specs.SimmRules.Bucket.{Weighted, weighted_value}
 use Rattle.measured_bucket.specs.SimmRules.Rates.{RateIn, is_basis, curve_weights, rate_weight, rate_thresholds, rate_cr, rate_rho, same_rate, weighted_rate}
 use Rattle.measured_bucket.specs.SimmParams.Facts.{IsWeighed}
 use Rattle.measured_bucket.specs.SimmParams.Weighed.{AreRatesWeighed}
 use Rattle.measured_bucket.specs.SimmParams.RateLookups.{category_curve}
 use Rattle.measured_bucket.specs.SimmParams.declared.category.CurveCategory.{CurveCategory}
 use Rattle.measured_bucket.specs.WeightedBucket.declared.weighed.Weighed.{Weighed}
+use Rattle.measured_bucket.specs.declared.weighing.Group.{Group}
+use Rattle.measured_bucket.specs.declared.weighing.Weighing.{Weighing}
+use Rattle.measured_bucket.specs.Explained.{Unweighed, weighted_from}
 use Rattle.measured_bucket.specs.Measured.{AreCorrelated}
 use Rattle.measured_bucket.specs.Values.{weighed_as, IsInRange}
 use Rattle.measured_bucket.proofs.Columns.{IsClose, IsColumn, is_column}
+use Rattle.measured_bucket.proofs.Explaining.{made_by, listed_by}
 use Rattle.measured_bucket.proofs.Lists.{each_always, each_weaker, each_map, each_unmap, maps_agree}
 use Rattle.measured_bucket.proofs.Sizes.{total_size, sum_by-map, sum_by-below, sum_by-scaled, size_one, size_all, size_small, each_small, not_negative}
 use Rattle.measured_bucket.proofs.Thick.{cr_size, cr_low, cr_below, weighted_close}
 use Rattle.class_rates.specs.declared.rate.Rate.{Rate}
 use Rattle.class_rates.specs.declared.rate.Rate.TheVariants as rate
 use Rattle.class_rates.specs.declared.rates.RateNet.{RateNet}
-use Rattle.class_rates.specs.Rates.{rate_cmp, rule_rate, rule_net, rate_view, rates_view, AreRates}
+use Rattle.class_rates.specs.Rates.{rate_cmp, rule_rate, rule_net, with_currency, rate_view, rates_view, AreRates}
 use Rattle.class_rates.specs.Weighing.{group_part, group_net, weight_in, cr_of, weighed_in}
+use Rattle.class_rates.specs.Unweighed.{rates_group, rate_from, unweighed_rate, weighing_in}
 use Rattle.class_rates.specs.Rho.{no_rate, rho_at}
 use Rattle.class_rates.proofs.RatePlaces.{rate_total, rate_tests}
 use Rattle.class_rates.proofs.Columns.{of_own}
@@ -47,7 +52,7 @@ part_size n = by (is_basis (rule_rate n.rate))
     by false = omega arith
 
 -- its net is the rule's
-group_is : (currency : List ℕ) (nets : List RateNet) → group_net nets ≡ total_by (λ a. a.amount) (filter (λ a. not (is_basis (a.of).rate)) (rates_view currency nets))
+pub group_is : (currency : List ℕ) (nets : List RateNet) → group_net nets ≡ total_by (λ a. a.amount) (filter (λ a. not (is_basis (a.of).rate)) (rates_view currency nets))
 group_is currency [] = refl
 group_is currency (n ∷ nets) = ap (λ z. group_part n +ℤ z) (group_is currency nets) ∙ sym (kept (is_basis (rule_rate n.rate)))
   where
@@ -197,6 +202,15 @@ module _ (p : Params) (weighed : (currency : List ℕ) → AreRatesWeighed p cur
         weight_is rate.Inflation = refl
         weight_is rate.Basis = refl
 
+        -- what a rate is weighed from
+        weighing_is : (group : Group) (n : RateNet) → weighing_in p category group n ≡ (unweighed_rate p group (rate_view currency n)).from
+        weighing_is group n = ap (λ w. rate_from group (rule_rate n.rate) w n.net) (weight_is n.rate)
+
+        pub weighings_are : (group : Group) (weighings : List Weighing) → weighings ≡ map (weighing_in p category group) nets → weighings ≡ map (λ f. f.from) (map (unweighed_rate p group) (rates_view currency nets))
+        weighings_are group weighings made =
+            listed_by (unweighed_rate p group) (rate_view currency) nets weighings
+            (made ∙ maps_agree (weighing_in p category group) (λ n. (unweighed_rate p group (rate_view currency n)).from) (weighing_is group) nets)
+
         weighed_is : (c : ℤ) (n : RateNet) → weighed_in p category c n ≡ weighed_as (weighted_rate p c (rate_view currency n))
         weighed_is c n = ap with_weight (weight_is n.rate)
           where
@@ -218,14 +232,27 @@ module _ (p : Params) (weighed : (currency : List ℕ) → AreRatesWeighed p cur
             (made ∙ ap (λ z. map (weighed_in p category z) nets) is ∙ maps_agree (weighed_in p category own) (λ n. weighed_as (weighted_rate p own (rate_view currency n))) (weighed_is own) nets
             ∙ sym (map-map (λ a. weighed_as (weighted_rate p own a)) (rate_view currency) nets))
 
--- ---- their correlations
+-- ---- what they are weighed from
 
-abbrev of_currency : List ℕ → Amount RuleRate → Amount RateIn
-of_currency currency a = record { of = record { currency = currency; rate = a.of }; amount = a.amount }
+abbrev weighed_at : Params → Amount RateIn → ℤ → Weighted RuleRate
+weighed_at p a c = record { of = (a.of).rate; w = weighted_value (rate_weight p a.of) a.amount c; cr = c }
+
+abbrev unweighed_at : Params → Amount RateIn → Option Group → Unweighed RuleRate
+unweighed_at p a group = record { of = (a.of).rate; from = record { amount = a.amount; group = group; weight = record { 0 = rate_weight p a.of } } }
+
+pub rates_made : (p : Params) (currency : List ℕ) (rates : List (Amount RateIn))
+    → map (weighted_rate p (rate_cr p currency rates)) rates ≡ map (weighted_from weighted_value) (map (unweighed_rate p (rates_group p currency rates)) rates)
+rates_made p currency rates = made_by weighted_value (unweighed_rate p (rates_group p currency rates)) (weighted_rate p (rate_cr p currency rates)) (λ a. by (is_basis (a.of).rate) a) rates
+  where
+    by : (t : Bool) (a : Amount RateIn) → weighed_at p a (if t then one else rate_cr p currency rates) ≡ weighted_from weighted_value (unweighed_at p a (if t then None else Some (rates_group p currency rates)))
+    by true a = refl
+    by false a = refl
+
+-- ---- their correlations
 
 pub rates_correlated : (p : Params) (currency : List ℕ) (c : ℤ) (nets : List RateNet) → AreRates p (rates_view currency nets) → AreCorrelated same_rate (rate_rho p) (map (weighted_rate p c) (rates_view currency nets)) (rho_at p nets)
 rates_correlated p currency c nets are =
     subst (λ fs. AreCorrelated same_rate (rate_rho p) fs (rho_at p nets))
-    (map-map (λ a. weighted_rate p c (of_currency currency a)) rule_net nets ∙ sym (map-map (weighted_rate p c) (rate_view currency) nets))
-    (nets_correlated rate_cmp rate_total same_rate rate_tests (rate_rho p) rule_net (λ a. weighted_rate p c (of_currency currency a)) (λ a. refl) no_rate nets
+    (map-map (λ a. weighted_rate p c (with_currency currency a)) rule_net nets ∙ sym (map-map (weighted_rate p c) (rate_view currency) nets))
+    (nets_correlated rate_cmp rate_total same_rate rate_tests (rate_rho p) rule_net (λ a. weighted_rate p c (with_currency currency a)) (λ a. refl) no_rate nets
     (subst (IsStrictlySortedBy rate_cmp) (map-map (λ (a : Amount RateIn). (a.of).rate) (rate_view currency) nets ∙ sym (map-map (λ (a : Amount RuleRate). a.of) rule_net nets)) are.ascends))

@@ -5,6 +5,7 @@ use Rattle.std.specs.declared.cmp.Ordering.TheVariants.{Equal}
 use Rattle.std.specs.Ordering.{nat_cmp, ordering_then, is_eq}
 use Rattle.std.specs.Cmp.{IsTotalOrder, both_tied}
 use Rattle.std.proofs.lemmas.Cmp.{nat_cmp_total, nat_list_cmp_total, tied_itself, then_total, on_total}
+use Rattle.std.proofs.lemmas.Simd.{map-map}
 use Rattle.measured_bucket.specs.SimmKinds.declared.kinds.ProductClass.{ProductClass}
 use Rattle.measured_bucket.specs.SimmKinds.declared.kinds.BucketId.TheVariants as id
 use Rattle.measured_bucket.specs.SimmKinds.declared.factor.Factor.{Factor}
@@ -12,16 +13,17 @@ use Rattle.measured_bucket.specs.SimmKinds.declared.factor.Factor.TheVariants as
 use Rattle.measured_bucket.specs.SimmKinds.declared.key.FactorKey.{FactorKey}
 use Rattle.measured_bucket.specs.SimmKinds.Factors.{bucket_id_of}
 use Rattle.measured_bucket.specs.SimmKinds.Order.{same_product, same_name, factor_cmp, name_cmp, tenor_place, sub_place, same_bucket_id}
-use Rattle.measured_bucket.specs.SimmRules.Risks.{Risk, risk, Rate, Curve, Inflation, Basis}
+use Rattle.measured_bucket.specs.SimmRules.Risks.{Risk, risk, Rate, Curve, Inflation, Basis, Amount}
 use Rattle.measured_bucket.specs.SimmRules.Rates.{RateIn, as_rate, same_rate}
 use Rattle.measured_bucket.specs.FactorBook.declared.place.BookSide.TheVariants as side
 use Rattle.measured_bucket.specs.FactorBook.declared.holding.Holding.{Holding}
 use Rattle.measured_bucket.specs.FactorBook.Factors.{IsBook}
 use Rattle.measured_bucket.specs.FactorBook.Places.{stands_at, factors_at}
 use Rattle.measured_bucket.proofs.Keys.{then_Equal, is_eq-nat, and_last, and_other, and_side, and_bucket, key_with, not_chosen}
+use Rattle.measured_bucket.proofs.Lists.{map-itself}
 use Rattle.class_rates.specs.declared.rates.RateNet.{RateNet}
 use Rattle.class_rates.specs.Places.{rates_place, rates_of}
-use Rattle.class_rates.specs.Rates.{as_rate_alone, rate_nets, rate_kind, curve_tenor, curve_sub, rate_cmp, rule_net, rates_view}
+use Rattle.class_rates.specs.Rates.{as_rate_alone, rate_nets, rates_among, rate_kind, curve_tenor, curve_sub, rate_cmp, rule_net, with_currency, rates_view}
 use Rattle.class_rates.proofs.Currencies.{same_itself, own, there, says, stands, ascend, of_currency}
 
 -- ---- their order
@@ -101,13 +103,18 @@ module _ (currency : List ℕ) where
   elsewhere product c (factor.Fx n) h = and_other (same_product c product) true (same_bucket_id id.Single (id.Currency currency))
   elsewhere product c (factor.FxVol p t) h = and_other (same_product c product) false (same_bucket_id id.Single (id.Currency currency))
 
-  -- the rates that are read of the place are those of the currency
-  pub rates_there : (product : ProductClass) (fs : List (FactorKey × Holding)) (nets : List RateNet) → map rule_net nets ≡ rate_nets (factors_at (rates_place currency product) fs) → rates_view currency nets ≡ rates_of currency product fs
-  rates_there product fs nets read =
+  -- what is read of its place is what stands there
+  pub read_rates : (its : List (FactorKey × Holding)) (nets : List RateNet) → map rule_net nets ≡ rate_nets its → rates_view currency nets ≡ rates_among currency its
+  read_rates its nets read = sym (map-map (with_currency currency) rule_net nets) ∙ ap (map (with_currency currency)) read
+
+  -- the rates of the place are those of the currency
+  pub rates_there : (product : ProductClass) (fs : List (FactorKey × Holding)) → rates_among currency (factors_at (rates_place currency product) fs) ≡ rates_of currency product fs
+  rates_there product fs =
+      let its = rate_nets (factors_at (rates_place currency product) fs) in
       there as_rate (λ (r : RateIn). r.currency) (λ (r : RateIn). r.rate) currency as_rate_alone (rates_place currency product)
       (stands as_rate (λ (r : RateIn). r.currency) (λ (r : RateIn). r.rate) currency factor_of is_factor side.Delta product (own_stands product))
       (λ k x e. says as_rate (λ (r : RateIn). r.currency) (λ (r : RateIn). r.rate) currency factor_of is_factor as_rate_alone itself k.factor x e)
-      (λ k e. elsewhere product k.product k.factor e) fs (λ rate. record { currency = currency; rate = rate }) (λ v own. ap (λ c. record { currency = c; rate = v.rate }) (sym own)) rule_net nets read
+      (λ k e. elsewhere product k.product k.factor e) fs (λ rate. record { currency = currency; rate = rate }) (λ v own. ap (λ c. record { currency = c; rate = v.rate }) (sym own)) (λ (a : Amount Rate). a) its (map-itself (λ (a : Amount Rate). a) (λ a. refl) its)
 
   -- ---- in which order
 

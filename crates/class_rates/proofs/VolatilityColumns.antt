@@ -12,27 +12,34 @@ use Rattle.measured_bucket.specs.SimmRules.Sums.{total_by}
 use Rattle.measured_bucket.specs.SimmRules.Risks.{RateVolatility, Amount}
 use Rattle.measured_bucket.specs.SimmRules.Concentration.{one, cr}
 use Rattle.measured_bucket.specs.SimmRules.Bucket.{Weighted}
-use Rattle.measured_bucket.specs.SimmRules.Curvature.{scale_of}
+use Rattle.measured_bucket.specs.SimmRules.Curvature.{scale_of, curved}
 use Rattle.measured_bucket.specs.SimmRules.Rates.{VolatilityIn, rate_thresholds, rate_volatility_cr, rate_volatility_rho, same_rate_volatility, tenor_of, weighted_rate_volatility, curved_rate_volatility}
 use Rattle.measured_bucket.specs.SimmParams.Facts.{IsWeighed}
 use Rattle.measured_bucket.specs.SimmParams.Ranges.{vega_weights, IsWithin}
 use Rattle.measured_bucket.proofs.FactorBook.Sums.{total_by-map}
 use Rattle.measured_bucket.specs.WeightedBucket.declared.weighed.Weighed.{Weighed}
+use Rattle.measured_bucket.specs.Explained.{weighted_from}
 use Rattle.measured_bucket.specs.Measured.{AreCorrelated}
 use Rattle.measured_bucket.specs.Risk.{risk_of}
 use Rattle.measured_bucket.specs.Values.{alone, weighed_as}
 use Rattle.measured_bucket.proofs.Columns.{IsClose, IsColumn, is_column}
 use Rattle.measured_bucket.proofs.Curved.{with_risk, risk_alone, risk_close}
+use Rattle.measured_bucket.proofs.Explaining.{made_by}
 use Rattle.measured_bucket.proofs.Lists.{each_weaker, each_unmap, maps_agree}
 use Rattle.measured_bucket.proofs.Scales.{scale_of-size, times_size}
 use Rattle.measured_bucket.proofs.Sizes.{total_size, sum_by-map, sum_by-scaled, size_all, size_small, each_small}
 use Rattle.measured_bucket.proofs.Thick.{net_thick, cr_size, cr_low, cr_below, weighted_close}
 use Rattle.class_rates.specs.declared.volatilities.VolatilityNet.{VolatilityNet}
-use Rattle.class_rates.specs.Volatilities.{volatility_cmp, rule_volatility, rule_net, volatility_view, volatilities_view, group_net, weighed_by, curved_net, AreVolatilities}
+use Rattle.class_rates.specs.Volatilities.{volatility_cmp, rule_volatility, rule_net, with_currency, volatility_view, volatilities_view, group_net, weighed_by, curved_net, AreVolatilities}
+use Rattle.class_rates.specs.Unweighed.{uncurved_volatility}
 use Rattle.class_rates.specs.Rho.{no_volatility, volatility_rho_at}
 use Rattle.class_rates.proofs.VolatilityPlaces.{volatility_total, volatility_tests}
 use Rattle.class_rates.proofs.Columns.{of_own}
 use Rattle.class_rates.proofs.Correlated.{nets_correlated}
+
+-- the net of the group is the rule's
+pub group_is : (currency : List ℕ) (nets : List VolatilityNet) → group_net nets ≡ total_by (λ a. a.amount) (volatilities_view currency nets)
+group_is currency nets = sym (total_by-map (λ (a : Amount VolatilityIn). a.amount) (volatility_view currency) nets)
 
 module _ (currency : List ℕ) (nets : List VolatilityNet) (are : AreVolatilities (volatilities_view currency nets)) where
   abbrev amounts : List (Amount VolatilityIn)
@@ -65,11 +72,8 @@ module _ (currency : List ℕ) (nets : List VolatilityNet) (are : AreVolatilitie
     pub vega_thick : unsigned_abs (group_net nets) ≤ 120000 * unsigned_abs (rate_thresholds p currency).vega
     vega_thick = net_thick (group_net nets) (pos 10000) threshold weighed (omega (arith, ints)) (omega (arith, mul-le-mul_right 10000 (total_size (λ (n : VolatilityNet). n.net) nets), sizes))
 
-    group_is : group_net nets ≡ total_by (λ a. a.amount) (volatilities_view currency nets)
-    group_is = sym (total_by-map (λ (a : Amount VolatilityIn). a.amount) (volatility_view currency) nets)
-
     pub cr_is : cr (group_net nets) (rate_thresholds p currency).vega ≡ rate_volatility_cr p currency (volatilities_view currency nets)
-    cr_is = ap (λ z. cr z threshold) group_is
+    cr_is = ap (λ z. cr z threshold) (group_is currency nets)
 
     own_cr-size : unsigned_abs (rate_volatility_cr p currency amounts) ≤ 346999999
     own_cr-size = subst (λ z. unsigned_abs z ≤ 346999999) cr_is (cr_size (group_net nets) threshold weighed.threshold_low vega_thick)
@@ -130,15 +134,19 @@ module _ (currency : List ℕ) (nets : List VolatilityNet) (are : AreVolatilitie
       (made ∙ maps_agree curved_net (λ n. weighed_as (curved_rate_volatility (volatility_view currency n))) net_risk nets
       ∙ sym (map-map (λ a. weighed_as (curved_rate_volatility a)) (volatility_view currency) nets))
 
--- ---- their correlations, whichever way they are weighed
+-- ---- what their curvature risks are weighed from
 
-abbrev of_currency : List ℕ → Amount RateVolatility → Amount VolatilityIn
-of_currency currency a = record { of = record { currency = currency; volatility = a.of }; amount = a.amount }
+pub curved_made : (volatilities : List (Amount VolatilityIn)) → map curved_rate_volatility volatilities ≡ map (weighted_from (λ weight amount cr. risk_of weight amount)) (map uncurved_volatility volatilities)
+curved_made volatilities =
+    made_by (λ weight amount cr. risk_of weight amount) uncurved_volatility curved_rate_volatility
+    (λ a. sym (ap (curved (a.of).volatility) (risk_alone (pos 10000) (tenor_of (a.of).volatility) a.amount))) volatilities
+
+-- ---- their correlations, whichever way they are weighed
 
 pub volatilities_correlated : (p : Params) (currency : List ℕ) (W : Amount VolatilityIn → Weighted RateVolatility) → ((a : Amount VolatilityIn) → (W a).of ≡ (a.of).volatility) → (nets : List VolatilityNet) → AreVolatilities (volatilities_view currency nets)
     → AreCorrelated same_rate_volatility (rate_volatility_rho p) (map W (volatilities_view currency nets)) (volatility_rho_at p nets)
 volatilities_correlated p currency W of_same nets are =
     subst (λ fs. AreCorrelated same_rate_volatility (rate_volatility_rho p) fs (volatility_rho_at p nets))
-    (map-map (λ a. W (of_currency currency a)) rule_net nets ∙ sym (map-map W (volatility_view currency) nets))
-    (nets_correlated volatility_cmp volatility_total same_rate_volatility volatility_tests (rate_volatility_rho p) rule_net (λ a. W (of_currency currency a)) (λ a. of_same (of_currency currency a)) no_volatility nets
+    (map-map (λ a. W (with_currency currency a)) rule_net nets ∙ sym (map-map W (volatility_view currency) nets))
+    (nets_correlated volatility_cmp volatility_total same_rate_volatility volatility_tests (rate_volatility_rho p) rule_net (λ a. W (with_currency currency a)) (λ a. of_same (with_currency currency a)) no_volatility nets
     (subst (IsStrictlySortedBy volatility_cmp) (map-map (λ (a : Amount VolatilityIn). (a.of).volatility) (volatility_view currency) nets ∙ sym (map-map (λ (a : Amount RateVolatility). a.of) rule_net nets)) are.ascends))

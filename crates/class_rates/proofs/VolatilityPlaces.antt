@@ -5,6 +5,7 @@ use Rattle.std.specs.declared.cmp.Ordering.TheVariants.{Equal}
 use Rattle.std.specs.Ordering.{nat_cmp, ordering_then, is_eq}
 use Rattle.std.specs.Cmp.{IsTotalOrder}
 use Rattle.std.proofs.lemmas.Cmp.{nat_cmp_total, nat_list_cmp_total, tied_itself, then_total, on_total}
+use Rattle.std.proofs.lemmas.Simd.{map-map}
 use Rattle.measured_bucket.specs.SimmKinds.declared.kinds.ProductClass.{ProductClass}
 use Rattle.measured_bucket.specs.SimmKinds.declared.kinds.BucketId.TheVariants as id
 use Rattle.measured_bucket.specs.SimmKinds.declared.factor.Factor.{Factor}
@@ -12,7 +13,7 @@ use Rattle.measured_bucket.specs.SimmKinds.declared.factor.Factor.TheVariants as
 use Rattle.measured_bucket.specs.SimmKinds.declared.key.FactorKey.{FactorKey}
 use Rattle.measured_bucket.specs.SimmKinds.Factors.{bucket_id_of}
 use Rattle.measured_bucket.specs.SimmKinds.Order.{same_product, same_name, factor_cmp, name_cmp, tenor_place, same_bucket_id}
-use Rattle.measured_bucket.specs.SimmRules.Risks.{Risk, risk, RateVolatility, Of_rates, Of_inflation}
+use Rattle.measured_bucket.specs.SimmRules.Risks.{Risk, risk, RateVolatility, Of_rates, Of_inflation, Amount}
 use Rattle.measured_bucket.specs.SimmRules.Rates.{VolatilityIn, as_rate_volatility, same_rate_volatility, tenor_of}
 use Rattle.measured_bucket.specs.FactorBook.declared.place.Place.{Place}
 use Rattle.measured_bucket.specs.FactorBook.declared.place.BookSide.TheVariants as side
@@ -20,9 +21,10 @@ use Rattle.measured_bucket.specs.FactorBook.declared.holding.Holding.{Holding}
 use Rattle.measured_bucket.specs.FactorBook.Factors.{IsBook}
 use Rattle.measured_bucket.specs.FactorBook.Places.{stands_at, factors_at}
 use Rattle.measured_bucket.proofs.Keys.{then_Equal, is_eq-nat, and_last, and_other, and_side, and_bucket, key_with, not_chosen}
+use Rattle.measured_bucket.proofs.Lists.{map-itself}
 use Rattle.class_rates.specs.declared.volatilities.VolatilityNet.{VolatilityNet}
 use Rattle.class_rates.specs.Places.{volatilities_place, volatilities_of}
-use Rattle.class_rates.specs.Volatilities.{as_volatility_alone, volatility_nets, volatility_kind, volatility_cmp, without_currency, rule_net, volatilities_view}
+use Rattle.class_rates.specs.Volatilities.{as_volatility_alone, volatility_nets, volatilities_among, volatility_kind, volatility_cmp, without_currency, rule_net, with_currency, volatilities_view}
 use Rattle.class_rates.proofs.Currencies.{same_itself, own, nets_are, there, says, stands, ascend, of_currency}
 
 -- ---- their order
@@ -107,11 +109,16 @@ module _ (currency : List ℕ) where
     pub volatility_nets_are : volatility_nets (factors_at (volatilities_place currency product) fs) ≡ map without_currency (volatilities_of currency product fs)
     volatility_nets_are = nets_are as_rate_volatility (λ (v : VolatilityIn). v.currency) (λ (v : VolatilityIn). v.volatility) currency as_volatility_alone place stand say (λ k e. elsewhere product k.product k.factor e) fs
 
-    -- and so are the volatilities that are read of it
-    pub volatilities_there : (nets : List VolatilityNet) → map rule_net nets ≡ volatility_nets (factors_at (volatilities_place currency product) fs) → volatilities_view currency nets ≡ volatilities_of currency product fs
-    volatilities_there nets read =
+    -- with the currency again
+    pub volatilities_there : volatilities_among currency (factors_at (volatilities_place currency product) fs) ≡ volatilities_of currency product fs
+    volatilities_there =
+        let its = volatility_nets (factors_at (volatilities_place currency product) fs) in
         there as_rate_volatility (λ (v : VolatilityIn). v.currency) (λ (v : VolatilityIn). v.volatility) currency as_volatility_alone place stand say (λ k e. elsewhere product k.product k.factor e) fs
-        (λ volatility. record { currency = currency; volatility = volatility }) (λ v own. ap (λ c. record { currency = c; volatility = v.volatility }) (sym own)) rule_net nets read
+        (λ volatility. record { currency = currency; volatility = volatility }) (λ v own. ap (λ c. record { currency = c; volatility = v.volatility }) (sym own)) (λ (a : Amount RateVolatility). a) its (map-itself (λ (a : Amount RateVolatility). a) (λ a. refl) its)
+
+  -- what is read of its place is what stands there
+  pub read_volatilities : (its : List (FactorKey × Holding)) (nets : List VolatilityNet) → map rule_net nets ≡ volatility_nets its → volatilities_view currency nets ≡ volatilities_among currency its
+  read_volatilities its nets read = sym (map-map (with_currency currency) rule_net nets) ∙ ap (map (with_currency currency)) read
 
   -- ---- in which order
 

@@ -1,6 +1,7 @@
 pub mod Places
 pub mod Rates
 pub mod Weighing
+pub mod Unweighed
 pub mod Volatilities
 pub mod Rho
 pub use Rattle.measured_bucket.specs.MhUnits as MhUnits

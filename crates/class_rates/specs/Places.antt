@@ -12,7 +12,6 @@ use Rattle.measured_bucket.specs.FactorBook.declared.place.BookSide.{BookSide}
 use Rattle.measured_bucket.specs.FactorBook.declared.place.BookSide.TheVariants as side
 use Rattle.measured_bucket.specs.FactorBook.declared.holding.Holding.{Holding}
 use Rattle.measured_bucket.specs.Values.{nets_in}
-use Rattle.class_rates.specs.declared.at.CurrencyAt.{CurrencyAt}
 
 abbrev pub currency_place : BookSide → List ℕ → ProductClass → Place
 currency_place side currency product = record { product = product; class = class.IR; side = side; bucket = id.Currency currency }
@@ -30,10 +29,3 @@ rates_of currency product factors = rates_in currency (nets_in product factors)
 
 abbrev pub volatilities_of : List ℕ → ProductClass → List (FactorKey × Holding) → List (Amount VolatilityIn)
 volatilities_of currency product factors = volatilities_in currency (nets_in product factors)
-
--- those of a bucket as the code names it
-abbrev pub rates_at : CurrencyAt → List (FactorKey × Holding) → List (Amount RateIn)
-rates_at at factors = rates_of at.currency at.product factors
-
-abbrev pub volatilities_at : CurrencyAt → List (FactorKey × Holding) → List (Amount VolatilityIn)
-volatilities_at at factors = volatilities_of at.currency at.product factors

@@ -29,6 +29,16 @@ as_rate_alone r = rate_alone (as_rate r)
 abbrev pub rate_nets : List (FactorKey × Holding) → List (Amount RuleRate)
 rate_nets factors = select as_rate_alone (map net_of factors)
 
+-- those of this currency, at its place
+abbrev pub with_currency : List ℕ → Amount RuleRate → Amount RateIn
+with_currency currency a = record {
+  of = record { currency = currency; rate = a.of };
+  amount = a.amount;
+}
+
+abbrev pub rates_among : List ℕ → List (FactorKey × Holding) → List (Amount RateIn)
+rates_among currency its = map (with_currency currency) (rate_nets its)
+
 -- ---- their order: curves by tenor and sub-curve, then inflation, then the basis
 
 abbrev pub rate_kind : RuleRate → ℕ

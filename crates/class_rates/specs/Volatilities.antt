@@ -36,6 +36,16 @@ as_volatility_alone r = volatility_alone (as_rate_volatility r)
 abbrev pub volatility_nets : List (FactorKey × Holding) → List (Amount RateVolatility)
 volatility_nets factors = select as_volatility_alone (map net_of factors)
 
+-- those of this currency, at its place
+abbrev pub with_currency : List ℕ → Amount RateVolatility → Amount VolatilityIn
+with_currency currency a = record {
+  of = record { currency = currency; volatility = a.of };
+  amount = a.amount;
+}
+
+abbrev pub volatilities_among : List ℕ → List (FactorKey × Holding) → List (Amount VolatilityIn)
+volatilities_among currency its = map (with_currency currency) (volatility_nets its)
+
 -- ---- their order: those of rates by tenor, then those of inflation
 
 abbrev pub volatility_kind : RateVolatility → ℕ

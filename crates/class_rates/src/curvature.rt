@@ -1,11 +1,14 @@
 //! The curvature of a currency: the volatilities of its rates and of its inflation, without concentration.
-ghost use Rattle.std.specs.Prelude.{◌≡◌, ◌*◌, ◌^◌, ◌≤◌, map, All, IfOk, unsigned_abs};
+ghost use Rattle.std.specs.Prelude.{◌≡◌, ◌*◌, ◌^◌, ◌≤◌, map, pos, All, IfOk, unsigned_abs};
 ghost use Rattle.measured_bucket.specs.SimmRules.Concentration.{one};
 ghost use Rattle.measured_bucket.specs.SimmRules.Risks.{RateVolatility};
 ghost use Rattle.measured_bucket.specs.SimmRules.Rates.{curved_rate_volatility, rate_volatility_rho, same_rate_volatility};
 ghost use Rattle.measured_bucket.specs.WeightedBucket.declared.scaling.Scaling.TheVariants as ways;
+ghost use Rattle.measured_bucket.specs.Explained.{without_group};
 ghost use Rattle.measured_bucket.specs.Measured.{IsNear};
+ghost use Rattle.measured_bucket.specs.Risk.{risk_of};
 ghost use Rattle.measured_bucket.specs.Values.{alone};
+ghost use Rattle.class_rates.specs.Unweighed.{scaled_net, uncurved_volatility};
 ghost use Rattle.class_rates.specs.Volatilities.{curved_net, rule_volatility, volatilities_view, AreVolatilities};
 
 use crate::volatilities::VolatilityNet;
@@ -14,7 +17,7 @@ use measured_bucket::mh_units::{Corr6, Rate4};
 use measured_bucket::simm_kinds::Currency;
 use measured_bucket::simm_params::Params;
 use measured_bucket::weighted_bucket::{Scaling, Weighed};
-use measured_bucket::{Column, Measured, TenorScale, curve};
+use measured_bucket::{Column, Measured, TenorScale, Weighing, curve};
 use std::alloc::{AllocError, Global};
 
 /// The volatility at which a volatility counts: 1, since its amount is already volatility times vega.
@@ -48,6 +51,11 @@ impl<'a> Measured for CurrencyCurvature<'a> {
 
     ghost weighted = { λ x. map curved_rate_volatility (volatilities_view x.currency.now x.volatilities.now) };
 
+    ghost unweighed = { λ x. let its = volatilities_view x.currency.now x.volatilities.now in
+        map uncurved_volatility its };
+
+    ghost weigh = { λ weight amount _. risk_of weight amount };
+
     ghost cr = { λ _. one };
 
     ghost near = { λ x. IsNear 20000 1 1 alone (volatilities_view x.currency.now x.volatilities.now) };
@@ -60,6 +68,10 @@ impl<'a> Measured for CurrencyCurvature<'a> {
 
     fn nets(&self) -> &[VolatilityNet] {
         self.volatilities
+    }
+
+    fn weighings(&self, alloc: Global) -> Result<Vec<Weighing>, AllocError> {
+        curvature_weighings(alloc, self.volatilities)
     }
 
     fn column(&self, alloc: Global) -> Result<Column<VolatilityRho<'a>>, AllocError> {
@@ -96,6 +108,31 @@ fn curve_volatility(net: &VolatilityNet) -> Weighed
     requires { unsigned_abs net.now.net ≤ 2 * 10 ^ 20 }
     ensures { result ≡ curved_net net.now }
 {
+    curve(UNIT, scaled_net(net))
+}
+
+// A net, times what its tenor counts.
+fn scaled_net(net: &VolatilityNet) -> i128
+    requires { unsigned_abs net.now.net ≤ 2 * 10 ^ 20 }
+    ensures value { result ≡ scaled_net net.now }
+    ensures size { unsigned_abs result ≤ 219 * 10 ^ 22 }
+{
     let tenor = net.volatility.tenor();
-    curve(UNIT, TenorScale::Curved.scaled(tenor, net.net))
+    TenorScale::Curved.scaled(tenor, net.net)
+}
+
+// What each net is weighed from.
+fn curvature_weighings(
+    alloc: Global,
+    volatilities: &[VolatilityNet],
+) -> Result<Vec<Weighing>, AllocError>
+    requires { All (λ n. unsigned_abs n.net ≤ 2 * 10 ^ 20) volatilities.now }
+    ensures { IfOk result (λ weighings. weighings.items
+        ≡ map (λ n. without_group (pos 10000) (scaled_net n)) volatilities.now) }
+{
+    let mut weighings = Vec::with_capacity(alloc, volatilities.len())?;
+    for net in volatilities {
+        weighings.push(Weighing::ungrouped(UNIT, scaled_net(net)))?;
+    }
+    Ok(weighings)
 }

@@ -1,11 +1,13 @@
 //! The delta of a currency: its curves and its inflation, which are one concentration group, and its basis, which is in none.
 ghost use Rattle.std.specs.Prelude.{◌≡◌, ◌*◌, ◌^◌, ◌<◌, ◌≤◌, ◌≤ℤ◌, ◌<ℤ◌, pos, map, sum_by, All, IfOk, unsigned_abs};
+ghost use Rattle.measured_bucket.specs.SimmRules.Bucket.{weighted_value};
 ghost use Rattle.measured_bucket.specs.SimmRules.Concentration.{one};
 ghost use Rattle.measured_bucket.specs.SimmRules.Risks.{Rate as RuleRate};
 ghost use Rattle.measured_bucket.specs.SimmRules.Rates.{rate_cr, rate_rho, rate_weight, same_rate, weighted_rate};
 ghost use Rattle.measured_bucket.specs.WeightedBucket.declared.scaling.Scaling.TheVariants as ways;
 ghost use Rattle.measured_bucket.specs.Measured.{IsNear};
 ghost use Rattle.class_rates.specs.Rates.{rates_view, rule_rate, AreRates};
+ghost use Rattle.class_rates.specs.Unweighed.{rates_group, unweighed_rate, weighing_in};
 ghost use Rattle.class_rates.specs.Weighing.{group_net, group_part, weighed_in, weight_in};
 
 use crate::rate::Rate;
@@ -16,7 +18,7 @@ use measured_bucket::mh_units::{Corr6, Rate4};
 use measured_bucket::simm_kinds::Currency;
 use measured_bucket::simm_params::{CurveCategory, Params};
 use measured_bucket::weighted_bucket::{Scaling, Weighed, weigh};
-use measured_bucket::{Column, Measured};
+use measured_bucket::{Column, Group, Measured, Weighing};
 use std::alloc::{AllocError, Global};
 
 /// The delta of the rates of a currency.
@@ -48,6 +50,11 @@ impl<'a> Measured for CurrencyDelta<'a> {
     ghost weighted = { λ x. let rates = rates_view x.currency.now x.rates.now in
         map (weighted_rate x.params.now (rate_cr x.params.now x.currency.now rates)) rates };
 
+    ghost unweighed = { λ x. let rates = rates_view x.currency.now x.rates.now in
+        map (unweighed_rate x.params.now (rates_group x.params.now x.currency.now rates)) rates };
+
+    ghost weigh = { weighted_value };
+
     ghost cr = { λ x. rate_cr x.params.now x.currency.now (rates_view x.currency.now x.rates.now) };
 
     ghost near = { λ x. IsNear (10 ^ 10) 346999999 1 (rate_weight x.params.now) (rates_view x.currency.now x.rates.now) };
@@ -60,6 +67,13 @@ impl<'a> Measured for CurrencyDelta<'a> {
 
     fn nets(&self) -> &[RateNet] {
         self.rates
+    }
+
+    fn weighings(&self, alloc: Global) -> Result<Vec<Weighing>, AllocError> {
+        self.params.rate_facts();
+        let group = currency_group(self.params, self.currency, self.rates);
+        let category = self.params.curve_category(self.currency);
+        rate_weighings(alloc, self.params, category, group, self.rates)
     }
 
     fn column(&self, alloc: Global) -> Result<Column<RateRho<'a>>, AllocError> {
@@ -85,6 +99,18 @@ fn currency_cr(params: &Params, currency: &Currency, rates: &[RateNet]) -> Corr6
 {
     params.rate_facts();
     cr(group_net(rates), params.rate_thresholds(currency).delta)
+}
+
+// The concentration group of a currency.
+fn currency_group(params: &Params, currency: &Currency, rates: &[RateNet]) -> Group
+    requires { AreRates params.now (rates_view currency.now rates.now) }
+    ensures { result ≡ rates_group params.now currency.now (rates_view currency.now rates.now) }
+{
+    params.rate_facts();
+    Group {
+        net: group_net(rates),
+        threshold: params.rate_thresholds(currency).delta,
+    }
 }
 
 // The net of the concentration group: of all rates but the basis.
@@ -139,6 +165,38 @@ fn weigh_rate(params: &Params, category: CurveCategory, cr: Corr6, net: &RateNet
     Weighed {
         w: weigh(weight(params, category, net.rate), net.net, cr),
         cr,
+    }
+}
+
+// What the net to each rate of a currency of this category is weighed from. `group` is the group
+// of the currency.
+fn rate_weighings(
+    alloc: Global,
+    params: &Params,
+    category: CurveCategory,
+    group: Group,
+    rates: &[RateNet],
+) -> Result<Vec<Weighing>, AllocError>
+    ensures { IfOk result (λ weighings.
+        weighings.items ≡ map (weighing_in params.now category group) rates.now) }
+{
+    let mut weighings = Vec::with_capacity(alloc, rates.len())?;
+    for net in rates {
+        weighings.push(rate_weighing(params, category, group, net))?;
+    }
+    Ok(weighings)
+}
+
+fn rate_weighing(params: &Params, category: CurveCategory, group: Group, net: &RateNet) -> Weighing
+    ensures { result ≡ weighing_in params.now category group net.now }
+{
+    Weighing {
+        amount: net.net,
+        group: match net.rate {
+            Rate::Curve { .. } | Rate::Inflation => Some(group),
+            Rate::Basis => None,
+        },
+        weight: weight(params, category, net.rate),
     }
 }
 

@@ -3,7 +3,6 @@
 //! (ISDA SIMM methodology, interest rate risk.)
 #![tactic(auto)]
 
-mod at;
 mod currency;
 mod curvature;
 mod delta;
@@ -15,15 +14,14 @@ mod volatilities;
 mod volatility;
 mod volatility_rho;
 
-pub use at::CurrencyAt;
 pub use currency::{currency_curvature, currency_delta, currency_vega};
 pub use curvature::CurrencyCurvature;
 pub use delta::CurrencyDelta;
 pub use rate::Rate;
 pub use rate_rho::RateRho;
-pub use rates::RateNet;
+pub use rates::{RateNet, rates_among};
 pub use vega::CurrencyVega;
-pub use volatilities::VolatilityNet;
+pub use volatilities::{VolatilityNet, volatilities_among};
 pub use volatility::Volatility;
 pub use volatility_rho::VolatilityRho;
 

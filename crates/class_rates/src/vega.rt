@@ -1,11 +1,13 @@
 //! The vega of a currency: the volatilities of its rates and of its inflation, which are one concentration group.
 ghost use Rattle.std.specs.Prelude.{◌≡◌, ◌*◌, ◌^◌, ◌<◌, ◌≤◌, ◌≤ℤ◌, ◌<ℤ◌, pos, map, sum_by, All, IfOk, unsigned_abs};
+ghost use Rattle.measured_bucket.specs.SimmRules.Bucket.{weighted_value};
 ghost use Rattle.measured_bucket.specs.SimmRules.Concentration.{one};
 ghost use Rattle.measured_bucket.specs.SimmRules.Risks.{RateVolatility};
 ghost use Rattle.measured_bucket.specs.SimmRules.Rates.{rate_volatility_cr, rate_volatility_rho, same_rate_volatility, weighted_rate_volatility};
 ghost use Rattle.measured_bucket.specs.WeightedBucket.declared.scaling.Scaling.TheVariants as ways;
 ghost use Rattle.measured_bucket.specs.Measured.{IsNear};
 ghost use Rattle.measured_bucket.specs.Values.{alone};
+ghost use Rattle.class_rates.specs.Unweighed.{unweighed_volatility, volatilities_group, volatility_from};
 ghost use Rattle.class_rates.specs.Volatilities.{group_net, rule_volatility, volatilities_view, weighed_by, AreVolatilities};
 
 use crate::volatilities::VolatilityNet;
@@ -15,7 +17,7 @@ use measured_bucket::mh_units::{Corr6, Rate4};
 use measured_bucket::simm_kinds::Currency;
 use measured_bucket::simm_params::Params;
 use measured_bucket::weighted_bucket::{Scaling, Weighed, weigh};
-use measured_bucket::{Column, Measured};
+use measured_bucket::{Column, Group, Measured, Weighing};
 use std::alloc::{AllocError, Global};
 
 /// The vega of the volatilities of a currency.
@@ -47,6 +49,12 @@ impl<'a> Measured for CurrencyVega<'a> {
     ghost weighted = { λ x. let volatilities = volatilities_view x.currency.now x.volatilities.now in
         map (weighted_rate_volatility x.params.now (rate_volatility_cr x.params.now x.currency.now volatilities)) volatilities };
 
+    ghost unweighed = { λ x. let its = volatilities_view x.currency.now x.volatilities.now in
+        let group = volatilities_group x.params.now x.currency.now its in
+        map (unweighed_volatility x.params.now group) its };
+
+    ghost weigh = { weighted_value };
+
     ghost cr = { λ x. rate_volatility_cr x.params.now x.currency.now (volatilities_view x.currency.now x.volatilities.now) };
 
     ghost near = { λ x. IsNear (10 ^ 10) 693999998 1 alone (volatilities_view x.currency.now x.volatilities.now) };
@@ -59,6 +67,11 @@ impl<'a> Measured for CurrencyVega<'a> {
 
     fn nets(&self) -> &[VolatilityNet] {
         self.volatilities
+    }
+
+    fn weighings(&self, alloc: Global) -> Result<Vec<Weighing>, AllocError> {
+        let group = currency_group(self.params, self.currency, self.volatilities);
+        volatility_weighings(alloc, self.params.rate_vrw(), group, self.volatilities)
     }
 
     fn column(&self, alloc: Global) -> Result<Column<VolatilityRho<'a>>, AllocError> {
@@ -86,6 +99,18 @@ fn currency_cr(params: &Params, currency: &Currency, volatilities: &[VolatilityN
         group_net(volatilities),
         params.rate_thresholds(currency).vega,
     )
+}
+
+// The concentration group of a currency.
+fn currency_group(params: &Params, currency: &Currency, volatilities: &[VolatilityNet]) -> Group
+    requires { AreVolatilities (volatilities_view currency.now volatilities.now) }
+    ensures { let its = volatilities_view currency.now volatilities.now in
+        result ≡ volatilities_group params.now currency.now its }
+{
+    Group {
+        net: group_net(volatilities),
+        threshold: params.rate_thresholds(currency).vega,
+    }
 }
 
 // The net of the concentration group, which is all of them.
@@ -127,4 +152,25 @@ fn weigh_volatility(vrw: Rate4, cr: Corr6, net: &VolatilityNet) -> Weighed
         w: weigh(vrw, net.net, cr),
         cr,
     }
+}
+
+// What the net to each volatility is weighed from. `group` is the group of the currency.
+fn volatility_weighings(
+    alloc: Global,
+    vrw: Rate4,
+    group: Group,
+    volatilities: &[VolatilityNet],
+) -> Result<Vec<Weighing>, AllocError>
+    ensures { IfOk result (λ weighings.
+        weighings.items ≡ map (λ n. volatility_from vrw.0 group n.net) volatilities.now) }
+{
+    let mut weighings = Vec::with_capacity(alloc, volatilities.len())?;
+    for net in volatilities {
+        weighings.push(Weighing {
+            amount: net.net,
+            group: Some(group),
+            weight: vrw,
+        })?;
+    }
+    Ok(weighings)
 }

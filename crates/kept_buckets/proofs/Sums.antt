@@ -18,7 +18,7 @@ use Rattle.factor_book.proofs.Sorting.{any_different, length-different}
 use Rattle.factor_book.proofs.Standing.{one_place, own_place, tied_place, at_place}
 use Rattle.kept_buckets.specs.declared.value.KeptValue.{KeptValue}
 use Rattle.kept_buckets.specs.Kept.{Kept, value_at, KeepsValue}
-use Rattle.kept_buckets.specs.Dirty.{measures_of, dirty_at, dirty_in, steps_at, steps_left}
+use Rattle.kept_buckets.specs.Dirty.{Count, measures_of, dirty_at, dirty_in, steps_at, steps_left}
 
 abbrev Factors : Type 0
 Factors = List (FactorKey × Holding)
@@ -119,31 +119,34 @@ module _ (old new : Kept) (place : Place) (value : KeptValue) (keeps : KeepsValu
   clean_there : is_at (place_cmp place) place ≡ true → dirty_at new place ≡ 0
   clean_there own = ap (λ o. cond (is_some o) 0 (measures_of place.side)) (keeps.values place ∙ ap (λ t. cond t (Some value) (value_at old place)) own)
 
-  module _ (fs : Factors) where
-    less_at : (p : Place) → steps_at new p (factors_at p fs) ≤ steps_at old p (factors_at p fs)
-    less_at p = mul-le-mul_right (length (factors_at p fs) * length (factors_at p fs)) (no_dirtier p)
+  module _ (count : Count) (fs : Factors) where
+    abbrev pairs_at : Place → ℕ
+    pairs_at p = count p (factors_at p fs) * count p (factors_at p fs)
+
+    less_at : (p : Place) → steps_at count new p (factors_at p fs) ≤ steps_at count old p (factors_at p fs)
+    less_at p = mul-le-mul_right (pairs_at p) (no_dirtier p)
 
     abbrev saved : ℕ
-    saved = measures_of place.side * (length (factors_at place fs) * length (factors_at place fs))
+    saved = measures_of place.side * pairs_at place
 
-    all_saved : value_at old place ≡ None → steps_at new place (factors_at place fs) + saved ≤ steps_at old place (factors_at place fs)
+    all_saved : value_at old place ≡ None → steps_at count new place (factors_at place fs) + saved ≤ steps_at count old place (factors_at place fs)
     all_saved none =
-        let k = length (factors_at place fs) * length (factors_at place fs) in
+        let k = pairs_at place in
         let nothing : dirty_at new place * k ≡ 0 * k = ap (λ n. n * k) (clean_there (own_place place)) in
         let all : dirty_at old place * k ≡ measures_of place.side * k = ap (λ o. cond (is_some o) 0 (measures_of place.side) * k) none in
         omega (arith, nothing, all, zero-mul k)
 
-    pub steps_saved : value_at old place ≡ None → factors_at place fs ≢ [] → steps_left new fs + saved ≤ steps_left old fs
+    pub steps_saved : value_at old place ≡ None → factors_at place fs ≢ [] → steps_left count new fs + saved ≤ steps_left count old fs
     steps_saved none some =
-        let f = λ (p : Place). steps_at old p (factors_at p fs) in
-        let g = λ (p : Place). steps_at new p (factors_at p fs) in
+        let f = λ (p : Place). steps_at count old p (factors_at p fs) in
+        let g = λ (p : Place). steps_at count new p (factors_at p fs) in
         let less : sum_by g (places_of fs) + saved ≤ sum_by f (places_of fs) =
         sum_less_by f g (is_at (place_cmp place)) saved less_at
-        (λ p e. subst (λ q. steps_at new q (factors_at q fs) + saved ≤ steps_at old q (factors_at q fs)) (one_place place p e) (all_saved none))
+        (λ p e. subst (λ q. steps_at count new q (factors_at q fs) + saved ≤ steps_at count old q (factors_at q fs)) (one_place place p e) (all_saved none))
         (places_of fs) (place_there place fs some) in
         omega (
           arith,
           less,
-          sum_by-map (λ (e : Standing). steps_at old e.0 e.1) (λ p. (p, factors_at p fs)) (places_of fs),
-          sum_by-map (λ (e : Standing). steps_at new e.0 e.1) (λ p. (p, factors_at p fs)) (places_of fs),
+          sum_by-map (λ (e : Standing). steps_at count old e.0 e.1) (λ p. (p, factors_at p fs)) (places_of fs),
+          sum_by-map (λ (e : Standing). steps_at count new e.0 e.1) (λ p. (p, factors_at p fs)) (places_of fs),
         )

@@ -1,5 +1,5 @@
 //! What rows touch, and what they leave as it was.
-ghost use Rattle.std.specs.Prelude.{◌≡◌, ◌≢◌, ◌+◌, ◌*◌, ◌≤◌, ◌++◌, List, [], None, length};
+ghost use Rattle.std.specs.Prelude.{◌≡◌, ◌≢◌, ◌+◌, ◌*◌, ◌≤◌, ◌++◌, List, [], None};
 ghost use Rattle.factor_book.specs.SimmKinds.declared.key.FactorKey.{FactorKey};
 ghost use Rattle.factor_book.specs.SimmKinds.declared.row.CrifRow.{CrifRow as Row};
 ghost use Rattle.factor_book.specs.declared.holding.Holding.{Holding};
@@ -7,7 +7,7 @@ ghost use Rattle.factor_book.specs.declared.place.Place.{Place};
 ghost use Rattle.factor_book.specs.Factors.{factors_of};
 ghost use Rattle.factor_book.specs.Places.{factors_at};
 ghost use Rattle.kept_buckets.specs.declared.value.KeptValue.{KeptValue};
-ghost use Rattle.kept_buckets.specs.Dirty.{measures_of, steps_left};
+ghost use Rattle.kept_buckets.specs.Dirty.{Count, measures_of, steps_left};
 ghost use Rattle.kept_buckets.specs.Kept.{Kept, KeepsValue, value_at};
 ghost use Rattle.kept_buckets.specs.Touched.{Forgets, SameElsewhere};
 
@@ -27,9 +27,10 @@ pub fn touches_add_up()
     ensures others { (xs ys : List Row) (f g h : List (FactorKey × Holding)) → SameElsewhere xs f g → SameElsewhere ys g h → SameElsewhere (xs ++ ys) f h }
 {}
 
-/// A value that is kept of a place of which none was saves the steps that it may take. It does nothing.
+/// A value that is kept of a place of which none was saves the steps that it may take, however the factors of a place are counted.
+/// It does nothing.
 pub fn kept_values_save_steps()
-    ensures { (old new : Kept) (place : Place) (value : KeptValue) (factors : List (FactorKey × Holding)) → KeepsValue old new place value
+    ensures { (count : Count) (old new : Kept) (place : Place) (value : KeptValue) (factors : List (FactorKey × Holding)) → KeepsValue old new place value
         → value_at old place ≡ None → factors_at place factors ≢ []
-        → let n = length (factors_at place factors) in steps_left new factors + measures_of place.side * (n * n) ≤ steps_left old factors }
+        → let n = count place (factors_at place factors) in steps_left count new factors + measures_of place.side * (n * n) ≤ steps_left count old factors }
 {}

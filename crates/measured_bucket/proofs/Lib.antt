@@ -11,6 +11,7 @@ pub mod Listed
 pub mod Valued
 pub mod Columns
 pub mod Counted
+pub mod Explaining
 pub mod Vegas
 pub mod Together
 pub mod Gathered

@@ -1,4 +1,5 @@
 pub mod Values
+pub mod Explained
 pub mod Measured
 pub mod Scale
 pub mod Risk

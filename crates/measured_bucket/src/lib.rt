@@ -6,20 +6,24 @@
 mod alone;
 mod column;
 mod even;
+mod explained;
 mod measured;
 mod risk;
 mod runs;
 mod tenor_scale;
 mod vega;
+mod weighing;
 
 pub use alone::weigh_alone;
 pub use column::Column;
 pub use even::EvenRho;
+pub use explained::{Explained, explain};
 pub use measured::{Measured, measure};
 pub use risk::curve;
 pub use runs::{TenorNet, TenorSum, tenor_sums};
 pub use tenor_scale::TenorScale;
-pub use vega::{VegaTerms, weigh_vega};
+pub use vega::{VegaTerms, vega_weighing, weigh_vega};
+pub use weighing::{Group, Weighing};
 
 // what the crates above reach through this one
 pub use factor_book;

@@ -1,10 +1,12 @@
 ghost use Rattle.std.specs.Prelude.{◌≡◌, ℕ, ◌+◌, ◌*◌, ◌≤◌, Bool, List, IfOk, length, map, sum_by, ℤ, unsigned_abs};
 ghost use Rattle.simm_params.specs.SimmRules.Bucket.{Weighted};
 ghost use Rattle.weighted_bucket.specs.declared.scaling.Scaling.{Scaling};
+ghost use Rattle.measured_bucket.specs.Explained.{Unweighed, weighted_from};
 ghost use Rattle.measured_bucket.specs.Measured.{value_by, AreCorrelated, IsSound};
 ghost use Rattle.measured_bucket.specs.Values.{weighed_as};
 
 use crate::column::Column;
+use crate::weighing::Weighing;
 use simm_params::simm_rules::BucketMargin;
 use std::alloc::{AllocError, Global};
 use std::sync::ledger::Ledger;
@@ -37,6 +39,12 @@ pub trait Measured {
     /// The rule's weighted factors, in its order.
     ghost weighted: { Self → List (Weighted Of) };
 
+    /// Those factors before they are weighed, in the same order.
+    ghost unweighed: { Self → List (Unweighed Of) };
+
+    /// The weighted value that a weight, an amount and a concentration factor come to.
+    ghost weigh: { ℤ → ℤ → ℤ → ℤ };
+
     /// The bucket's own concentration factor.
     ghost cr: { Self → ℤ };
 
@@ -52,6 +60,12 @@ pub trait Measured {
     /// The factors before they are weighed, in their order.
     fn nets(&self) -> &[Self::Net]
         ensures { map of result.now ≡ map (λ factor. factor.of) (weighted self.now) };
+
+    /// What each factor is weighed from, in their order. Want of memory is the only error.
+    fn weighings(&self, alloc: Global) -> Result<Vec<Weighing>, AllocError>
+        requires { ready self.now }
+        ensures made { weighted self.now ≡ map (weighted_from weigh) (unweighed self.now) }
+        ensures listed { IfOk result (λ weighings. weighings.items ≡ map (λ factor. factor.from) (unweighed self.now)) };
 
     /// The factors, weighed, in their order. Want of memory is the only error.
     fn column(&self, alloc: Global) -> Result<Column<Self::Rho>, AllocError>

@@ -3,9 +3,10 @@ ghost use Rattle.std.specs.Prelude.{◌≡◌, ◌*◌, ◌^◌, ◌≤◌, unsi
 ghost use Rattle.simm_params.specs.Facts.{IsWeighed};
 ghost use Rattle.simm_params.specs.Ranges.{hvrs, sigmas, vega_weights, IsWithin};
 ghost use Rattle.measured_bucket.specs.Values.{IsSmall};
-ghost use Rattle.measured_bucket.specs.Vega.{vega_alone, vega_risk};
+ghost use Rattle.measured_bucket.specs.Vega.{vega_alone, vega_from, vega_risk};
 
 use crate::alone::weigh_alone;
+use crate::weighing::Weighing;
 use simm_params::mh_units::{Rate4, div_away};
 use weighted_bucket::Weighed;
 
@@ -35,6 +36,15 @@ pub fn weigh_vega(terms: &VegaTerms, net: i128) -> Weighed
 {
     let risk = vega_risk(terms.hvr, terms.sigma, net);
     weigh_alone(terms.weight, terms.threshold, risk)
+}
+
+/// What the vega risk of that net change is weighed from.
+pub fn vega_weighing(terms: &VegaTerms, net: i128) -> Weighing
+    requires { unsigned_abs net ≤ 2 * 10 ^ 20 }
+    ensures { let t = terms.now in result ≡ vega_from t.hvr.0 t.sigma.0 t.weight.0 t.threshold net }
+{
+    let risk = vega_risk(terms.hvr, terms.sigma, net);
+    Weighing::of_itself(terms.weight, terms.threshold, risk)
 }
 
 // The historical volatility ratio times the volatility times the net change, away from zero to the cent.

@@ -118,7 +118,7 @@ all_residual P ps values made h = All-from_recursion P values (subst (AllByRecur
 -- ---- the correlations
 
 module _ (gamma : List (List ℤ)) (places : List ℕ) (are : AreCorrelations gamma) where
-  gamma_small : (i j : ℕ) → unsigned_abs (gamma_at gamma places i j) ≤ 1000000
+  pub gamma_small : (i j : ℕ) → unsigned_abs (gamma_at gamma places i j) ≤ 1000000
   gamma_small i j = product_size (pos 100) (at_row gamma (get_or places i 0) (get_or places j 0)) 100 10000 (omega arith) (are.size (get_or places i 0) (get_or places j 0))
 
   pub squared-symmetric : (i j : ℕ) → with_itself (squared_at gamma places) i j ≡ with_itself (squared_at gamma places) j i

@@ -1,15 +1,12 @@
 -- The parts of each class of which the file lists buckets: in range, and their margin the rule's.
-use Rattle.std.proofs.Common.{◌≡◌, ◌^◌, ℕ, ◌*◌, ◌≤◌, List, [], ◌∷◌, map, true, false, Some, refl, sym, ap, ◌∙◌, subst, ℤ, pos, ◌≤ℤ◌, unsigned_abs}
+use Rattle.std.proofs.Common.{◌≡◌, ◌^◌, ℕ, ◌*◌, ◌≤◌, List, [], map, true, false, Some, refl, sym, ap, ◌∙◌, subst, ℤ, pos, ◌≤ℤ◌, unsigned_abs}
 use Rattle.std.specs.Prelude.{sum_by}
 use Rattle.std.specs.List.{list_any, list_all, AllByRecursion}
 use Rattle.std.specs.List.Sorted.{IsStrictlySortedBy}
 use Rattle.class_rates.specs.SimmKinds.declared.kinds.ProductClass.{ProductClass}
 use Rattle.class_rates.specs.SimmKinds.declared.kinds.RiskClass.{RiskClass}
 use Rattle.class_rates.specs.SimmKinds.declared.kinds.RiskClass.TheVariants as class
-use Rattle.class_rates.specs.SimmKinds.declared.kinds.BucketId.{BucketId}
-use Rattle.class_rates.specs.SimmKinds.declared.kinds.BucketId.TheVariants as id
 use Rattle.class_rates.specs.SimmKinds.declared.bucket.Bucket.{Bucket}
-use Rattle.class_rates.specs.SimmKinds.declared.bucket.Bucket.TheVariants as bucket
 use Rattle.class_rates.specs.SimmKinds.declared.key.FactorKey.{FactorKey}
 use Rattle.class_rates.specs.SimmKinds.declared.row.CrifRow.{CrifRow}
 use Rattle.class_rates.specs.SimmKinds.Factors.{bucket_id_of, listed_id}
@@ -27,22 +24,26 @@ use Rattle.class_rates.specs.FactorBook.declared.holding.Holding.{Holding}
 use Rattle.class_rates.specs.FactorBook.Factors.{factors_of}
 use Rattle.class_rates.specs.FactorBook.Places.{factors_at}
 use Rattle.book_range.specs.Bounded.{IsBounded}
-use Rattle.class_margin.specs.names_delta.Combine.{parts_in, combined_by_class, IsListed, HasBucket, AreSized, AreParts}
-use Rattle.class_margin.specs.names_delta.Delta.{credit_delta, priced_delta, delta_value, IsCreditReady, IsPricedReady, IsReady, IsCreditSized, IsPricedSized, IsDeltaSized}
+use Rattle.class_margin.specs.names_delta.Combine.{parts_in, IsListed, HasBucket, AreSized}
+use Rattle.class_margin.specs.names_delta.Delta.{credit_delta, priced_delta, delta_value, IsCreditSized, IsPricedSized, IsDeltaSized}
 use Rattle.class_priced.specs.Names.{names_place, names_in, name_nets}
 use Rattle.class_credit.specs.Points.{points_place, points_in, point_nets}
 use Rattle.class_margin.specs.names_delta.Values.{nets_in}
 use Rattle.class_credit.proofs.CreditPoints.{points_there}
+use Rattle.class_margin.proofs.names_delta.ByClass.{combined_by_class, AreParts}
 use Rattle.class_margin.proofs.names_delta.Empty.{credit_kept, priced_kept}
 use Rattle.class_rates.proofs.MeasuredBucket.Lists.{each_weaker, each_both, each_unmap}
 use Rattle.class_priced.proofs.PricedNames.{names_there}
 use Rattle.class_margin.proofs.names_delta.Shrinking.{SizesAreNetted}
 use Rattle.class_margin.specs.delta.Class.{class_delta_of}
-use Rattle.class_margin.specs.delta.Buckets.{listed_buckets, bucket_at, IsNumbered}
-use Rattle.class_margin.proofs.delta.Bounds.{gross_low, credit_class, priced_class}
-use Rattle.class_margin.proofs.delta.InBook.{place_in, listed_ascend, none_at, listed_each}
+use Rattle.class_margin.specs.delta.Buckets.{listed_buckets, bucket_at}
+use Rattle.class_margin.proofs.delta.Bounds.{gross_low, credit_class, priced_class, HasClass}
+use Rattle.class_margin.proofs.delta.InBook.{IsNumbered, place_in, listed_ascend, none_at, listed_each}
 use Rattle.class_margin.proofs.Valued.{Whole, ids}
-use Rattle.class_margin.proofs.delta.Listed.{ready, IsOwned, owned, margin_of_parts, parts_small, parts_sized}
+use Rattle.class_margin.proofs.delta.Owned.{IsOwned, owned, margin_of_parts}
+use Rattle.class_margin.proofs.delta.Sizes.{IsSizedIn, known_in, parts_small, parts_sized}
+use Rattle.class_margin.proofs.delta.Totals.{alike_margin}
+use Rattle.class_margin.proofs.volatility.Parts.{at_listed}
 
 points_gross : (b : CreditBucket) (points : List (Amount CreditPoint)) → pos 0 ≤ℤ (credit_value b points).gross
 points_gross b points = gross_low (map (weighted_point (b.terms).weight ((b.terms).thresholds).delta points) points)
@@ -77,20 +78,18 @@ module _ (p : Params) (facts : IsParams p) (held : List CrifRow) (bounded : IsBo
     abbrev points : Bucket → List (Amount CreditPoint)
     points b = points_in c b product fs
 
-    abbrev credit_owned : Whole → Type 0
-    credit_owned = IsOwned (λ (b : CreditBucket). (b.terms).id) (λ b. (b.terms).weight) credit_value points_gross points (credit_params p c).buckets (credit_class p facts held bounded product sizes c)
+    its_credit : HasClass (λ b. (b.terms).id) (λ b. (b.terms).weight) points (credit_params p c).buckets
+    its_credit = credit_class p facts held bounded product sizes c
 
-    credit_ready : (k : BucketId) → IsListed (listed_credit (credit_params p c)) (listed_id k) → IsCreditReady p c (listed_id k) product fs
-    credit_ready (id.Number n) h = ready (λ (b : CreditBucket). (b.terms).id) (λ b. (b.terms).weight) credit_value points_gross points (credit_params p c).buckets (credit_class p facts held bounded product sizes c) (bucket.Number n) h
-    credit_ready id.Residual h = ready (λ (b : CreditBucket). (b.terms).id) (λ b. (b.terms).weight) credit_value points_gross points (credit_params p c).buckets (credit_class p facts held bounded product sizes c) bucket.Residual h
-    credit_ready (id.Currency currency) h = absurd h
-    credit_ready id.Single h = absurd h
+    abbrev credit_owned : Whole → Type 0
+    credit_owned = IsOwned (λ (b : CreditBucket). (b.terms).id) (λ b. (b.terms).weight) points (credit_params p c).buckets its_credit credit_value (IsSizedIn (λ b. (b.terms).weight))
 
     credit_owns : (part : Whole) → IsListed (listed_credit (credit_params p c)) (listed_id part.0) → Some part.1 ≡ credit_delta p c (listed_id part.0) product fs → IsCreditSized p c (listed_id part.0) product fs part.1 → credit_owned part
-    credit_owns (id.Number n, m) h value sized = owned (λ (b : CreditBucket). (b.terms).id) (λ b. (b.terms).weight) credit_value points_gross points (credit_params p c).buckets (credit_class p facts held bounded product sizes c) (bucket.Number n) m h value sized
-    credit_owns (id.Residual, m) h value sized = owned (λ (b : CreditBucket). (b.terms).id) (λ b. (b.terms).weight) credit_value points_gross points (credit_params p c).buckets (credit_class p facts held bounded product sizes c) bucket.Residual m h value sized
-    credit_owns (id.Currency currency, m) h value sized = absurd h
-    credit_owns (id.Single, m) h value sized = absurd h
+    credit_owns part =
+        at_listed (listed_credit (credit_params p c)) (λ k o. Some part.1 ≡ credit_delta p c o product fs → IsCreditSized p c o product fs part.1 → credit_owned (k, part.1))
+        (λ b h value sized. owned (λ (x : CreditBucket). (x.terms).id) (λ x. (x.terms).weight) points (credit_params p c).buckets its_credit credit_value (IsSizedIn (λ x. (x.terms).weight)) b part.1 h value
+        (known_in (λ (x : CreditBucket). (x.terms).weight) (λ x. credit_value x (points b)) (λ x. points_gross x (points b)) (points b) part.1 _ value sized))
+        part.0
 
     no_points : (b : Bucket) → factors_at (points_place c b product) fs ≡ [] → points b ≡ []
     no_points b e = sym (points_there c b product fs) ∙ ap point_nets e
@@ -101,7 +100,7 @@ module _ (p : Params) (facts : IsParams p) (held : List CrifRow) (bounded : IsBo
 
     credit_total : (parts : List Whole) (at : ClassAt) → AllByRecursion credit_owned parts → ids parts ≡ listed_buckets at fs → ((b : Bucket) → place_in at b ≡ points_place c b product) → margin_over (listed_credit (credit_params p c)) (credit_params p c).gamma (parts_in parts) ≡ credit_margin (credit_params p c) c ss
     credit_total parts at own are there =
-        margin_of_parts (λ (b : CreditBucket). (b.terms).id) (λ b. (b.terms).weight) credit_value points_gross points (credit_params p c).buckets (credit_class p facts held bounded product sizes c) (credit_params p c).gamma parts own (subst (IsStrictlySortedBy bucket_id_cmp) (sym are) (listed_ascend at fs))
+        margin_of_parts (λ (b : CreditBucket). (b.terms).id) (λ b. (b.terms).weight) points (credit_params p c).buckets its_credit credit_value (IsSizedIn (λ b. (b.terms).weight)) (margin_over (listed_credit (credit_params p c)) (credit_params p c).gamma) (alike_margin (listed_credit (credit_params p c)) (credit_params p c).gamma) parts own (subst (IsStrictlySortedBy bucket_id_cmp) (sym are) (listed_ascend at fs))
         ∙ credit_kept (credit_params p c) c ss (λ b. list_any (λ k. same_bucket_id k (bucket_id_of b)) (ids parts)) (λ b none. no_credit parts at are b (there b) none)
 
   -- ---- equity and commodities
@@ -110,20 +109,18 @@ module _ (p : Params) (facts : IsParams p) (held : List CrifRow) (bounded : IsBo
     abbrev names : Bucket → List (Amount (List ℕ))
     names b = names_in c b product fs
 
-    abbrev priced_owned : Whole → Type 0
-    priced_owned = IsOwned (λ (b : PricedBucket). (b.terms).id) (λ b. (b.terms).weight) price_value names_gross names (priced_params p c).buckets (priced_class p facts held bounded product sizes c)
+    its_priced : HasClass (λ b. (b.terms).id) (λ b. (b.terms).weight) names (priced_params p c).buckets
+    its_priced = priced_class p facts held bounded product sizes c
 
-    priced_ready : (k : BucketId) → IsListed (listed_priced (priced_params p c)) (listed_id k) → IsPricedReady p c (listed_id k) product fs
-    priced_ready (id.Number n) h = ready (λ (b : PricedBucket). (b.terms).id) (λ b. (b.terms).weight) price_value names_gross names (priced_params p c).buckets (priced_class p facts held bounded product sizes c) (bucket.Number n) h
-    priced_ready id.Residual h = ready (λ (b : PricedBucket). (b.terms).id) (λ b. (b.terms).weight) price_value names_gross names (priced_params p c).buckets (priced_class p facts held bounded product sizes c) bucket.Residual h
-    priced_ready (id.Currency currency) h = absurd h
-    priced_ready id.Single h = absurd h
+    abbrev priced_owned : Whole → Type 0
+    priced_owned = IsOwned (λ (b : PricedBucket). (b.terms).id) (λ b. (b.terms).weight) names (priced_params p c).buckets its_priced price_value (IsSizedIn (λ b. (b.terms).weight))
 
     priced_owns : (part : Whole) → IsListed (listed_priced (priced_params p c)) (listed_id part.0) → Some part.1 ≡ priced_delta p c (listed_id part.0) product fs → IsPricedSized p c (listed_id part.0) product fs part.1 → priced_owned part
-    priced_owns (id.Number n, m) h value sized = owned (λ (b : PricedBucket). (b.terms).id) (λ b. (b.terms).weight) price_value names_gross names (priced_params p c).buckets (priced_class p facts held bounded product sizes c) (bucket.Number n) m h value sized
-    priced_owns (id.Residual, m) h value sized = owned (λ (b : PricedBucket). (b.terms).id) (λ b. (b.terms).weight) price_value names_gross names (priced_params p c).buckets (priced_class p facts held bounded product sizes c) bucket.Residual m h value sized
-    priced_owns (id.Currency currency, m) h value sized = absurd h
-    priced_owns (id.Single, m) h value sized = absurd h
+    priced_owns part =
+        at_listed (listed_priced (priced_params p c)) (λ k o. Some part.1 ≡ priced_delta p c o product fs → IsPricedSized p c o product fs part.1 → priced_owned (k, part.1))
+        (λ b h value sized. owned (λ (x : PricedBucket). (x.terms).id) (λ x. (x.terms).weight) names (priced_params p c).buckets its_priced price_value (IsSizedIn (λ x. (x.terms).weight)) b part.1 h value
+        (known_in (λ (x : PricedBucket). (x.terms).weight) (λ x. price_value x (names b)) (λ x. names_gross x (names b)) (names b) part.1 _ value sized))
+        part.0
 
     no_names : (b : Bucket) → factors_at (names_place c b product) fs ≡ [] → names b ≡ []
     no_names b e = sym (names_there c b product fs) ∙ ap name_nets e
@@ -134,18 +131,8 @@ module _ (p : Params) (facts : IsParams p) (held : List CrifRow) (bounded : IsBo
 
     priced_total : (parts : List Whole) (at : ClassAt) → AllByRecursion priced_owned parts → ids parts ≡ listed_buckets at fs → ((b : Bucket) → place_in at b ≡ names_place c b product) → margin_over (listed_priced (priced_params p c)) (priced_params p c).gamma (parts_in parts) ≡ price_delta (priced_params p c) c ss
     priced_total parts at own are there =
-        margin_of_parts (λ (b : PricedBucket). (b.terms).id) (λ b. (b.terms).weight) price_value names_gross names (priced_params p c).buckets (priced_class p facts held bounded product sizes c) (priced_params p c).gamma parts own (subst (IsStrictlySortedBy bucket_id_cmp) (sym are) (listed_ascend at fs))
+        margin_of_parts (λ (b : PricedBucket). (b.terms).id) (λ b. (b.terms).weight) names (priced_params p c).buckets its_priced price_value (IsSizedIn (λ b. (b.terms).weight)) (margin_over (listed_priced (priced_params p c)) (priced_params p c).gamma) (alike_margin (listed_priced (priced_params p c)) (priced_params p c).gamma) parts own (subst (IsStrictlySortedBy bucket_id_cmp) (sym are) (listed_ascend at fs))
         ∙ priced_kept (priced_params p c) c ss (λ b. list_any (λ k. same_bucket_id k (bucket_id_of b)) (ids parts)) (λ b none. no_priced parts at are b (there b) none)
-
-  -- ---- each class
-
-  pub one_ready : (c : RiskClass) → IsNumbered c → (k : BucketId) → HasBucket p c k → IsReady p (bucket_at (record { product = product; class = c }) k) (factors_of held)
-  one_ready class.IR n k h = absurd n
-  one_ready class.CreditQ n k h = credit_ready Qualifying k h
-  one_ready class.CreditNonQ n k h = credit_ready Non_qualifying k h
-  one_ready class.Equity n k h = priced_ready Equities k h
-  one_ready class.Commodity n k h = priced_ready Commodities k h
-  one_ready class.FX n k h = absurd n
 
   module _ (admitted : list_all (admits p) held ≡ true) where
     module _ (parts : List Whole) where
@@ -164,17 +151,17 @@ module _ (p : Params) (facts : IsParams p) (held : List CrifRow) (bounded : IsBo
       -- of credit
       module _ (c : CreditClass) (own : AllByRecursion (credit_owned c) parts) (s : IsStrictlySortedBy bucket_id_cmp (ids parts)) where
         credit_sized : AreSized parts
-        credit_sized = parts_sized (λ (b : CreditBucket). (b.terms).id) (λ b. (b.terms).weight) credit_value points_gross (points c) (credit_params p c).buckets (credit_class p facts held bounded product sizes c) parts own s
+        credit_sized = parts_sized (λ (b : CreditBucket). (b.terms).id) (λ b. (b.terms).weight) (points c) (credit_params p c).buckets (its_credit c) credit_value parts own s
 
         credit_small : sum_by (λ part. unsigned_abs (part.1).k) parts ≤ 4 * 10 ^ 15
-        credit_small = parts_small (λ (b : CreditBucket). (b.terms).id) (λ b. (b.terms).weight) credit_value points_gross (points c) (credit_params p c).buckets (credit_class p facts held bounded product sizes c) parts own s
+        credit_small = parts_small (λ (b : CreditBucket). (b.terms).id) (λ b. (b.terms).weight) (points c) (credit_params p c).buckets (its_credit c) credit_value parts own s
 
       module _ (c : PricedClass) (own : AllByRecursion (priced_owned c) parts) (s : IsStrictlySortedBy bucket_id_cmp (ids parts)) where
         priced_sized : AreSized parts
-        priced_sized = parts_sized (λ (b : PricedBucket). (b.terms).id) (λ b. (b.terms).weight) price_value names_gross (names c) (priced_params p c).buckets (priced_class p facts held bounded product sizes c) parts own s
+        priced_sized = parts_sized (λ (b : PricedBucket). (b.terms).id) (λ b. (b.terms).weight) (names c) (priced_params p c).buckets (its_priced c) price_value parts own s
 
         priced_small : sum_by (λ part. unsigned_abs (part.1).k) parts ≤ 4 * 10 ^ 15
-        priced_small = parts_small (λ (b : PricedBucket). (b.terms).id) (λ b. (b.terms).weight) price_value names_gross (names c) (priced_params p c).buckets (priced_class p facts held bounded product sizes c) parts own s
+        priced_small = parts_small (λ (b : PricedBucket). (b.terms).id) (λ b. (b.terms).weight) (names c) (priced_params p c).buckets (its_priced c) price_value parts own s
 
       pub done : (c : RiskClass) → IsNumbered c → ids parts ≡ listed_buckets (record { product = product; class = c }) fs → AllByRecursion (IsListedPart p (record { product = product; class = c }) fs) parts → IsDone p c ss parts
       done class.IR n are values = absurd n
@@ -182,7 +169,7 @@ module _ (p : Params) (facts : IsParams p) (held : List CrifRow) (bounded : IsBo
           let own : AllByRecursion (credit_owned Qualifying) parts = each_weaker (Both class.CreditQ) (credit_owned Qualifying) (λ part h. credit_owns Qualifying part h.0 h.1.value h.1.sized) parts (both class.CreditQ n are values) in
           let s = ascend class.CreditQ are in
           record {
-            are = record { named = tt; buckets = has_buckets class.CreditQ n are; sized = credit_sized Qualifying own s };
+            are = record { buckets = has_buckets class.CreditQ n are; sized = credit_sized Qualifying own s };
             margin = λ z e. was_some z _ e ∙ credit_total Qualifying parts (record { product = product; class = class.CreditQ }) own are (λ b. refl);
             small = credit_small Qualifying own s;
           }
@@ -190,7 +177,7 @@ module _ (p : Params) (facts : IsParams p) (held : List CrifRow) (bounded : IsBo
           let own : AllByRecursion (credit_owned Non_qualifying) parts = each_weaker (Both class.CreditNonQ) (credit_owned Non_qualifying) (λ part h. credit_owns Non_qualifying part h.0 h.1.value h.1.sized) parts (both class.CreditNonQ n are values) in
           let s = ascend class.CreditNonQ are in
           record {
-            are = record { named = tt; buckets = has_buckets class.CreditNonQ n are; sized = credit_sized Non_qualifying own s };
+            are = record { buckets = has_buckets class.CreditNonQ n are; sized = credit_sized Non_qualifying own s };
             margin = λ z e. was_some z _ e ∙ credit_total Non_qualifying parts (record { product = product; class = class.CreditNonQ }) own are (λ b. refl);
             small = credit_small Non_qualifying own s;
           }
@@ -198,7 +185,7 @@ module _ (p : Params) (facts : IsParams p) (held : List CrifRow) (bounded : IsBo
           let own : AllByRecursion (priced_owned Equities) parts = each_weaker (Both class.Equity) (priced_owned Equities) (λ part h. priced_owns Equities part h.0 h.1.value h.1.sized) parts (both class.Equity n are values) in
           let s = ascend class.Equity are in
           record {
-            are = record { named = tt; buckets = has_buckets class.Equity n are; sized = priced_sized Equities own s };
+            are = record { buckets = has_buckets class.Equity n are; sized = priced_sized Equities own s };
             margin = λ z e. was_some z _ e ∙ priced_total Equities parts (record { product = product; class = class.Equity }) own are (λ b. refl);
             small = priced_small Equities own s;
           }
@@ -206,7 +193,7 @@ module _ (p : Params) (facts : IsParams p) (held : List CrifRow) (bounded : IsBo
           let own : AllByRecursion (priced_owned Commodities) parts = each_weaker (Both class.Commodity) (priced_owned Commodities) (λ part h. priced_owns Commodities part h.0 h.1.value h.1.sized) parts (both class.Commodity n are values) in
           let s = ascend class.Commodity are in
           record {
-            are = record { named = tt; buckets = has_buckets class.Commodity n are; sized = priced_sized Commodities own s };
+            are = record { buckets = has_buckets class.Commodity n are; sized = priced_sized Commodities own s };
             margin = λ z e. was_some z _ e ∙ priced_total Commodities parts (record { product = product; class = class.Commodity }) own are (λ b. refl);
             small = priced_small Commodities own s;
           }

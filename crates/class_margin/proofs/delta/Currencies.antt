@@ -1,50 +1,23 @@
 -- The buckets of interest rates are currencies: their values, and the margin over them.
-use Rattle.std.proofs.Common.{◌≡◌, ℕ, ◌≤◌, List, [], ◌∷◌, map, length, Some, refl, sym, ap, ◌∙◌, subst}
+use Rattle.std.proofs.Common.{◌≡◌, ℕ, List, [], ◌∷◌, map, refl, ap, ◌∙◌, subst}
 use Rattle.std.specs.List.{AllByRecursion}
 use Rattle.class_rates.specs.SimmKinds.declared.kinds.ProductClass.{ProductClass}
 use Rattle.class_rates.specs.SimmKinds.declared.kinds.RiskClass.{RiskClass}
 use Rattle.class_rates.specs.SimmKinds.declared.kinds.RiskClass.TheVariants as class
-use Rattle.class_rates.specs.SimmKinds.declared.kinds.BucketId.{BucketId}
 use Rattle.class_rates.specs.SimmKinds.declared.kinds.BucketId.TheVariants as id
 use Rattle.class_rates.specs.SimmKinds.declared.key.FactorKey.{FactorKey}
 use Rattle.class_rates.specs.SimmRules.declared.values.BucketMargin.{BucketMargin}
 use Rattle.class_rates.specs.SimmRules.Params.{Params}
 use Rattle.class_rates.specs.FactorBook.declared.at.ClassAt.{ClassAt}
 use Rattle.class_rates.specs.FactorBook.declared.holding.Holding.{Holding}
-use Rattle.class_rates.specs.FactorBook.Places.{factors_at}
-use Rattle.class_margin.specs.rates_delta.Bucket.{buckets_at, rates_at, delta_value}
-use Rattle.class_margin.specs.rates_delta.Parts.{IsCurrency, currencies_of, buckets_of}
-use Rattle.class_margin.specs.rates_delta.Range.{IsPart}
+use Rattle.class_rates.specs.SimmRules.Rates.{rates_in, currency_value}
+use Rattle.class_margin.specs.rates_delta.Bucket.{buckets_at}
+use Rattle.class_margin.specs.rates_delta.Parts.{currencies_of, buckets_of}
 use Rattle.class_margin.specs.names_delta.Values.{nets_in}
 use Rattle.class_rates.proofs.MeasuredBucket.Lists.{each_weaker}
-use Rattle.class_margin.specs.delta.Buckets.{delta_place}
-use Rattle.class_margin.specs.delta.Delta.{rate_delta_at, delta_by_class, IsSizedByClass, IsValued, AreDeltaParts}
+use Rattle.class_margin.specs.delta.Delta.{rate_delta_at, IsValued, AreDeltaParts}
 use Rattle.class_margin.proofs.delta.Bounds.{was_value}
-use Rattle.class_margin.proofs.delta.Counts.{rate_few as few_at}
-use Rattle.class_margin.proofs.delta.InBook.{IsOwn}
 use Rattle.class_margin.proofs.Valued.{Whole, ids}
-
--- ---- one bucket
-
-module _ (p : Params) (c : RiskClass) (rates : c ≡ class.IR) (b : BucketId) (own : IsOwn p c b) (product : ProductClass) (fs : List (FactorKey × Holding)) where
-  currency : IsCurrency b
-  currency = subst (λ d. IsOwn p d b) rates own
-
-  by_bucket : (k : BucketId) (m : BucketMargin) → IsCurrency k → m ≡ delta_value p k (nets_in product fs) → Some m ≡ rate_delta_at p k product fs
-  by_bucket (id.Number n) m h e = absurd h
-  by_bucket id.Residual m h e = absurd h
-  by_bucket (id.Currency name) m h e = ap Some e
-  by_bucket id.Single m h e = absurd h
-
-  pub rate_value : (m : BucketMargin) → m ≡ delta_value p b (nets_in product fs) → Some m ≡ delta_by_class p c b product fs
-  rate_value m e = subst (λ d. Some m ≡ delta_by_class p d b product fs) (sym rates) (by_bucket b m currency e)
-
-  pub rate_sized : (m : BucketMargin) → IsPart m → IsSizedByClass p c b product fs m
-  rate_sized m h = subst (λ d. IsSizedByClass p d b product fs m) (sym rates) h
-
-  pub rate_few : length (rates_at b (nets_in product fs)) ≤ length (factors_at (delta_place (record { product = product; class = c; bucket = b })) fs)
-  rate_few =
-      subst (λ d. length (rates_at b (nets_in product fs)) ≤ length (factors_at (delta_place (record { product = product; class = d; bucket = b })) fs)) (sym rates) (few_at product fs b currency)
 
 -- ---- those of currencies, by how a currency is valued
 
@@ -80,7 +53,7 @@ module _ (p : Params) (product : ProductClass) (fs : List (FactorKey × Holding)
   rates_in_class c = record { product = product; class = c }
 
   abbrev value_of : List ℕ → BucketMargin
-  value_of currency = delta_value p (id.Currency currency) (nets_in product fs)
+  value_of currency = currency_value p currency (rates_in currency (nets_in product fs))
 
   made : AreDeltaParts p (rates_in_class class.IR) fs parts → parts ≡ buckets_of p (nets_in product fs)
   made its =

@@ -30,9 +30,18 @@ use Rattle.class_rates.specs.FactorBook.Places.{same_side, factors_at, is_on}
 use Rattle.class_margin.specs.rates_delta.Parts.{IsCurrency}
 use Rattle.class_margin.specs.names_delta.Combine.{HasBucket}
 use Rattle.class_rates.proofs.MeasuredBucket.Lists.{each_weaker, each_both, each_map, each_kept, kept_pass}
-use Rattle.class_margin.specs.delta.Buckets.{delta_side, delta_buckets, is_single, listed_buckets, IsNumbered}
+use Rattle.class_margin.specs.delta.Buckets.{delta_side, delta_buckets, is_single, listed_buckets}
 use Rattle.class_margin.proofs.delta.Lists.{different_each}
 use Rattle.class_margin.proofs.OnSide.{buckets_ascend, none_on}
+
+-- a class of which files list buckets
+abbrev pub IsNumbered : RiskClass → Type 0
+IsNumbered class.IR = ⊥
+IsNumbered class.CreditQ = Unit {0}
+IsNumbered class.CreditNonQ = Unit {0}
+IsNumbered class.Equity = Unit {0}
+IsNumbered class.Commodity = Unit {0}
+IsNumbered class.FX = ⊥
 
 pub listed_ascend : (at : ClassAt) (fs : List (FactorKey × Holding)) → IsStrictlySortedBy bucket_id_cmp (listed_buckets at fs)
 listed_ascend at fs = IsStrictlySortedBy-filter bucket_id_cmp (λ b. not (is_single b)) (delta_buckets at fs) (buckets_ascend (delta_side at) fs)

@@ -1,14 +1,11 @@
--- A class of which the file lists buckets: each bucket of the book is one of them, and those alone add to the margin.
-use Rattle.std.proofs.Common.{◌≡◌, ◌^◌, ◌*◌, ◌<◌, ◌≤◌, List, [], ◌∷◌, ◌++◌, map, length, Some, Bool, true, false, ◌||◌, cond, refl, sym, ap, ◌∙◌, subst, ℤ, pos, ◌+ℤ◌, ◌*ℤ◌, ◌≤ℤ◌, unsigned_abs, arith, le_refl}
-use Rattle.std.specs.Prelude.{sum_by, option_map, IsSomeAnd}
+-- A class of which the file lists buckets: the one of an id.
+use Rattle.std.proofs.Common.{◌≡◌, ◌<◌, ◌≤◌, List, [], ◌∷◌, map, Some, Bool, true, false, ◌||◌, cond, refl, sym, ap, ◌∙◌, ℤ, pos, ◌+ℤ◌, ◌≤ℤ◌, arith, le_refl}
 use Rattle.std.specs.declared.cmp.Ordering.TheVariants.{Less}
 use Rattle.std.specs.Ordering.{is_eq}
-use Rattle.std.specs.List.{filter, find, list_any, AllByRecursion}
-use Rattle.std.specs.List.Sorted.{IsStrictlySortedBy}
+use Rattle.std.specs.List.{filter, find, AllByRecursion}
 use Rattle.std.proofs.lemmas.Bool.{false≢true}
 use Rattle.std.proofs.lemmas.Cmp.{eq_by_cmp_equiv}
 use Rattle.std.proofs.lemmas.Int.{ints}
-use Rattle.std.proofs.lemmas.List.Sums.{sum_by-cons}
 use Rattle.std.proofs.lemmas.Map.Lookups.{exact_bytes}
 use Rattle.class_rates.specs.SimmKinds.declared.kinds.BucketId.{BucketId}
 use Rattle.class_rates.specs.SimmKinds.declared.bucket.Bucket.{Bucket}
@@ -18,20 +15,13 @@ use Rattle.class_rates.specs.SimmKinds.Order.{bucket_numbers, same_bucket, bucke
 use Rattle.class_rates.proofs.SimmKinds.Variants.{is_eq-Equal}
 use Rattle.class_rates.specs.SimmRules.declared.values.BucketMargin.{BucketMargin}
 use Rattle.class_rates.specs.SimmRules.Sums.{total_by}
-use Rattle.class_rates.specs.SimmRules.Risks.{Amount}
-use Rattle.class_rates.specs.SimmRules.Across.{Part, margin_over}
 use Rattle.class_rates.specs.SimmRules.Admits.{lists}
-use Rattle.class_rates.specs.SimmRules.Gross.{size_by}
 use Rattle.class_rates.specs.SimmParams.Buckets.{bucket_slot, AreInOrder}
 use Rattle.book_range.proofs.Buckets.{id_total}
-use Rattle.class_margin.specs.names_delta.Combine.{part_in, parts_in, AreSized}
-use Rattle.class_margin.specs.names_delta.Values.{IsInRange, IsSized}
+use Rattle.class_margin.specs.names_delta.Combine.{part_in}
 use Rattle.class_rates.proofs.MeasuredBucket.Keys.{bucket_ids}
-use Rattle.class_rates.proofs.MeasuredBucket.Listed.{found}
-use Rattle.class_rates.proofs.MeasuredBucket.Lists.{each_weaker, map-filter}
-use Rattle.class_margin.proofs.delta.Bounds.{size_low, total_low, HasClass}
-use Rattle.class_margin.proofs.Valued.{Whole, ids}
-use Rattle.class_margin.proofs.delta.Totals.{Alike, alike_map, alike_margin, total_split}
+use Rattle.class_rates.proofs.MeasuredBucket.Lists.{each_weaker}
+use Rattle.class_margin.proofs.delta.Bounds.{total_low}
 
 -- ---- a bucket is known by its numbers
 
@@ -82,10 +72,6 @@ total_kept f t (x ∷ xs) low = by (t x) (total_kept f t xs low.1)
     by true i = omega (arith, ints, i)
     by false i = omega (arith, ints, i, low.0)
 
-total_scaled : {X : Type 0} (f : X → ℤ) (xs : List X) → total_by (λ x. f x *ℤ pos 346999999 +ℤ pos (2000 * 10 ^ 10)) xs ≡ total_by f xs *ℤ pos 346999999 +ℤ pos (length xs * (2000 * 10 ^ 10))
-total_scaled f [] = refl
-total_scaled f (x ∷ xs) = omega (arith, ints, total_scaled f xs)
-
 -- ---- the bucket of an id
 
 module _ {X : Type 0} (id : X → Bucket) where
@@ -135,106 +121,3 @@ module _ {X : Type 0} (id : X → Bucket) where
             is = rest.is;
             alone = here false e ∙ rest.alone;
           }
-
-module _ {X A : Type 0} (id : X → Bucket) (weight : X → ℤ) (V : X → List (Amount A) → BucketMargin) (low_gross : (x : X) (xs : List (Amount A)) → pos 0 ≤ℤ (V x xs).gross) (amounts : Bucket → List (Amount A)) (xs : List X) (its : HasClass id weight amounts xs) where
-  abbrev size : X → ℤ
-  size x = size_by (λ _. weight x) (amounts (id x))
-
-  sizes_low : AllByRecursion (λ x. pos 0 ≤ℤ size x) xs
-  sizes_low = each_weaker (λ x. pos 0 ≤ℤ weight x) (λ x. pos 0 ≤ℤ size x) (λ x low. size_low (λ _. weight x) (λ _. low) (amounts (id x))) xs its.low
-
-  -- a listed bucket is in range
-  pub ready : (b : Bucket) → lists (map id xs) b ≡ true → IsSomeAnd (find (λ y. same_bucket b (id y)) xs) (λ x. IsInRange (λ _. weight x) (amounts b))
-  ready b h =
-      let f = find_listed id b xs its.in_order h in
-      let small : size f.of ≤ℤ pos (10 ^ 17) = found (λ x. size x ≤ℤ pos (10 ^ 17)) (λ y. same_bucket b (id y)) xs f.of (each_within size (pos (10 ^ 17)) xs sizes_low its.total) f.found in
-      subst (λ o. IsSomeAnd o (λ x. IsInRange (λ _. weight x) (amounts b))) (sym f.found)
-      (record { few = its.few_each b; small = subst (λ a. size_by (λ _. weight f.of) (amounts a) ≤ℤ pos (10 ^ 17)) (sym f.is) small })
-
-  -- ---- parts of its buckets
-
-  pub record IsOwned (part : BucketId × BucketMargin) : Type 0 where
-    of : X
-    alone : filter (is_at id part.0) xs ≡ of ∷ []
-    is : part_in part ≡ record { at = id of; value = V of (amounts (id of)) } ∷ []
-    value : part.1 ≡ V of (amounts (id of))
-    sized : IsSized (λ _. weight of) (amounts (id of)) part.1
-
-  pub owned : (b : Bucket) (m : BucketMargin) → lists (map id xs) b ≡ true → Some m ≡ option_map (λ x. V x (amounts b)) (find (λ y. same_bucket b (id y)) xs) → IsSomeAnd (find (λ y. same_bucket b (id y)) xs) (λ x. IsSized (λ _. weight x) (amounts b) m) → IsOwned (bucket_id_of b, m)
-  owned b m h value sized =
-      let f = find_listed id b xs its.in_order h in
-      let there : Some m ≡ Some (V f.of (amounts b)) = value ∙ ap (option_map (λ x. V x (amounts b))) f.found in
-      let same : m ≡ V f.of (amounts (id f.of)) = cc (there, ap (λ a. V f.of (amounts a)) f.is) in
-      let part : Bucket → BucketMargin → List (Part Bucket) = λ a v. record { at = a; value = v } ∷ [] in
-      record {
-        of = f.of;
-        alone = f.alone;
-        is = part_of_listed b m ∙ ap (λ a. part a m) f.is ∙ ap (part (id f.of)) same;
-        value = same;
-        sized = subst (λ a. IsSized (λ _. weight f.of) (amounts a) m) f.is (subst (λ o. IsSomeAnd o (λ x. IsSized (λ _. weight x) (amounts b) m)) f.found sized);
-      }
-
-  abbrev has : List BucketId → Bucket → Bool
-  has ks b = list_any (λ k. same_bucket_id k (bucket_id_of b)) ks
-
-  owners : (parts : List Whole) → AllByRecursion IsOwned parts → List X
-  owners [] h = []
-  owners (part ∷ parts) h = h.0.of ∷ owners parts h.1
-
-  abbrev part_at : X → Part Bucket
-  part_at x = record { at = id x; value = V x (amounts (id x)) }
-
-  not_among : (k : BucketId) (ks : List BucketId) (x : X) → AllByRecursion (λ l. bucket_id_cmp k l ≡ Less) ks → is_at id k x ≡ true → has ks (id x) ≡ false
-  not_among k [] x h e = refl
-  not_among k (l ∷ ks) x h e = ap (λ t. t || has ks (id x)) (not_later k l (bucket_id_of (id x)) h.0 e) ∙ not_among k ks x h.1 e
-
-  -- the owners of the parts are the buckets that have a part
-  sums : (parts : List Whole) (h : AllByRecursion IsOwned parts) → IsStrictlySortedBy bucket_id_cmp (ids parts) → Alike (filter (λ x. has (ids parts) (id x)) xs) (owners parts h)
-  unfolding IsStrictlySortedBy owners
-  sums [] h s = λ f. ap (total_by f) (filter_none (λ x. false) xs (never xs))
-  sums (part ∷ parts) h s = λ f.
-      total_split f (is_at id part.0) (λ x. has (ids parts) (id x)) (λ x e. not_among part.0 (ids parts) x s.0 e) xs
-      ∙ ap (λ ys. total_by f ys +ℤ total_by f (filter (λ x. has (ids parts) (id x)) xs)) (h.0.alone)
-      ∙ omega (arith, ints, sums parts h.1 s.1 f)
-
-  parts_are : (parts : List Whole) (h : AllByRecursion IsOwned parts) → parts_in parts ≡ map part_at (owners parts h)
-  unfolding owners
-  parts_are [] h = refl
-  parts_are (part ∷ parts) h = ap (λ ps. ps ++ parts_in parts) h.0.is ∙ ap (λ ps. part_at h.0.of ∷ ps) (parts_are parts h.1)
-
-  -- the margin over the parts is that over the buckets that have one
-  pub margin_of_parts : (gamma : List (List ℤ)) (parts : List Whole) → AllByRecursion IsOwned parts → IsStrictlySortedBy bucket_id_cmp (ids parts) → margin_over (map id xs) gamma (parts_in parts) ≡ margin_over (map id xs) gamma (filter (λ q. has (ids parts) q.at) (map part_at xs))
-  margin_of_parts gamma parts h s =
-      let kept = filter (λ x. has (ids parts) (id x)) xs in
-      ap (margin_over (map id xs) gamma) (parts_are parts h)
-      ∙ sym (alike_margin (map id xs) gamma (map part_at kept) (map part_at (owners parts h)) (alike_map part_at kept (owners parts h) (sums parts h s)))
-      ∙ ap (margin_over (map id xs) gamma) (map-filter part_at (λ q. has (ids parts) q.at) xs)
-
-  -- ---- their sizes
-
-  abbrev most : X → ℤ
-  most x = size x *ℤ pos 346999999 +ℤ pos (2000 * 10 ^ 10)
-
-  one_small : (part : Whole) (h : IsOwned part) → (pos (unsigned_abs (part.1).k) *ℤ pos (10 ^ 10)) ≤ℤ most h.of
-  one_small part h =
-      let gross : pos 0 ≤ℤ (part.1).gross = subst (λ (m : BucketMargin). pos 0 ≤ℤ m.gross) (sym h.value) (low_gross h.of (amounts (id h.of))) in
-      omega (arith, ints, h.sized.gross, h.sized.margin, its.few_each (id h.of))
-
-  all_small : (parts : List Whole) (h : AllByRecursion IsOwned parts) → (pos (sum_by (λ part. unsigned_abs (part.1).k) parts) *ℤ pos (10 ^ 10)) ≤ℤ total_by most (owners parts h)
-  unfolding owners
-  all_small [] h = omega (arith, ints)
-  all_small (part ∷ parts) h = omega (arith, ints, one_small part h.0, all_small parts h.1, sum_by-cons (λ (q : Whole). unsigned_abs (q.1).k) part parts)
-
-  pub parts_small : (parts : List Whole) → AllByRecursion IsOwned parts → IsStrictlySortedBy bucket_id_cmp (ids parts) → sum_by (λ part. unsigned_abs (part.1).k) parts ≤ 4 * 10 ^ 15
-  parts_small parts h s =
-      let kept = λ (x : X). has (ids parts) (id x) in
-      let lows : AllByRecursion (λ x. pos 0 ≤ℤ most x) xs = each_weaker (λ x. pos 0 ≤ℤ size x) (λ x. pos 0 ≤ℤ most x) (λ x low. omega (arith, ints, low)) xs sizes_low in
-      omega (arith, ints, all_small parts h, sums parts h s most, total_kept most kept xs lows, total_scaled size xs, its.total, its.few)
-
-  pub parts_sized : (parts : List Whole) → AllByRecursion IsOwned parts → IsStrictlySortedBy bucket_id_cmp (ids parts) → AreSized parts
-  parts_sized parts h s = record {
-    ascends = s;
-    not_negative = each_weaker IsOwned (λ part. pos 0 ≤ℤ (part.1).k) (λ part o. o.sized.not_negative) parts h;
-    held = each_weaker IsOwned (λ part. unsigned_abs (part.1).s ≤ unsigned_abs (part.1).k) (λ part o. o.sized.held) parts h;
-    in_range = omega (arith, parts_small parts h s);
-  }

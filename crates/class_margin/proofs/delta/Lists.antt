@@ -1,5 +1,5 @@
 -- Lists that are filtered, mapped, or of different items.
-use Rattle.std.proofs.Common.{◌≡◌, ◌≤◌, List, [], ◌∷◌, length, Option, Some, None, Bool, true, false, ◌&&◌, cond, refl, ap, arith}
+use Rattle.std.proofs.Common.{◌≡◌, ◌≤◌, List, [], ◌∷◌, length, Option, Some, None, Bool, refl, ap, arith}
 use Rattle.std.specs.declared.cmp.Ordering.{Ordering}
 use Rattle.std.specs.declared.cmp.Ordering.TheVariants.{Less, Equal, Greater}
 use Rattle.std.specs.List.{filter, AllByRecursion}
@@ -19,14 +19,6 @@ select-length sort (s ∷ ss) = by (sort (risk s.key.factor)) refl (select-lengt
     by : (o : Option _) → sort (risk s.key.factor) ≡ o → length (select sort ss) ≤ length ss → length (select sort (s ∷ ss)) ≤ length (s ∷ ss)
     by None e i = omega (arith, i, ap length (select_none sort s ss e))
     by (Some x) e i = omega (arith, i, ap length (select_some sort s ss x e))
-
-pub filter_twice : {X : Type 0} (p q : X → Bool) (xs : List X) → filter p (filter q xs) ≡ filter (λ x. q x && p x) xs
-filter_twice p q [] = refl
-filter_twice p q (x ∷ xs) = by (q x) (filter_twice p q xs)
-  where
-    by : (t : Bool) → filter p (filter q xs) ≡ filter (λ y. q y && p y) xs → filter p (cond t (x ∷ filter q xs) (filter q xs)) ≡ cond (t && p x) (x ∷ filter (λ y. q y && p y) xs) (filter (λ y. q y && p y) xs)
-    by true i = ap (λ ys. cond (p x) (x ∷ ys) ys) i
-    by false i = i
 
 -- what is so of each is so of each of the different ones
 module _ {A : Type 0} (cmp : A → A → Ordering) (P : A → Type 0) where

@@ -22,15 +22,15 @@ use Rattle.book_range.specs.Bounded.{IsMarginable}
 use Rattle.class_margin.specs.rates_delta.Range.{IsClass}
 use Rattle.class_credit.specs.Base.{indices_of, index_weight}
 use Rattle.class_exchange.specs.Currencies.{currencies_in}
-use Rattle.class_margin.specs.names_delta.Delta.{delta_value, IsReady, IsFxReady, IsDeltaSized}
+use Rattle.class_margin.specs.names_delta.Delta.{delta_value, IsDeltaSized}
 use Rattle.class_margin.specs.names_delta.Values.{nets_in, IsInRange}
 use Rattle.class_rates.proofs.MeasuredBucket.Lists.{each_weaker, each_both, each_kept, kept_pass, map-filter}
 use Rattle.class_margin.proofs.names_delta.Shrinking.{SizesAreNetted}
-use Rattle.class_margin.specs.delta.Buckets.{delta_side, delta_place, is_single, listed_buckets, bucket_at, IsNumbered}
-use Rattle.class_margin.specs.delta.Delta.{IsNamed, delta_by_class, IsSizedByClass, IsValued, AreDeltaParts}
+use Rattle.class_margin.specs.delta.Buckets.{delta_side, delta_place, is_single, listed_buckets, bucket_at}
+use Rattle.class_margin.specs.delta.Delta.{delta_by_class, IsSizedByClass, IsValued, AreDeltaParts}
 use Rattle.class_margin.proofs.delta.Bounds.{indices_range, currencies_range, rates_range}
-use Rattle.class_margin.proofs.delta.Classes.{IsListedPart, IsDone, one_ready, done}
-use Rattle.class_margin.proofs.delta.InBook.{IsOwn, own_each}
+use Rattle.class_margin.proofs.delta.Classes.{IsListedPart, IsDone, done}
+use Rattle.class_margin.proofs.delta.InBook.{IsNumbered, IsOwn, own_each}
 use Rattle.class_margin.proofs.OnSide.{each_on}
 use Rattle.class_margin.proofs.Valued.{Whole, ids}
 
@@ -50,26 +50,6 @@ module _ (p : Params) (facts : IsParams p) (fs : List (FactorKey × Holding)) (i
 
   pub rates_fit : ((rate : RateIn) → pos 0 ≤ℤ rate_weight p rate) → (product : ProductClass) → IsClass p (nets_in product fs)
   rates_fit low product = subst (λ f. IsClass p (nets_in product f)) (sym its.are) (rates_range p facts its.held its.bounded product sizes low)
-
-  -- ---- a bucket that has a factor
-
-  module _ (low : (currency : List ℕ) → pos 0 ≤ℤ fx_weight p currency) (product : ProductClass) where
-    abbrev Fits : RiskClass → BucketId → Type 0
-    Fits c b = IsReady p (record { product = product; class = c; bucket = b }) fs
-
-    listed_fits : (c : RiskClass) (b : BucketId) → IsReady p (record { product = product; class = c; bucket = b }) (factors_of its.held) → Fits c b
-    listed_fits c b ready = subst (IsReady p (record { product = product; class = c; bucket = b })) (sym its.are) ready
-
-    fits : (c : RiskClass) (b : BucketId) → IsNamed c b → IsOwn p c b → Fits c b
-    fits class.IR b n own = absurd n
-    fits class.CreditQ b n own = listed_fits class.CreditQ b (one_ready p facts its.held its.bounded product sizes class.CreditQ tt b (own n))
-    fits class.CreditNonQ b n own = listed_fits class.CreditNonQ b (one_ready p facts its.held its.bounded product sizes class.CreditNonQ tt b own)
-    fits class.Equity b n own = listed_fits class.Equity b (one_ready p facts its.held its.bounded product sizes class.Equity tt b own)
-    fits class.Commodity b n own = listed_fits class.Commodity b (one_ready p facts its.held its.bounded product sizes class.Commodity tt b own)
-    fits class.FX b n own = subst (λ k. IsFxReady p k product fs) (sym own) (currencies_fit low product)
-
-  pub named_fits : ((currency : List ℕ) → pos 0 ≤ℤ fx_weight p currency) → (at : BucketAt) → IsNamed at.class at.bucket → factors_at (delta_place at) fs ≢ [] → IsReady p at fs
-  named_fits low at n some = fits low at.product at.class at.bucket n (own_there p fs its at some)
 
   -- ---- the buckets that files list
 

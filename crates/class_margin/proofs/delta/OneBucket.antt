@@ -20,8 +20,10 @@ use Rattle.class_rates.specs.FactorBook.declared.at.SideAt.{SideAt}
 use Rattle.class_rates.specs.FactorBook.declared.holding.Holding.{Holding}
 use Rattle.class_rates.specs.FactorBook.Places.{factors_at, place_in, buckets_on}
 use Rattle.book_range.specs.Bounded.{IsMarginable}
-use Rattle.class_credit.specs.Base.{indices_of, index_weight}
-use Rattle.class_exchange.specs.Currencies.{currencies_in}
+use Rattle.class_credit.specs.Base.{indices_of, index_nets, index_weight}
+use Rattle.class_credit.proofs.Indices.{indices_there}
+use Rattle.class_exchange.specs.Currencies.{currencies_in, risky_nets}
+use Rattle.class_exchange.proofs.RiskyCurrencies.{currencies_there}
 use Rattle.class_margin.specs.names_delta.Values.{nets_in, IsSized}
 use Rattle.class_margin.proofs.names_delta.Empty.{currencies_none, indices_none}
 use Rattle.class_rates.proofs.MeasuredBucket.Lists.{each_weaker}
@@ -32,7 +34,6 @@ use Rattle.class_margin.specs.delta.Delta.{delta_by_class, IsSizedByClass, IsVal
 use Rattle.class_margin.proofs.delta.Bounds.{gross_low, value_most, base_most, was_value}
 use Rattle.class_margin.proofs.delta.Margined.{indices_fit, currencies_fit}
 use Rattle.class_margin.proofs.OnSide.{none_on}
-use Rattle.class_margin.proofs.delta.Places.{currencies_alone, indices_alone}
 use Rattle.class_margin.proofs.Valued.{Whole, ids}
 
 is_it : (k : BucketId) → same_bucket_id k id.Single ≡ is_single k
@@ -95,7 +96,7 @@ module _ (p : Params) (product : ProductClass) (parts : List Whole) where
       single_is (base_margin p (nets_in product fs)) parts
       (each_weaker (IsValued p (class_at class.CreditQ) fs) (λ part. part.0 ≡ id.Single → (part.1).k ≡ base_margin p (nets_in product fs))
       (λ part v e. ap (λ (m : BucketMargin). m.k) (value_there class.CreditQ fs (base_value p (indices_of product fs)) refl part v e)) parts its.each)
-      (λ none. sym (indices_none p (nets_in product fs) (sym (indices_alone product fs) ∙ ap (indices_of product) (none_single (delta_side (class_at class.CreditQ)) fs parts its.are none))))
+      (λ none. sym (indices_none p (nets_in product fs) (sym (indices_there product fs) ∙ ap index_nets (none_single (delta_side (class_at class.CreditQ)) fs parts its.are none))))
 
   pub base_total : (c : RiskClass) → c ≡ class.CreditQ → (fs : List (FactorKey × Holding)) → AreDeltaParts p (record { product = product; class = c }) fs parts → single_k parts ≡ base_margin p (nets_in product fs)
   base_total c e fs its = base_is fs (subst (λ d. AreDeltaParts p (class_at d) fs parts) e its)
@@ -107,7 +108,7 @@ module _ (p : Params) (product : ProductClass) (parts : List Whole) where
       single_is (fx_delta p (nets_in product fs)) parts
       (each_weaker (IsValued p (class_at class.FX) fs) (λ part. part.0 ≡ id.Single → (part.1).k ≡ fx_delta p (nets_in product fs))
       (λ part v e. ap (λ (m : BucketMargin). m.k) (value_there class.FX fs (fx_value p (currencies_in p product fs)) refl part v e)) parts its.each)
-      (λ none. sym (currencies_none p (nets_in product fs) (sym (currencies_alone product p fs) ∙ ap (currencies_in p product) (none_single (delta_side (class_at class.FX)) fs parts its.are none))))
+      (λ none. sym (currencies_none p (nets_in product fs) (sym (currencies_there p product fs) ∙ ap (risky_nets p) (none_single (delta_side (class_at class.FX)) fs parts its.are none))))
 
   pub currencies_total : (c : RiskClass) → c ≡ class.FX → (fs : List (FactorKey × Holding)) → AreDeltaParts p (record { product = product; class = c }) fs parts → single_k parts ≡ class_delta_of p (nets_in product fs) c
   currencies_total c e fs its =

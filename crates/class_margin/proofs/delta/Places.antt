@@ -1,8 +1,6 @@
--- What stands on the side of delta: the amounts of a bucket are those of its place.
-use Rattle.std.proofs.Common.{◌≡◌, ℕ, List, false, not, Some, None, if◌then◌else◌, refl, sym, ap, ◌∙◌, subst}
+-- What a bucket comes to on the side of delta is the same in two books that have its factors alike.
+use Rattle.std.proofs.Common.{◌≡◌, ℕ, List, Some, refl, ap, subst}
 use Rattle.std.specs.Prelude.{option_map, IsSomeAnd}
-use Rattle.std.specs.List.{filter}
-use Rattle.std.proofs.lemmas.Bool.{false≢true}
 use Rattle.class_rates.specs.SimmKinds.declared.kinds.ProductClass.{ProductClass}
 use Rattle.class_rates.specs.SimmKinds.declared.kinds.RiskClass.{RiskClass}
 use Rattle.class_rates.specs.SimmKinds.declared.kinds.RiskClass.TheVariants as class
@@ -10,86 +8,38 @@ use Rattle.class_rates.specs.SimmKinds.declared.kinds.BucketId.{BucketId}
 use Rattle.class_rates.specs.SimmKinds.declared.kinds.BucketId.TheVariants as id
 use Rattle.class_rates.specs.SimmKinds.declared.bucket.Bucket.{Bucket}
 use Rattle.class_rates.specs.SimmKinds.declared.bucket.Bucket.TheVariants as bucket
-use Rattle.class_rates.specs.SimmKinds.declared.factor.Factor.{Factor}
-use Rattle.class_rates.specs.SimmKinds.declared.factor.Factor.TheVariants as factor
 use Rattle.class_rates.specs.SimmKinds.declared.key.FactorKey.{FactorKey}
-use Rattle.class_rates.specs.SimmKinds.Order.{same_name}
 use Rattle.class_rates.specs.SimmRules.declared.values.BucketMargin.{BucketMargin}
 use Rattle.class_rates.specs.SimmRules.Params.{Params}
-use Rattle.class_rates.specs.SimmRules.Risks.{risk, CreditClass, Qualifying, Non_qualifying, PricedClass, Equities, Commodities, credit_point, Amount}
-use Rattle.class_rates.specs.SimmRules.Rates.{RateIn, as_rate, rates_in, currency_value}
-use Rattle.class_rates.specs.SimmRules.Credit.{as_credit, credit_params, credit_value}
-use Rattle.class_rates.specs.SimmRules.Priced.{as_price, priced_params, price_value}
-use Rattle.class_rates.specs.SimmRules.ForeignExchange.{as_currency, is_own_currency, fx_weight, fx_value}
-use Rattle.class_rates.specs.SimmRules.BaseCorrelation.{as_index, base_value}
+use Rattle.class_rates.specs.SimmRules.Risks.{CreditClass, Qualifying, Non_qualifying, PricedClass, Equities, Commodities}
+use Rattle.class_rates.specs.SimmRules.Rates.{rates_in, currency_value}
+use Rattle.class_rates.specs.SimmRules.Credit.{credit_params, credit_value}
+use Rattle.class_rates.specs.SimmRules.Priced.{priced_params, price_value}
+use Rattle.class_rates.specs.SimmRules.ForeignExchange.{fx_weight, fx_value}
+use Rattle.class_rates.specs.SimmRules.BaseCorrelation.{base_value}
 use Rattle.class_rates.specs.SimmParams.ListedBuckets.{credit_bucket_of, priced_bucket_of}
 use Rattle.class_rates.specs.FactorBook.declared.at.BucketAt.{BucketAt}
 use Rattle.class_rates.specs.FactorBook.declared.holding.Holding.{Holding}
 use Rattle.class_rates.specs.FactorBook.Places.{factors_at}
 use Rattle.class_rates.specs.Places.{rates_place}
-use Rattle.class_margin.proofs.rates_delta.Standing.{one_of}
-use Rattle.class_credit.specs.Base.{base_place, indices_of, index_weight}
-use Rattle.class_exchange.specs.Currencies.{currency_place, currencies_in}
+use Rattle.class_rates.specs.Rates.{rates_among}
+use Rattle.class_rates.proofs.RatePlaces.{rates_there}
+use Rattle.class_credit.specs.Base.{base_place, indices_of, index_nets, index_weight}
+use Rattle.class_credit.proofs.CreditPoints.{points_there}
+use Rattle.class_credit.proofs.Indices.{indices_there}
+use Rattle.class_exchange.specs.Currencies.{currency_place, currencies_in, risky_nets}
+use Rattle.class_exchange.proofs.RiskyCurrencies.{currencies_there}
 use Rattle.class_margin.specs.names_delta.Delta.{credit_delta, priced_delta, IsCreditSized, IsPricedSized}
-use Rattle.class_priced.specs.Names.{names_place, names_in}
-use Rattle.class_credit.specs.Points.{points_place, points_in}
+use Rattle.class_priced.specs.Names.{names_place, names_in, name_nets}
+use Rattle.class_priced.proofs.PricedNames.{names_there}
+use Rattle.class_credit.specs.Points.{points_place, points_in, point_nets}
 use Rattle.class_margin.specs.names_delta.Values.{nets_in, IsSized}
-use Rattle.class_rates.proofs.MeasuredBucket.Keys.{bucket_ids}
 use Rattle.class_margin.specs.delta.Buckets.{delta_place}
 use Rattle.class_margin.specs.delta.Delta.{delta_by_class, delta_at, IsSizedByClass, IsSizedAt}
-use Rattle.class_margin.proofs.Alone.{stands_within, select_at, kept_at, same_there}
+use Rattle.class_margin.proofs.Alone.{same_there}
 
 abbrev Factors : Type 0
 Factors = List (FactorKey × Holding)
-
-abbrev key_with : ProductClass → Factor → FactorKey
-key_with c f = record { product = c; factor = f }
-
--- ---- a factor that stands elsewhere is of none of the bucket's sort
-
-rates_else : (product c : ProductClass) (currency : List ℕ) (f : Factor) (x : RateIn) → stands_within (rates_place currency product) (key_with c f) ≡ false → as_rate (risk f) ≡ Some x → same_name x.currency currency ≡ false
-rates_else product c currency (factor.IrCurve n t u) x h e = ap (λ (y : RateIn). same_name y.currency currency) (sym (one_of _ x e)) ∙ h
-rates_else product c currency (factor.Inflation n) x h e = ap (λ (y : RateIn). same_name y.currency currency) (sym (one_of _ x e)) ∙ h
-rates_else product c currency (factor.XccyBasis n) x h e = ap (λ (y : RateIn). same_name y.currency currency) (sym (one_of _ x e)) ∙ h
-rates_else product c currency f x h e = absurd (cc)
-
-points_else : (class : CreditClass) (at : Bucket) (product c : ProductClass) (f : Factor) → stands_within (points_place class at product) (key_with c f) ≡ false → as_credit class at (risk f) ≡ None
-points_else Qualifying at product c (factor.CreditQ i b t l) h = ap (λ s. if s then Some (credit_point i t l) else None) (sym (bucket_ids b at) ∙ h)
-points_else Qualifying at product c f h = refl
-points_else Non_qualifying at product c (factor.CreditNonQ i b t l) h = ap (λ s. if s then Some (credit_point i t l) else None) (sym (bucket_ids b at) ∙ h)
-points_else Non_qualifying at product c f h = refl
-
-names_else : (class : PricedClass) (at : Bucket) (product c : ProductClass) (f : Factor) → stands_within (names_place class at product) (key_with c f) ≡ false → as_price class at (risk f) ≡ None
-names_else Equities at product c (factor.Equity i b) h = ap (λ s. if s then Some i else None) (sym (bucket_ids b at) ∙ h)
-names_else Equities at product c f h = refl
-names_else Commodities at product c (factor.Commodity n b) h = ap (λ s. if s then Some n else None) (sym (bucket_ids (bucket.Number b) at) ∙ h)
-names_else Commodities at product c f h = refl
-
-currencies_else : (product c : ProductClass) (f : Factor) → stands_within (currency_place product) (key_with c f) ≡ false → as_currency (risk f) ≡ None
-currencies_else product c (factor.Fx n) h = absurd (false≢true (sym h))
-currencies_else product c f h = refl
-
-indices_else : (product c : ProductClass) (f : Factor) → stands_within (base_place product) (key_with c f) ≡ false → as_index (risk f) ≡ None
-indices_else product c (factor.BaseCorr i) h = absurd (false≢true (sym h))
-indices_else product c f h = refl
-
--- ---- so a bucket's amounts are those of its own factors
-
-module _ (product : ProductClass) where
-  pub rates_alone : (currency : List ℕ) (fs : List (FactorKey × Holding)) → rates_in currency (nets_in product (factors_at (rates_place currency product) fs)) ≡ rates_in currency (nets_in product fs)
-  rates_alone currency fs = kept_at as_rate (rates_place currency product) (λ r. same_name r.currency currency) (λ k x h e. rates_else product k.product currency k.factor x h e) fs
-
-  pub points_alone : (class : CreditClass) (at : Bucket) (fs : List (FactorKey × Holding)) → points_in class at product (factors_at (points_place class at product) fs) ≡ points_in class at product fs
-  points_alone class at fs = select_at (as_credit class at) (points_place class at product) (λ k h. points_else class at product k.product k.factor h) fs
-
-  pub names_alone : (class : PricedClass) (at : Bucket) (fs : List (FactorKey × Holding)) → names_in class at product (factors_at (names_place class at product) fs) ≡ names_in class at product fs
-  names_alone class at fs = select_at (as_price class at) (names_place class at product) (λ k h. names_else class at product k.product k.factor h) fs
-
-  pub currencies_alone : (p : Params) (fs : List (FactorKey × Holding)) → currencies_in p product (factors_at (currency_place product) fs) ≡ currencies_in p product fs
-  currencies_alone p fs = ap (filter (λ (a : Amount (List ℕ)). not (is_own_currency p a.of))) (select_at as_currency (currency_place product) (λ k h. currencies_else product k.product k.factor h) fs)
-
-  pub indices_alone : (fs : List (FactorKey × Holding)) → indices_of product (factors_at (base_place product) fs) ≡ indices_of product fs
-  indices_alone fs = select_at as_index (base_place product) (λ k h. indices_else product k.product k.factor h) fs
 
 -- ---- two books that have the same factors in a bucket
 
@@ -98,19 +48,19 @@ module _ (p : Params) (product : ProductClass) (f g : Factors) where
   Same c b = factors_at (delta_place (record { product = product; class = c; bucket = b })) f ≡ factors_at (delta_place (record { product = product; class = c; bucket = b })) g
 
   rates_same : (currency : List ℕ) → Same class.IR (id.Currency currency) → rates_in currency (nets_in product f) ≡ rates_in currency (nets_in product g)
-  rates_same currency e = same_there (λ fs. rates_in currency (nets_in product fs)) (rates_place currency product) (rates_alone product currency) f g e
+  rates_same currency e = same_there (rates_among currency) (λ fs. rates_in currency (nets_in product fs)) (rates_place currency product) (rates_there currency product) f g e
 
   points_same : (class : CreditClass) (at : Bucket) → factors_at (points_place class at product) f ≡ factors_at (points_place class at product) g → points_in class at product f ≡ points_in class at product g
-  points_same class at e = same_there (points_in class at product) (points_place class at product) (points_alone product class at) f g e
+  points_same class at e = same_there point_nets (points_in class at product) (points_place class at product) (points_there class at product) f g e
 
   names_same : (class : PricedClass) (at : Bucket) → factors_at (names_place class at product) f ≡ factors_at (names_place class at product) g → names_in class at product f ≡ names_in class at product g
-  names_same class at e = same_there (names_in class at product) (names_place class at product) (names_alone product class at) f g e
+  names_same class at e = same_there name_nets (names_in class at product) (names_place class at product) (names_there class at product) f g e
 
   currencies_same : Same class.FX id.Single → currencies_in p product f ≡ currencies_in p product g
-  currencies_same e = same_there (currencies_in p product) (currency_place product) (currencies_alone product p) f g e
+  currencies_same e = same_there (risky_nets p) (currencies_in p product) (currency_place product) (currencies_there p product) f g e
 
   indices_same : Same class.CreditQ id.Single → indices_of product f ≡ indices_of product g
-  indices_same e = same_there (indices_of product) (base_place product) (indices_alone product) f g e
+  indices_same e = same_there index_nets (indices_of product) (base_place product) (indices_there product) f g e
 
   -- ---- have its value alike
 

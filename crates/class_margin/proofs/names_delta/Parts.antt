@@ -1,7 +1,7 @@
 -- The parts of a class that has buckets: the numbered ones and the residual one.
 use Rattle.std.proofs.Common.{◌≡◌, ◌^◌, ℕ, ◌+◌, ◌*◌, ◌<◌, ◌≤◌, List, [], ◌∷◌, ◌++◌, map, take, length, get_or, Bool, true, false, not, ◌==◌, if◌then◌else◌, Some, None, refl, sym, ap, ◌∙◌, subst, ℤ, pos, ◌+ℤ◌, ◌*ℤ◌, ◌≤ℤ◌, unsigned_abs, FitsSigned, arith}
 use Rattle.std.specs.Prelude.{sum_by}
-use Rattle.std.specs.declared.cmp.Ordering.TheVariants.{Less, Equal}
+use Rattle.std.specs.declared.cmp.Ordering.TheVariants.{Less}
 use Rattle.std.specs.Ordering.{is_eq}
 use Rattle.std.specs.List.{AllByRecursion}
 use Rattle.std.specs.List.Sorted.{IsStrictlySortedBy}
@@ -260,24 +260,3 @@ whole_sum ps outer residual margins positive range made low high is =
     let own : pos 0 ≤ℤ residual = subst (λ z. pos 0 ≤ℤ z) (sym is) (residual-low ps positive) in
     let split : sizes_numbered ps + unsigned_abs residual ≤ sum_by size ps = subst (λ z. sizes_numbered ps + unsigned_abs z ≤ sum_by size ps) (sym is) (split_sizes ps) in
     sum_facts outer residual (sizes_numbered ps) (sum_by size ps) low most own split range
-
--- ---- foreign exchange
-
--- there is one part at most
-pub single_first : (ps : List Whole) (part : Whole) → AllByRecursion (λ p. p.0 ≡ id.Single) ps → IsStrictlySortedBy bucket_id_cmp (map (λ p. p.0) ps) → 0 < length ps → part ≡ get_or ps 0 part → (part.1).k ≡ total_by (λ p. (p.1).k) ps
-unfolding IsStrictlySortedBy
-single_first [] part singles s h at = absurd (omega arith)
-single_first (p ∷ []) part singles s h at = ap (λ (x : Whole). (x.1).k) at ∙ sym (+ℤ_idr (p.1).k)
-single_first (p ∷ q ∷ ps) part singles s h at =
-    let same : bucket_id_cmp p.0 q.0 ≡ bucket_id_cmp id.Single id.Single = ap (λ b. bucket_id_cmp b q.0) singles.0 ∙ ap (bucket_id_cmp id.Single) singles.1.0 in
-    let tied : bucket_id_cmp id.Single id.Single ≡ Equal = refl in
-    let less : bucket_id_cmp p.0 q.0 ≡ Less = s.0.0 in
-    absurd (cc)
-
-pub total-low : (ps : List Whole) → AllByRecursion (λ part. pos 0 ≤ℤ (part.1).k) ps → pos 0 ≤ℤ total_by (λ part. (part.1).k) ps
-total-low [] h = omega (arith, ints)
-total-low (part ∷ ps) h = omega (arith, ints, h.0, total-low ps h.1)
-
-pub total-high : (ps : List Whole) → total_by (λ part. (part.1).k) ps ≤ℤ pos (sum_by size ps)
-total-high [] = omega (arith, ints)
-total-high (part ∷ ps) = omega (arith, ints, total-high ps, sum_by-cons size part ps)

@@ -1,6 +1,6 @@
 -- Netting makes no weighted size greater.
-use Rattle.std.proofs.Common.{◌≡◌, ℕ, ◌+◌, ◌*◌, ◌≤◌, List, [], ◌∷◌, map, Bool, true, false, not, cond, if◌then◌else◌, Option, Some, None, refl, sym, ap, ◌∙◌, subst, ℤ, pos, negsuc, ◌+ℤ◌, ◌*ℤ◌, ◌≤ℤ◌, unsigned_abs, arith, mul-le-mul_right}
-use Rattle.std.specs.List.{filter, AllByRecursion}
+use Rattle.std.proofs.Common.{◌≡◌, ℕ, ◌≤◌, List, [], ◌∷◌, map, Bool, true, false, cond, if◌then◌else◌, Option, Some, None, refl, sym, ap, ◌∙◌, subst, ℤ, pos, negsuc, ◌+ℤ◌, ◌*ℤ◌, ◌≤ℤ◌, unsigned_abs, arith, mul-le-mul_right}
+use Rattle.std.specs.List.{filter}
 use Rattle.std.proofs.Math.IntN.{+ℤ_idl, *ℤ_comm, zero-*ℤ}
 use Rattle.std.proofs.lemmas.Int.{ints}
 use Rattle.class_rates.proofs.MhUnits.Integers.{unsigned_abs-add}
@@ -13,7 +13,7 @@ use Rattle.class_rates.specs.SimmRules.Net.{Sensitivity, sensitivities, in_produ
 use Rattle.class_rates.specs.SimmRules.Risks.{Risk, risk, Amount, select}
 use Rattle.class_rates.specs.SimmRules.Gross.{size_by}
 use Rattle.class_rates.specs.FactorBook.declared.holding.Holding.{Holding}
-use Rattle.class_rates.specs.FactorBook.Factors.{size_of, factor_of, factors_in, factors_of, net_of}
+use Rattle.class_rates.specs.FactorBook.Factors.{size_of, factor_of, factors_of, net_of}
 use Rattle.class_rates.proofs.FactorBook.Sums.{total_by-map, total_by-agree}
 use Rattle.class_rates.specs.MeasuredBucket.Values.{nets_in}
 use Rattle.class_rates.proofs.MeasuredBucket.Selected.{select_none, select_some}

@@ -1,21 +1,17 @@
--- Lists of which each element has a fact, and places of ascending items.
-use Rattle.std.proofs.Common.{◌≡◌, ℕ, ◌<◌, List, [], ◌∷◌, map, length, get_or, Bool, cond, ◌==◌, refl, sym, ap, ◌∙◌, arith}
+-- Lists of which each element has a fact, places of ascending items, and different ones.
+use Rattle.std.proofs.Common.{◌≡◌, ℕ, ◌<◌, List, [], ◌∷◌, map, length, get_or, ◌==◌, refl, sym, ap, ◌∙◌, arith}
 use Rattle.std.specs.declared.cmp.Ordering.{Ordering}
-use Rattle.std.specs.declared.cmp.Ordering.TheVariants.{Less}
+use Rattle.std.specs.declared.cmp.Ordering.TheVariants.{Less, Equal, Greater}
 use Rattle.std.specs.Ordering.{is_eq}
 use Rattle.std.specs.Cmp.{IsTotalOrder}
-use Rattle.std.specs.List.{filter, AllByRecursion}
+use Rattle.std.specs.List.{AllByRecursion}
 use Rattle.std.specs.List.Sorted.{IsStrictlySortedBy}
 use Rattle.std.proofs.lemmas.List.{get_or-map, length-map}
+use Rattle.class_rates.specs.SimmRules.Sums.{put_in, placed, different}
 use Rattle.class_rates.proofs.MeasuredBucket.Lists.{each_always, each_map, same_place}
 
 pub all_map : {X A : Type 0} (P : A → Type 0) (f : X → A) (xs : List X) → ((x : X) → P (f x)) → AllByRecursion P (map f xs)
 all_map P f xs h = each_map P f xs (each_always (λ x. P (f x)) h xs)
-
--- two tests that agree at each element keep the same
-pub filter_agrees : {X : Type 0} (p q : X → Bool) → ((x : X) → p x ≡ q x) → (xs : List X) → filter p xs ≡ filter q xs
-filter_agrees p q h [] = refl
-filter_agrees p q h (x ∷ xs) = ap (λ t. cond t (x ∷ filter p xs) (filter p xs)) (h x) ∙ ap (λ ys. cond (q x) (x ∷ ys) ys) (filter_agrees p q h xs)
 
 -- ---- ascending items
 
@@ -36,3 +32,21 @@ map_ascends cmp other f same (x ∷ xs) s = (each_map (λ b. other (f x) b ≡ L
     after : (ys : List _) → AllByRecursion (λ y. cmp x y ≡ Less) ys → AllByRecursion (λ y. other (f x) (f y) ≡ Less) ys
     after [] h = tt
     after (y ∷ ys) h = (same x y ∙ h.0, after ys h.1)
+
+-- ---- different items under a function that keeps their order
+
+module _ {A B : Type 0} (cmp : A → A → Ordering) (other : B → B → Ordering) (f : A → B) (same : (a b : A) → other (f a) (f b) ≡ cmp a b) where
+  placed-map : (o : Ordering) (x y : A) (ys deeper : List A) → map f (placed o x y ys deeper) ≡ placed o (f x) (f y) (map f ys) (map f deeper)
+  placed-map Less x y ys deeper = refl
+  placed-map Equal x y ys deeper = refl
+  placed-map Greater x y ys deeper = refl
+
+  put_in-map : (x : A) (ys : List A) → map f (put_in cmp x ys) ≡ put_in other (f x) (map f ys)
+  put_in-map x [] = refl
+  put_in-map x (y ∷ ys) =
+      placed-map (cmp x y) x y ys (put_in cmp x ys) ∙ ap (λ o. placed o (f x) (f y) (map f ys) (map f (put_in cmp x ys))) (sym (same x y))
+      ∙ ap (placed (other (f x) (f y)) (f x) (f y) (map f ys)) (put_in-map x ys)
+
+  pub different-map : (xs : List A) → map f (different cmp xs) ≡ different other (map f xs)
+  different-map [] = refl
+  different-map (x ∷ xs) = put_in-map x (different cmp xs) ∙ ap (put_in other (f x)) (different-map xs)

@@ -1,7 +1,5 @@
 -- The buckets of a product class's rates are its currencies.
 use Rattle.std.proofs.Common.{◌≡◌, List, [], ◌∷◌, map, Option, Some, None, is_some, Bool, true, false, ◌&&◌, cond, refl, sym, ap, ◌∙◌}
-use Rattle.std.specs.declared.cmp.Ordering.{Ordering}
-use Rattle.std.specs.declared.cmp.Ordering.TheVariants.{Less, Equal, Greater}
 use Rattle.std.specs.List.{filter}
 use Rattle.std.proofs.lemmas.Simd.{map-map}
 use Rattle.class_rates.specs.SimmKinds.declared.kinds.ProductClass.{ProductClass}
@@ -13,7 +11,7 @@ use Rattle.class_rates.specs.SimmKinds.declared.factor.Factor.TheVariants as fac
 use Rattle.class_rates.specs.SimmKinds.declared.key.FactorKey.{FactorKey}
 use Rattle.class_rates.specs.SimmKinds.Factors.{class_of, side_of, bucket_of}
 use Rattle.class_rates.specs.SimmKinds.Order.{same_product, same_class, name_cmp, bucket_id_cmp}
-use Rattle.class_rates.specs.SimmRules.Sums.{put_in, placed, different}
+use Rattle.class_rates.specs.SimmRules.Sums.{different}
 use Rattle.class_rates.specs.SimmRules.Net.{Sensitivity}
 use Rattle.class_rates.specs.SimmRules.Risks.{risk, Amount, select}
 use Rattle.class_rates.specs.SimmRules.Rates.{RateIn, as_rate}
@@ -25,24 +23,7 @@ use Rattle.class_rates.specs.FactorBook.Places.{same_side}
 use Rattle.class_margin.specs.rates_delta.Bucket.{nets_of, is_rate, buckets_at}
 use Rattle.class_margin.specs.rates_delta.Parts.{currencies_of}
 use Rattle.class_rates.proofs.MeasuredBucket.Selected.{select_none, select_some}
-
--- ---- different items under a function that keeps their order
-
-module _ {A B : Type 0} (cmp : A → A → Ordering) (other : B → B → Ordering) (f : A → B) (same : (a b : A) → other (f a) (f b) ≡ cmp a b) where
-  placed-map : (o : Ordering) (x y : A) (ys deeper : List A) → map f (placed o x y ys deeper) ≡ placed o (f x) (f y) (map f ys) (map f deeper)
-  placed-map Less x y ys deeper = refl
-  placed-map Equal x y ys deeper = refl
-  placed-map Greater x y ys deeper = refl
-
-  put_in-map : (x : A) (ys : List A) → map f (put_in cmp x ys) ≡ put_in other (f x) (map f ys)
-  put_in-map x [] = refl
-  put_in-map x (y ∷ ys) =
-      placed-map (cmp x y) x y ys (put_in cmp x ys) ∙ ap (λ o. placed o (f x) (f y) (map f ys) (map f (put_in cmp x ys))) (sym (same x y))
-      ∙ ap (placed (other (f x) (f y)) (f x) (f y) (map f ys)) (put_in-map x ys)
-
-  different-map : (xs : List A) → map f (different cmp xs) ≡ different other (map f xs)
-  different-map [] = refl
-  different-map (x ∷ xs) = put_in-map x (different cmp xs) ∙ ap (put_in other (f x)) (different-map xs)
+use Rattle.class_margin.proofs.rates_delta.Lists.{different-map}
 
 -- ---- rates among the factors
 

@@ -29,10 +29,10 @@ use Rattle.class_rates.proofs.SimmKinds.Variants.{is_eq-Equal}
 use Rattle.class_rates.proofs.MeasuredBucket.Lists.{each_weaker, kept_pass}
 use Rattle.class_rates.proofs.MeasuredBucket.Sizes.{size_one, size_all, size_is}
 use Rattle.class_rates.proofs.RateColumns.{weight_positive}
-use Rattle.class_margin.specs.rates_delta.Bucket.{rates_at, delta_value}
 use Rattle.class_margin.specs.rates_delta.Range.{IsBucket, IsClass, IsPart}
 use Rattle.class_margin.specs.rates_delta.Parts.{parts_of, margin_over, IsCurrency, AreParts, currencies_of, buckets_of}
-use Rattle.class_margin.proofs.rates_delta.Lists.{all_map, map_ascends, filter_agrees}
+use Rattle.book_range.proofs.Lists.{filter_agrees}
+use Rattle.class_margin.proofs.rates_delta.Lists.{all_map, map_ascends}
 use Rattle.class_margin.proofs.rates_delta.Sums.{sum_by-map, sum_by-below, sum_by-shifted, sum_by-scaled, sum_by-ones, sum_by-filter, sum_by-agrees}
 use Rattle.class_margin.proofs.rates_delta.Values.{is_part, margin_close}
 
@@ -40,7 +40,7 @@ use Rattle.class_margin.proofs.rates_delta.Values.{is_part, margin_close}
 
 module _ (p : Params) (ss : List Sensitivity) where
   abbrev bucket_at : List ℕ → BucketId × BucketMargin
-  bucket_at currency = (id.Currency currency, delta_value p (id.Currency currency) ss)
+  bucket_at currency = (id.Currency currency, currency_value p currency (rates_in currency ss))
 
   parts_at : (currencies : List (List ℕ)) → parts_of (map bucket_at currencies) ≡ map (λ currency. record { at = currency; value = currency_value p currency (rates_in currency ss) }) currencies
   parts_at [] = refl
@@ -106,20 +106,11 @@ module _ (p : Params) (ss : List Sensitivity) (facts : IsParams p) (weighed : (c
       (kept_pass (λ (a : Amount RateIn). same_name (a.of).currency currency) (select as_rate ss))
 
   -- the rates of each currency are in range
-  is_bucket : (currency : List ℕ) → IsBucket p (of currency)
+  pub is_bucket : (currency : List ℕ) → IsBucket p (of currency)
   is_bucket currency = record {
     few = its.few_each currency;
     small = omega (arith, ints, sizes_are (of currency), sum_by-filter weighted_net (λ a. same_name (a.of).currency currency) (select as_rate ss), weighted_in);
   }
-
-  no_more : IsBucket p []
-  no_more = record { few = omega arith; small = omega (arith, ints) }
-
-  pub each_bucket : (bucket : BucketId) → IsBucket p (rates_at bucket ss)
-  each_bucket (id.Number n) = no_more
-  each_bucket id.Residual = no_more
-  each_bucket (id.Currency currency) = is_bucket currency
-  each_bucket id.Single = no_more
 
   abbrev margin_at : List ℕ → ℕ
   margin_at currency = unsigned_abs (currency_value p currency (of currency)).k

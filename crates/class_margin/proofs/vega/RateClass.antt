@@ -5,7 +5,6 @@ use Rattle.std.specs.List.Sorted.{IsStrictlySortedBy}
 use Rattle.std.proofs.lemmas.Cmp.{nat_list_cmp_total}
 use Rattle.std.proofs.lemmas.Int.{ints}
 use Rattle.std.proofs.lemmas.List.Elements.{All-from_recursion}
-use Rattle.std.proofs.lemmas.Map.Lookups.{exact_bytes}
 use Rattle.std.proofs.lemmas.Simd.{map-map}
 use Rattle.class_rates.specs.SimmKinds.declared.kinds.BucketId.{BucketId}
 use Rattle.class_rates.specs.SimmKinds.declared.kinds.BucketId.TheVariants as id

@@ -1,5 +1,5 @@
--- The value of a bucket hangs on its own volatilities alone, and takes steps for no more than these.
-use Rattle.std.proofs.Common.{◌≡◌, ◌≤◌, List, length, Option, Some, None, refl, ap, subst, arith}
+-- The value of a bucket hangs on its own volatilities alone.
+use Rattle.std.proofs.Common.{◌≡◌, List, Option, Some, None, refl, ap, subst}
 use Rattle.std.specs.Prelude.{option_map, IsSomeAnd}
 use Rattle.class_rates.specs.SimmKinds.declared.kinds.ProductClass.{ProductClass}
 use Rattle.class_rates.specs.SimmKinds.declared.kinds.RiskClass.{RiskClass}
@@ -23,13 +23,13 @@ use Rattle.class_rates.specs.FactorBook.Places.{factors_at}
 use Rattle.class_rates.specs.SimmKinds.Factors.{listed_id}
 use Rattle.class_priced.specs.Names.{priced_risk_class}
 use Rattle.class_credit.specs.Points.{credit_risk_class}
-use Rattle.class_margin.specs.volatilities.Buckets.{VolatileBucket, Currency_bucket, Credit_bucket, Priced_bucket, Pairs_bucket, currency_bucket_at, credit_bucket_at, priced_bucket_at, pairs_bucket_at, volatile_by_class, volatile_bucket, count_at, count_in, factor_count}
+use Rattle.class_margin.specs.volatilities.Buckets.{VolatileBucket, Currency_bucket, Credit_bucket, Priced_bucket, Pairs_bucket, currency_bucket_at, credit_bucket_at, priced_bucket_at, pairs_bucket_at, volatile_by_class, volatile_bucket}
 use Rattle.class_margin.specs.volatilities.Places.{currency_place, points_place, names_place, pairs_place}
 use Rattle.class_margin.specs.volatilities.Ranges.{alone}
 use Rattle.class_margin.specs.vega.Values.{IsSized}
 use Rattle.class_margin.specs.vega.Vega.{vega_at, vega_in, vega_value, IsVegaSizedAt, IsVegaSizedIn, IsVegaSized}
 use Rattle.class_margin.specs.volatility.Vega.{volatility_place}
-use Rattle.class_margin.proofs.volatility.VolatilePlaces.{volatilities_same, points_same, names_same, pairs_same, volatilities_few, points_few, names_few, pairs_few}
+use Rattle.class_margin.proofs.volatility.VolatilePlaces.{volatilities_same, points_same, names_same, pairs_same}
 
 -- where its volatilities stand
 abbrev pub place_at : VolatileBucket → Place
@@ -103,14 +103,3 @@ value_same p at f g = by_bucket (λ b place. factors_at place f ≡ factors_at p
 
 pub sized_same : (p : Params) (at : BucketAt) (f g : List (FactorKey × Holding)) → factors_at (volatility_place at) f ≡ factors_at (volatility_place at) g → (m : BucketMargin) → IsVegaSized p at f m → IsVegaSized p at g m
 sized_same p at f g e m = by_bucket (λ b place. factors_at place f ≡ factors_at place g → IsVegaSizedIn p b f m → IsVegaSizedIn p b g m) (λ place d h. absurd h) (one_sized p f g m) at e
-
--- ---- how many factors it has
-
-one_few : (fs : List (FactorKey × Holding)) (b : VolatileBucket) → count_at b fs ≤ length (factors_at (place_at b) fs)
-one_few fs (Currency_bucket currency product) = volatilities_few product fs currency
-one_few fs (Credit_bucket c at product) = points_few product fs c at
-one_few fs (Priced_bucket c at product) = names_few product fs c at
-one_few fs (Pairs_bucket product) = pairs_few product fs
-
-pub few : (at : BucketAt) (fs : List (FactorKey × Holding)) → factor_count at fs ≤ length (factors_at (volatility_place at) fs)
-few at fs = by_bucket (λ b place. count_in b fs ≤ length (factors_at place fs)) (λ place. omega arith) (one_few fs) at

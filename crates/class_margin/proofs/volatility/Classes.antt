@@ -28,7 +28,9 @@ use Rattle.class_rates.specs.FactorBook.Factors.{factors_of}
 use Rattle.book_range.specs.Bounded.{IsBounded}
 use Rattle.class_margin.specs.rates_delta.Parts.{margin_over as over_currencies}
 use Rattle.class_margin.specs.rates_delta.Parts.{AreParts as AreRateParts}
-use Rattle.class_margin.specs.names_delta.Combine.{parts_in, IsListed, IsNamed, HasBucket, AreSized, AreParts as AreNamedParts}
+use Rattle.class_margin.specs.names_delta.Combine.{parts_in, IsListed, HasBucket, AreSized}
+use Rattle.class_margin.proofs.names_delta.ByClass.{combined_by_class, AreParts}
+use Rattle.class_margin.proofs.delta.InBook.{IsNumbered}
 use Rattle.class_rates.specs.SimmKinds.Factors.{listed_id}
 use Rattle.class_priced.specs.Names.{priced_risk_class}
 use Rattle.class_credit.specs.Points.{credit_risk_class}
@@ -43,14 +45,14 @@ use Rattle.class_margin.proofs.Valued.{Whole, ids}
 use Rattle.class_margin.specs.volatilities.Buckets.{currency_bucket_at, credit_bucket_at, priced_bucket_at}
 use Rattle.class_margin.specs.volatilities.Places.{points_of, name_volatilities}
 use Rattle.class_margin.specs.volatilities.Ranges.{alone}
-use Rattle.class_margin.specs.vega.Combine.{vega_over, AreParts, currency_buckets, volatility_buckets, IsRateClass}
+use Rattle.class_margin.specs.vega.Combine.{currency_buckets, volatility_buckets, IsRateClass}
 use Rattle.class_margin.specs.vega.Values.{IsSized}
 use Rattle.class_margin.specs.vega.Vega.{vega_in, IsVegaSizedIn}
 use Rattle.class_margin.proofs.vega.Idle.{credit_kept, priced_kept}
-use Rattle.class_margin.specs.volatility.Vega.{class_vega_of, volatility_side, HasBuckets, IsValued}
+use Rattle.class_margin.specs.volatility.Vega.{class_vega_of, volatility_side, IsValued}
 use Rattle.class_margin.proofs.volatility.Bounds.{rates_range, credit_class, priced_class}
-use Rattle.class_margin.proofs.volatility.InBook.{none_of, no_points, no_names, parts_have}
-use Rattle.class_margin.proofs.volatility.Listed.{has, IsOwned, owned, margin_of_parts}
+use Rattle.class_margin.proofs.volatility.InBook.{IsNamed, none_of, no_points, no_names, parts_have}
+use Rattle.class_margin.proofs.delta.Owned.{has, IsOwned, owned, margin_of_parts}
 use Rattle.class_margin.proofs.volatility.Parts.{some_and, at_listed}
 use Rattle.class_margin.proofs.volatility.Ready.{credit_found}
 use Rattle.class_margin.proofs.volatility.Sizes.{IsSizedIn, parts_small, parts_sized}
@@ -62,7 +64,13 @@ pos_one = pos 10000
 -- what the parts of a class come to
 pub record IsDone (p : Params) (c : RiskClass) (ss : List Sensitivity) (parts : List Whole) : Type 0 where
   pub are : AreParts p c parts
-  pub margin : (z : ℤ) → Some z ≡ vega_over p c parts → z ≡ class_vega_of p ss c
+  pub margin : (z : ℤ) → Some z ≡ combined_by_class p c parts → z ≡ class_vega_of p ss c
+  pub small : sum_by (λ part. unsigned_abs (part.1).k) parts < 84 * 10 ^ 14
+
+-- and those of interest rates
+pub record AreRatesDone (p : Params) (ss : List Sensitivity) (parts : List Whole) : Type 0 where
+  pub are : AreRateParts parts
+  pub margin : over_currencies p parts ≡ rate_vega p ss
   pub small : sum_by (λ part. unsigned_abs (part.1).k) parts < 84 * 10 ^ 14
 
 was_some : (z : ℤ) (y : ℤ) → Some z ≡ Some y → z ≡ y
@@ -75,7 +83,7 @@ pub record AreRateLaws (p : Params) : Type 0 where
   pub parts : (ss : List Sensitivity) → IsRateClass ss → AreRateParts (currency_buckets p ss)
   pub stand : (product : ProductClass) (fs : List (FactorKey × Holding)) → volatility_buckets (record { product = product; class = class.IR }) fs ≡ map id.Currency (volatility_currencies (nets_in product fs))
 
-module _ (p : Params) (facts : IsParams p) (laws : AreRateLaws p) (held : List CrifRow) (bounded : IsBounded p held) (amounts : list_all is_in_range held ≡ true) (product : ProductClass) (sizes : SizesAreNetted held) where
+module _ (p : Params) (facts : IsParams p) (held : List CrifRow) (bounded : IsBounded p held) (amounts : list_all is_in_range held ≡ true) (product : ProductClass) (sizes : SizesAreNetted held) where
   abbrev fs : List (FactorKey × Holding)
   fs = factors_of held
 
@@ -93,15 +101,15 @@ module _ (p : Params) (facts : IsParams p) (laws : AreRateLaws p) (held : List C
   abbrev value_of : List ℕ → BucketMargin
   value_of currency = currency_vega_value p currency (volatilities_in currency ss)
 
-  rates_done : (parts : List Whole) → ids parts ≡ volatility_buckets (class_at class.IR) fs → AllByRecursion (IsValued p (class_at class.IR) fs) parts → IsDone p class.IR ss parts
-  rates_done parts are values =
+  pub rates_done : AreRateLaws p → (parts : List Whole) → map (λ part. part.0) parts ≡ volatility_buckets (record { product = product; class = class.IR }) (factors_of held) → AllByRecursion (IsValued p (record { product = product; class = class.IR }) (factors_of held)) parts → AreRatesDone p (nets_in product (factors_of held)) parts
+  rates_done laws parts are values =
       let own : AllByRecursion (IsCurrencyPart value_of) parts = each_weaker (IsValued p (class_at class.IR) fs) (IsCurrencyPart value_of)
       (λ part v currency e. was_value part.1 (value_of currency) (v.value ∙ ap (λ b. vega_in p (currency_bucket_at b product) fs) e)) parts values in
       let made : parts ≡ currency_buckets p ss = by_currency value_of parts (volatility_currencies ss) (are ∙ laws.stand product fs) own in
       let its : AreRateParts (currency_buckets p ss) = laws.parts ss (rates_range p facts held bounded amounts product sizes) in
       record {
         are = subst AreRateParts (sym made) its;
-        margin = λ z e. was_some z (rate_vega p ss) (e ∙ ap (λ q. Some (over_currencies p q)) made ∙ ap Some (laws.whole ss));
+        margin = ap (over_currencies p) made ∙ laws.whole ss;
         small = subst (λ q. sum_by (λ (part : Whole). unsigned_abs (part.1).k) q < 84 * 10 ^ 14) (sym made) its.small;
       }
 
@@ -169,8 +177,8 @@ module _ (p : Params) (facts : IsParams p) (laws : AreRateLaws p) (held : List C
       both : (c : RiskClass) → IsNamed c → ids parts ≡ volatility_buckets (class_at c) fs → AllByRecursion (IsValued p (class_at c) fs) parts → AllByRecursion (Both c) parts
       both c n are values = each_both (λ part. HasBucket p c part.0) (IsValued p (class_at c) fs) parts (parts_have p (class_at c) n held admitted parts are) values
 
-      named_parts : (c : RiskClass) → IsNamed c → ids parts ≡ volatility_buckets (class_at c) fs → AreSized parts → AreNamedParts p c parts
-      named_parts c n are sized = record { named = n; buckets = parts_have p (class_at c) n held admitted parts are; sized = sized }
+      named_parts : (c : RiskClass) → IsNamed c → ids parts ≡ volatility_buckets (class_at c) fs → AreSized parts → AreParts p c parts
+      named_parts c n are sized = record { buckets = parts_have p (class_at c) n held admitted parts are; sized = sized }
 
       -- of credit
       module _ (c : CreditClass) (own : AllByRecursion (credit_owned c) parts) (s : IsStrictlySortedBy bucket_id_cmp (ids parts)) where
@@ -187,8 +195,8 @@ module _ (p : Params) (facts : IsParams p) (laws : AreRateLaws p) (held : List C
         priced_small : sum_by (λ part. unsigned_abs (part.1).k) parts < 84 * 10 ^ 14
         priced_small = parts_small (λ (b : PricedBucket). (b.terms).id) (λ b. b.sigma) (names c) (priced_params p c).buckets (its_priced c) (name_value c) parts own s
 
-      pub done : (c : RiskClass) → HasBuckets c → map (λ part. part.0) parts ≡ volatility_buckets (record { product = product; class = c }) (factors_of held) → AllByRecursion (IsValued p (record { product = product; class = c }) (factors_of held)) parts → IsDone p c (nets_in product (factors_of held)) parts
-      done class.IR n are values = rates_done parts are values
+      pub done : (c : RiskClass) → IsNumbered c → map (λ part. part.0) parts ≡ volatility_buckets (record { product = product; class = c }) (factors_of held) → AllByRecursion (IsValued p (record { product = product; class = c }) (factors_of held)) parts → IsDone p c (nets_in product (factors_of held)) parts
+      done class.IR n are values = absurd n
       done class.CreditQ n are values =
           let own : AllByRecursion (credit_owned Qualifying) parts = each_weaker (Both class.CreditQ) (credit_owned Qualifying) (λ part h. credit_owns Qualifying part h.0 h.1.value h.1.sized) parts (both class.CreditQ tt are values) in
           let s = ascend class.CreditQ parts are in

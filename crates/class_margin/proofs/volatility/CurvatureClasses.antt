@@ -16,7 +16,7 @@ use Rattle.class_rates.specs.FactorBook.declared.at.ClassAt.{ClassAt}
 use Rattle.class_rates.specs.FactorBook.declared.holding.Holding.{Holding}
 use Rattle.class_rates.specs.FactorBook.Factors.{factors_of}
 use Rattle.book_range.specs.Bounded.{IsBounded}
-use Rattle.class_margin.specs.names_delta.Combine.{IsNamed, HasBucket}
+use Rattle.class_margin.specs.names_delta.Combine.{HasBucket}
 use Rattle.class_margin.specs.names_delta.Values.{nets_in}
 use Rattle.class_rates.proofs.MeasuredBucket.Lists.{each_weaker, each_both}
 use Rattle.class_margin.proofs.names_delta.Shrinking.{SizesAreNetted}
@@ -24,7 +24,7 @@ use Rattle.class_margin.proofs.Valued.{Whole, ids}
 use Rattle.class_margin.specs.vega.Combine.{volatility_buckets}
 use Rattle.class_margin.specs.curvature.Combine.{curvature_by_class, margins_size, gross_size, AreParts}
 use Rattle.class_margin.specs.curvature.Combine.{HasBucket as HasCurved}
-use Rattle.class_margin.proofs.volatility.InBook.{parts_have}
+use Rattle.class_margin.proofs.volatility.InBook.{IsNamed, parts_have}
 use Rattle.class_margin.specs.volatility.Curvature.{class_curvature_of, IsValued}
 use Rattle.class_margin.proofs.volatility.CurvatureJoinable.{AreJoinable, sized, bounded}
 use Rattle.class_margin.proofs.volatility.CurvatureNumbered.{credit_owned, credit_owns, credit_joinable, credit_total, priced_owned, priced_owns, priced_joinable, priced_total}

@@ -46,7 +46,7 @@ use Rattle.class_margin.proofs.curvature.Idle.{credit_kept, priced_kept}
 use Rattle.class_margin.specs.volatility.Vega.{volatility_side}
 use Rattle.class_margin.proofs.volatility.Bounds.{nets_few, credit_class, priced_class}
 use Rattle.class_margin.proofs.volatility.InBook.{none_of, no_points, no_names}
-use Rattle.class_margin.proofs.volatility.Listed.{has, size, sizes_low, IsOwned, owned, margin_of_parts, share_is, shares_within}
+use Rattle.class_margin.proofs.delta.Owned.{has, size, sizes_low, IsOwned, owned, margin_of_parts, share_is, shares_within}
 use Rattle.class_margin.proofs.volatility.Ready.{credit_found}
 use Rattle.class_margin.proofs.volatility.Parts.{some_and, at_listed}
 use Rattle.class_margin.proofs.volatility.CurvatureAlike.{curvature_alike}

@@ -42,7 +42,8 @@ use Rattle.class_margin.specs.curvature.Values.{IsSizedBy}
 use Rattle.class_margin.proofs.curvature.Idle.{pairs_none}
 use Rattle.class_margin.specs.volatility.Vega.{volatility_side}
 use Rattle.class_margin.proofs.volatility.Bounds.{pairs_range}
-use Rattle.class_margin.proofs.volatility.VolatilePlaces.{pairs_alone}
+use Rattle.class_exchange.specs.Pairs.{pair_nets}
+use Rattle.class_exchange.proofs.VolatilePairs.{pairs_there}
 use Rattle.class_margin.specs.volatility.Curvature.{IsValued}
 use Rattle.class_margin.proofs.volatility.CurvatureJoinable.{AreJoinable}
 
@@ -74,7 +75,7 @@ module _ (p : Params) (facts : IsParams p) (held : List CrifRow) (bounded : IsBo
   -- ---- a book without volatilities of pairs
 
   no_pairs : [] ≡ volatility_buckets pairs_at fs → pairs ≡ []
-  no_pairs none = sym (pairs_alone product fs) ∙ ap (pair_volatilities product) (none_single (volatility_side pairs_at) fs [] none refl)
+  no_pairs none = sym (pairs_there product fs) ∙ ap pair_nets (none_single (volatility_side pairs_at) fs [] none refl)
 
   -- ---- the part
 

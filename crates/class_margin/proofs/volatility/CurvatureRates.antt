@@ -36,9 +36,9 @@ use Rattle.class_margin.proofs.OnSide.{buckets_ascend}
 use Rattle.class_margin.proofs.Valued.{Whole, ids}
 use Rattle.class_margin.specs.vega.Combine.{volatility_buckets}
 use Rattle.class_margin.proofs.vega.RateBuckets.{buckets_are}
-use Rattle.class_margin.specs.volatilities.Buckets.{currency_bucket_at, count_in}
+use Rattle.class_margin.specs.volatilities.Buckets.{currency_bucket_at}
 use Rattle.class_margin.specs.volatilities.Ranges.{alone}
-use Rattle.class_margin.proofs.volatilities.Currencies.{counts, sizes}
+use Rattle.class_margin.proofs.volatility.Currencies.{counts, sizes}
 use Rattle.class_margin.specs.curvature.Combine.{curvature_by_class, currency_buckets}
 use Rattle.class_margin.specs.curvature.Curvature.{curvature_in, IsCurvatureSizedIn}
 use Rattle.class_margin.specs.curvature.Values.{IsSizedBy}
@@ -69,7 +69,13 @@ module _ (p : Params) (facts : IsParams p) (held : List CrifRow) (bounded : IsBo
   rate_size (id.Currency currency) = size_by alone (of currency)
   rate_size id.Single = pos 0
 
-  one_sized : (k : BucketId) (m : BucketMargin) → IsCurvatureSizedIn p (currency_bucket_at k product) fs m → IsSizedBy (rate_size k) (count_in (currency_bucket_at k product) fs) m
+  abbrev rate_count : BucketId → ℕ
+  rate_count (id.Number n) = 0
+  rate_count id.Residual = 0
+  rate_count (id.Currency currency) = length (of currency)
+  rate_count id.Single = 0
+
+  one_sized : (k : BucketId) (m : BucketMargin) → IsCurvatureSizedIn p (currency_bucket_at k product) fs m → IsSizedBy (rate_size k) (rate_count k) m
   one_sized (id.Number n) m h = absurd h
   one_sized id.Residual m h = absurd h
   one_sized (id.Currency currency) m h = h
@@ -91,7 +97,7 @@ module _ (p : Params) (facts : IsParams p) (held : List CrifRow) (bounded : IsBo
   size_of part = rate_size part.0
 
   abbrev count_of : Whole → ℕ
-  count_of part = count_in (currency_bucket_at part.0 product) fs
+  count_of part = rate_count part.0
 
   module _ (parts : List Whole) (are : ids parts ≡ volatility_buckets rates_at fs) (values : AllByRecursion (IsValued p rates_at fs) parts) where
     made : parts ≡ currency_buckets p ss

@@ -24,7 +24,7 @@ use Rattle.class_rates.specs.FactorBook.Factors.{factors_of}
 use Rattle.class_rates.specs.FactorBook.Place.{book_side}
 use Rattle.class_rates.specs.FactorBook.Places.{same_side, factors_at, is_on, place_in}
 use Rattle.class_margin.specs.rates_delta.Parts.{IsCurrency}
-use Rattle.class_margin.specs.names_delta.Combine.{IsNamed, HasBucket}
+use Rattle.class_margin.specs.names_delta.Combine.{HasBucket}
 use Rattle.class_rates.proofs.MeasuredBucket.Lists.{each_weaker, each_both, each_map, each_unmap, each_kept, kept_pass}
 use Rattle.class_margin.proofs.delta.InBook.{IsAdmitted, factors_admitted}
 use Rattle.class_margin.proofs.delta.Lists.{different_each}
@@ -33,8 +33,20 @@ use Rattle.class_margin.proofs.Valued.{Whole, ids}
 use Rattle.class_margin.specs.vega.Combine.{volatility_buckets}
 use Rattle.class_margin.specs.volatilities.Places.{points_place, names_place, points_of, name_volatilities}
 use Rattle.class_margin.specs.volatility.Vega.{volatility_side}
-use Rattle.class_margin.proofs.volatility.Listed.{has}
-use Rattle.class_margin.proofs.volatility.VolatilePlaces.{points_alone, names_alone}
+use Rattle.class_margin.proofs.delta.Owned.{has}
+use Rattle.class_credit.specs.Points.{point_nets}
+use Rattle.class_credit.proofs.VolatilePoints.{volatilities_there as points_there}
+use Rattle.class_priced.specs.Names.{volatility_nets}
+use Rattle.class_priced.proofs.VolatileNames.{volatilities_there as names_there}
+
+-- a class that has a bucket but those of currencies
+abbrev pub IsNamed : RiskClass → Type 0
+IsNamed class.IR = ⊥
+IsNamed class.CreditQ = Unit {0}
+IsNamed class.CreditNonQ = Unit {0}
+IsNamed class.Equity = Unit {0}
+IsNamed class.Commodity = Unit {0}
+IsNamed class.FX = Unit {0}
 
 abbrev is_volatile : ClassAt → FactorKey → Bool
 is_volatile at k = is_on (volatility_side at) k
@@ -47,10 +59,10 @@ none_of own at fs idle ks are b none = idle b (none_on (volatility_side at) (buc
 
 module _ (product : ProductClass) (fs : List (FactorKey × Holding)) where
   pub no_points : (c : CreditClass) (b : Bucket) → factors_at (points_place c b product) fs ≡ [] → points_of c b product fs ≡ []
-  no_points c b e = sym (points_alone product c b fs) ∙ ap (points_of c b product) e
+  no_points c b e = sym (points_there c b product fs) ∙ ap point_nets e
 
   pub no_names : (c : PricedClass) (b : Bucket) → factors_at (names_place c b product) fs ≡ [] → name_volatilities c b product fs ≡ []
-  no_names c b e = sym (names_alone product c b fs) ∙ ap (name_volatilities c b product) e
+  no_names c b e = sym (names_there c b product fs) ∙ ap volatility_nets e
 
 -- ---- what the parameters admit
 

@@ -24,7 +24,8 @@ use Rattle.class_margin.proofs.vega.Idle.{pairs_none}
 use Rattle.class_margin.specs.volatilities.Buckets.{pairs_bucket_at}
 use Rattle.class_margin.specs.volatilities.Places.{pair_volatilities}
 use Rattle.class_margin.specs.volatility.Vega.{class_vega_of, volatility_side, IsValued, AreVegaParts}
-use Rattle.class_margin.proofs.volatility.VolatilePlaces.{pairs_alone}
+use Rattle.class_exchange.specs.Pairs.{pair_nets}
+use Rattle.class_exchange.proofs.VolatilePairs.{pairs_there}
 
 module _ (p : Params) (product : ProductClass) (parts : List Whole) (fs : List (FactorKey × Holding)) where
   abbrev class_at : RiskClass → ClassAt
@@ -34,7 +35,7 @@ module _ (p : Params) (product : ProductClass) (parts : List Whole) (fs : List (
   value_there part v e = was_value part.1 (fx_vega_value p (pair_volatilities product fs)) (v.value ∙ ap (λ k. vega_in p (pairs_bucket_at k product) fs) e)
 
   none_there : AreVegaParts p (class_at class.FX) fs parts → list_any (λ k. same_bucket_id k id.Single) (map (λ part. part.0) parts) ≡ false → pair_volatilities product fs ≡ []
-  none_there its none = sym (pairs_alone product fs) ∙ ap (pair_volatilities product) (none_single (volatility_side (class_at class.FX)) fs parts its.are none)
+  none_there its none = sym (pairs_there product fs) ∙ ap pair_nets (none_single (volatility_side (class_at class.FX)) fs parts its.are none)
 
   pairs_are : AreVegaParts p (class_at class.FX) fs parts → single_k parts ≡ fx_vega p (nets_in product fs)
   pairs_are its =

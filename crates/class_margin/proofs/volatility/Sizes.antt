@@ -16,7 +16,7 @@ use Rattle.class_margin.proofs.delta.Bounds.{HasClass}
 use Rattle.class_margin.specs.vega.Values.{IsSized}
 use Rattle.class_margin.proofs.delta.Listed.{is_at}
 use Rattle.class_margin.proofs.Valued.{Whole, ids}
-use Rattle.class_margin.proofs.volatility.Listed.{size, sizes_low, IsOwned, share_is, shares_within}
+use Rattle.class_margin.proofs.delta.Owned.{size, sizes_low, IsOwned, share_is, shares_within}
 
 -- what is known of the value of a bucket
 abbrev pub IsSizedIn : {X A : Type 0} → (X → ℤ) → X → List (Amount A) → BucketMargin → Type 0

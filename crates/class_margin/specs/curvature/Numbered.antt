@@ -9,9 +9,8 @@ use Rattle.class_rates.specs.SimmRules.Params.{Params}
 use Rattle.class_rates.specs.SimmRules.Sums.{total_by}
 use Rattle.class_rates.specs.SimmRules.Across.{outer, numbered, residual, gamma_squared}
 use Rattle.class_rates.specs.SimmRules.Curvature.{curvature_part}
-use Rattle.class_margin.specs.names_delta.Combine.{parts_in, margins_of}
-use Rattle.class_margin.specs.declared.curvature.listed.ListedClass.{ListedClass}
-use Rattle.class_margin.specs.curvature.Listed.{listed_in, gamma_in}
+use Rattle.class_margin.specs.names_delta.Combine.{listed_in, gamma_in, parts_in, margins_of}
+use Rattle.class_margin.specs.declared.listed.ListedClass.{ListedClass}
 
 abbrev pub is_residual_id : BucketId → Bool
 is_residual_id (id.Number n) = false

@@ -2,8 +2,6 @@
 -- (ISDA SIMM methodology, delta margin: aggregation within a bucket.)
 use Rattle.std.specs.Prelude.{List, Bool, true, false, not}
 use Rattle.std.specs.List.{filter}
-use Rattle.class_rates.specs.SimmKinds.declared.kinds.RiskClass.{RiskClass}
-use Rattle.class_rates.specs.SimmKinds.declared.kinds.RiskClass.TheVariants as class
 use Rattle.class_rates.specs.SimmKinds.declared.kinds.BucketId.{BucketId}
 use Rattle.class_rates.specs.SimmKinds.declared.kinds.BucketId.TheVariants as id
 use Rattle.class_rates.specs.SimmKinds.declared.key.FactorKey.{FactorKey}
@@ -38,12 +36,3 @@ bucket_at at b = record { product = at.product; class = at.class; bucket = b }
 -- where the factors of a bucket stand
 abbrev pub delta_place : BucketAt → Place
 delta_place at = record { product = at.product; class = at.class; side = side.Delta; bucket = at.bucket }
-
--- a class of which files list buckets
-abbrev pub IsNumbered : RiskClass → Type 0
-IsNumbered class.IR = ⊥
-IsNumbered class.CreditQ = Unit {0}
-IsNumbered class.CreditNonQ = Unit {0}
-IsNumbered class.Equity = Unit {0}
-IsNumbered class.Commodity = Unit {0}
-IsNumbered class.FX = ⊥

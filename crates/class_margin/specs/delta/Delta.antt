@@ -1,6 +1,6 @@
 -- The value of a bucket on the side of delta, by its class; in credit that qualifies also that of base correlation.
 -- (ISDA SIMM methodology, delta margin: aggregation within a bucket; base correlation margin.)
-use Rattle.std.specs.Prelude.{◌≡◌, ℤ, pos, List, false, Option, Some, None, option_map, unwrap_or}
+use Rattle.std.specs.Prelude.{ℤ, pos, List, Option, Some, None, option_map, unwrap_or}
 use Rattle.std.specs.List.{find}
 use Rattle.class_rates.specs.SimmKinds.declared.kinds.ProductClass.{ProductClass}
 use Rattle.class_rates.specs.SimmKinds.declared.kinds.RiskClass.{RiskClass}
@@ -99,13 +99,3 @@ pub record AreBookDeltas (p : Params) (at : ClassAt) (parts : List (BucketId × 
 -- that of the bucket of the currencies of foreign exchange, and that of base correlation; 0 without it
 abbrev pub single_k : List (BucketId × BucketMargin) → ℤ
 single_k parts = unwrap_or (option_map (λ part. (part.1).k) (find (λ part. is_single part.0) parts)) (pos 0)
-
--- ---- a bucket of names: none of a currency of interest rates, and not that of base correlation
-
-abbrev pub IsNamed : RiskClass → BucketId → Type 0
-IsNamed class.IR b = ⊥
-IsNamed class.CreditQ b = is_single b ≡ false
-IsNamed class.CreditNonQ b = Unit {0}
-IsNamed class.Equity b = Unit {0}
-IsNamed class.Commodity b = Unit {0}
-IsNamed class.FX b = Unit {0}

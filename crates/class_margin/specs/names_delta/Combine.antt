@@ -18,20 +18,32 @@ use Rattle.class_rates.specs.SimmRules.Across.{Part, residual, place_among, marg
 use Rattle.class_rates.specs.SimmRules.Admits.{lists}
 use Rattle.class_rates.specs.SimmRules.Credit.{credit_params, listed_credit}
 use Rattle.class_rates.specs.SimmRules.Priced.{priced_params, listed_priced}
+use Rattle.class_rates.specs.SimmParams.declared.class_kind.CreditKind.TheVariants as credit
+use Rattle.class_rates.specs.SimmParams.declared.class_kind.PricedKind.TheVariants as priced
 use Rattle.class_rates.specs.SimmParams.ClassKinds.{credit_class, priced_class}
-use Rattle.class_margin.specs.declared.names_delta.named.NamedClass.{NamedClass}
-use Rattle.class_margin.specs.declared.names_delta.named.NamedClass.TheVariants as named
+use Rattle.class_margin.specs.declared.listed.ListedClass.{ListedClass}
+use Rattle.class_margin.specs.declared.listed.ListedClass.TheVariants as its_class
 use Rattle.class_rates.specs.SimmKinds.Factors.{listed_id}
 
--- ---- what the file says of a class that has buckets
+-- ---- a class of which the file lists buckets
 
-abbrev pub listed_in : Params → NamedClass → List Bucket
-listed_in p (named.Credit kind) = listed_credit (credit_params p (credit_class kind))
-listed_in p (named.Priced kind) = listed_priced (priced_params p (priced_class kind))
+abbrev pub listed_class : RiskClass → Option ListedClass
+listed_class class.IR = None
+listed_class class.CreditQ = Some (its_class.Credit credit.Qualifying)
+listed_class class.CreditNonQ = Some (its_class.Credit credit.NonQualifying)
+listed_class class.Equity = Some (its_class.Priced priced.Equities)
+listed_class class.Commodity = Some (its_class.Priced priced.Commodities)
+listed_class class.FX = None
 
-abbrev pub gamma_in : Params → NamedClass → List (List ℤ)
-gamma_in p (named.Credit kind) = (credit_params p (credit_class kind)).gamma
-gamma_in p (named.Priced kind) = (priced_params p (priced_class kind)).gamma
+-- what the file says of it
+
+abbrev pub listed_in : Params → ListedClass → List Bucket
+listed_in p (its_class.Credit kind) = listed_credit (credit_params p (credit_class kind))
+listed_in p (its_class.Priced kind) = listed_priced (priced_params p (priced_class kind))
+
+abbrev pub gamma_in : Params → ListedClass → List (List ℤ)
+gamma_in p (its_class.Credit kind) = (credit_params p (credit_class kind)).gamma
+gamma_in p (its_class.Priced kind) = (priced_params p (priced_class kind)).gamma
 
 -- the correlation of the buckets at two places of a list, each by its place among those that the file lists, in millionths
 abbrev pub gamma_at : List (List ℤ) → List ℕ → ℕ → ℕ → ℤ
@@ -65,18 +77,8 @@ number_place listed id.Single = None
 abbrev pub residual_k : List (Part Bucket) → ℤ
 residual_k parts = total_by (λ part. (part.value).k) (residual parts)
 
-abbrev pub named_margin : Params → NamedClass → List (BucketId × BucketMargin) → ℤ
+abbrev pub named_margin : Params → ListedClass → List (BucketId × BucketMargin) → ℤ
 named_margin p class parts = margin_over (listed_in p class) (gamma_in p class) (parts_in parts)
-
--- ---- the margin; none of a class that is margined elsewhere
-
-abbrev pub combined_by_class : Params → RiskClass → List (BucketId × BucketMargin) → Option ℤ
-combined_by_class p class.IR parts = None
-combined_by_class p class.CreditQ parts = Some (margin_over (listed_credit p.credit_q) p.credit_q.gamma (parts_in parts))
-combined_by_class p class.CreditNonQ parts = Some (margin_over (listed_credit p.credit_nq) p.credit_nq.gamma (parts_in parts))
-combined_by_class p class.Equity parts = Some (margin_over (listed_priced p.equity) p.equity.gamma (parts_in parts))
-combined_by_class p class.Commodity parts = Some (margin_over (listed_priced p.commodity) p.commodity.gamma (parts_in parts))
-combined_by_class p class.FX parts = Some (total_by (λ part. (part.1).k) parts)
 
 -- ---- which parts have a margin
 
@@ -84,15 +86,7 @@ abbrev pub IsListed : List Bucket → Option Bucket → Type 0
 IsListed listed None = ⊥
 IsListed listed (Some at) = lists listed at ≡ true
 
--- a class of names, and a bucket that it has
-abbrev pub IsNamed : RiskClass → Type 0
-IsNamed class.IR = ⊥
-IsNamed class.CreditQ = Unit {0}
-IsNamed class.CreditNonQ = Unit {0}
-IsNamed class.Equity = Unit {0}
-IsNamed class.Commodity = Unit {0}
-IsNamed class.FX = Unit {0}
-
+-- a bucket that its class has
 abbrev pub HasBucket : Params → RiskClass → BucketId → Type 0
 HasBucket p class.IR b = ⊥
 HasBucket p class.CreditQ b = IsListed (listed_credit p.credit_q) (listed_id b)
@@ -107,8 +101,3 @@ pub record AreSized (parts : List (BucketId × BucketMargin)) : Type 0 where
   pub not_negative : AllByRecursion (λ part. pos 0 ≤ℤ (part.1).k) parts
   pub held : AllByRecursion (λ part. unsigned_abs (part.1).s ≤ unsigned_abs (part.1).k) parts
   pub in_range : sum_by (λ part. unsigned_abs (part.1).k) parts < 84 * 10 ^ 14
-
-pub record AreParts (p : Params) (class : RiskClass) (parts : List (BucketId × BucketMargin)) : Type 0 where
-  pub named : IsNamed class
-  pub buckets : AllByRecursion (λ part. HasBucket p class part.0) parts
-  pub sized : AreSized parts

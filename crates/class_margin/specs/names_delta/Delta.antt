@@ -1,6 +1,6 @@
 -- The delta value of a bucket, by its class.
 -- (ISDA SIMM methodology, delta margin: aggregation within a bucket.)
-use Rattle.std.specs.Prelude.{ℕ, List, length, Option, Some, None, option_map, IsSomeAnd}
+use Rattle.std.specs.Prelude.{List, Option, Some, None, option_map, IsSomeAnd}
 use Rattle.class_rates.specs.SimmKinds.declared.kinds.ProductClass.{ProductClass}
 use Rattle.class_rates.specs.SimmKinds.declared.kinds.RiskClass.{RiskClass}
 use Rattle.class_rates.specs.SimmKinds.declared.kinds.RiskClass.TheVariants as class
@@ -21,7 +21,6 @@ use Rattle.class_exchange.specs.Currencies.{currencies_in}
 use Rattle.class_rates.specs.SimmKinds.Factors.{listed_id}
 use Rattle.class_priced.specs.Names.{names_in}
 use Rattle.class_credit.specs.Points.{points_in}
-use Rattle.class_rates.specs.MeasuredBucket.Values.{IsInRange}
 use Rattle.class_margin.specs.names_delta.Values.{IsSized}
 
 -- ---- the value; none of a class that is margined elsewhere, and of a bucket that the class does not have
@@ -53,35 +52,6 @@ delta_by_class p class.FX b product factors = fx_delta p b product factors
 abbrev pub delta_value : Params → BucketAt → List (FactorKey × Holding) → Option BucketMargin
 delta_value p at factors = delta_by_class p at.class at.bucket at.product factors
 
--- ---- a bucket that its class has, with its factors in range
-
-abbrev pub IsCreditReady : Params → CreditClass → Option Bucket → ProductClass → List (FactorKey × Holding) → Type 0
-IsCreditReady p class None product factors = ⊥
-IsCreditReady p class (Some at) product factors =
-    IsSomeAnd (credit_bucket_of (credit_params p class).buckets at) (λ b. IsInRange (λ _. (b.terms).weight) (points_in class at product factors))
-
-abbrev pub IsPricedReady : Params → PricedClass → Option Bucket → ProductClass → List (FactorKey × Holding) → Type 0
-IsPricedReady p class None product factors = ⊥
-IsPricedReady p class (Some at) product factors =
-    IsSomeAnd (priced_bucket_of (priced_params p class).buckets at) (λ b. IsInRange (λ _. (b.terms).weight) (names_in class at product factors))
-
-abbrev pub IsFxReady : Params → BucketId → ProductClass → List (FactorKey × Holding) → Type 0
-IsFxReady p (id.Number n) product factors = ⊥
-IsFxReady p id.Residual product factors = ⊥
-IsFxReady p (id.Currency currency) product factors = ⊥
-IsFxReady p id.Single product factors = IsInRange (fx_weight p) (currencies_in p product factors)
-
-abbrev pub IsReadyByClass : Params → RiskClass → BucketId → ProductClass → List (FactorKey × Holding) → Type 0
-IsReadyByClass p class.IR b product factors = ⊥
-IsReadyByClass p class.CreditQ b product factors = IsCreditReady p Qualifying (listed_id b) product factors
-IsReadyByClass p class.CreditNonQ b product factors = IsCreditReady p Non_qualifying (listed_id b) product factors
-IsReadyByClass p class.Equity b product factors = IsPricedReady p Equities (listed_id b) product factors
-IsReadyByClass p class.Commodity b product factors = IsPricedReady p Commodities (listed_id b) product factors
-IsReadyByClass p class.FX b product factors = IsFxReady p b product factors
-
-abbrev pub IsReady : Params → BucketAt → List (FactorKey × Holding) → Type 0
-IsReady p at factors = IsReadyByClass p at.class at.bucket at.product factors
-
 -- ---- the sizes of its value
 
 abbrev pub IsCreditSized : Params → CreditClass → Option Bucket → ProductClass → List (FactorKey × Holding) → BucketMargin → Type 0
@@ -104,24 +74,3 @@ IsSizedByClass p class.FX b product factors value = IsSized (fx_weight p) (curre
 
 abbrev pub IsDeltaSized : Params → BucketAt → List (FactorKey × Holding) → BucketMargin → Type 0
 IsDeltaSized p at factors value = IsSizedByClass p at.class at.bucket at.product factors value
-
--- ---- how many factors it has
-
-abbrev pub point_count : CreditClass → Option Bucket → ProductClass → List (FactorKey × Holding) → ℕ
-point_count class None product factors = 0
-point_count class (Some at) product factors = length (points_in class at product factors)
-
-abbrev pub name_count : PricedClass → Option Bucket → ProductClass → List (FactorKey × Holding) → ℕ
-name_count class None product factors = 0
-name_count class (Some at) product factors = length (names_in class at product factors)
-
-abbrev pub count_by_class : Params → RiskClass → BucketId → ProductClass → List (FactorKey × Holding) → ℕ
-count_by_class p class.IR b product factors = 0
-count_by_class p class.CreditQ b product factors = point_count Qualifying (listed_id b) product factors
-count_by_class p class.CreditNonQ b product factors = point_count Non_qualifying (listed_id b) product factors
-count_by_class p class.Equity b product factors = name_count Equities (listed_id b) product factors
-count_by_class p class.Commodity b product factors = name_count Commodities (listed_id b) product factors
-count_by_class p class.FX b product factors = length (currencies_in p product factors)
-
-abbrev pub factor_count : Params → BucketAt → List (FactorKey × Holding) → ℕ
-factor_count p at factors = count_by_class p at.class at.bucket at.product factors

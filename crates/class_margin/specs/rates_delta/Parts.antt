@@ -12,8 +12,7 @@ use Rattle.class_rates.specs.SimmRules.Sums.{different}
 use Rattle.class_rates.specs.SimmRules.Net.{Sensitivity}
 use Rattle.class_rates.specs.SimmRules.Risks.{select}
 use Rattle.class_rates.specs.SimmRules.Across.{Part, outer}
-use Rattle.class_rates.specs.SimmRules.Rates.{as_rate, across_currencies}
-use Rattle.class_margin.specs.rates_delta.Bucket.{delta_value}
+use Rattle.class_rates.specs.SimmRules.Rates.{as_rate, rates_in, currency_value, across_currencies}
 use Rattle.class_margin.specs.rates_delta.Range.{IsPart}
 
 -- a bucket with its value, where it is a currency's
@@ -50,4 +49,4 @@ currencies_of ss = different name_cmp (map (λ a. (a.of).currency) (select as_ra
 
 -- their buckets
 abbrev pub buckets_of : Params → List Sensitivity → List (BucketId × BucketMargin)
-buckets_of p ss = map (λ currency. (id.Currency currency, delta_value p (id.Currency currency) ss)) (currencies_of ss)
+buckets_of p ss = map (λ currency. (id.Currency currency, currency_value p currency (rates_in currency ss))) (currencies_of ss)

@@ -1,8 +1,6 @@
--- The vega margin of a class over the values of its buckets: across buckets it is joined as that of delta is.
+-- The buckets of a class that have a volatility.
 -- (ISDA SIMM methodology, vega margin: aggregation across buckets.)
-use Rattle.std.specs.Prelude.{ℕ, ◌^◌, ◌≤◌, List, map, length, Option, Some, ℤ, pos, ◌≤ℤ◌}
-use Rattle.class_rates.specs.SimmKinds.declared.kinds.RiskClass.{RiskClass}
-use Rattle.class_rates.specs.SimmKinds.declared.kinds.RiskClass.TheVariants as class
+use Rattle.std.specs.Prelude.{ℕ, ◌^◌, ◌≤◌, List, map, length, pos, ◌≤ℤ◌}
 use Rattle.class_rates.specs.SimmKinds.declared.kinds.BucketId.{BucketId}
 use Rattle.class_rates.specs.SimmKinds.declared.kinds.BucketId.TheVariants as id
 use Rattle.class_rates.specs.SimmKinds.declared.key.FactorKey.{FactorKey}
@@ -16,26 +14,7 @@ use Rattle.class_rates.specs.FactorBook.declared.at.ClassAt.{ClassAt}
 use Rattle.class_rates.specs.FactorBook.declared.holding.Holding.{Holding}
 use Rattle.class_rates.specs.FactorBook.declared.place.BookSide.TheVariants as side
 use Rattle.class_rates.specs.FactorBook.Places.{buckets_on}
-use Rattle.class_margin.specs.rates_delta.Parts.{AreParts as AreRateParts, margin_over as rate_margin_over}
-use Rattle.class_margin.specs.names_delta.Combine.{combined_by_class, AreParts as AreNamedParts}
 use Rattle.class_margin.specs.volatilities.Ranges.{alone}
-
-abbrev pub vega_over : Params → RiskClass → List (BucketId × BucketMargin) → Option ℤ
-vega_over p class.IR parts = Some (rate_margin_over p parts)
-vega_over p class.CreditQ parts = combined_by_class p class.CreditQ parts
-vega_over p class.CreditNonQ parts = combined_by_class p class.CreditNonQ parts
-vega_over p class.Equity parts = combined_by_class p class.Equity parts
-vega_over p class.Commodity parts = combined_by_class p class.Commodity parts
-vega_over p class.FX parts = combined_by_class p class.FX parts
-
--- which parts have a margin
-abbrev pub AreParts : Params → RiskClass → List (BucketId × BucketMargin) → Type 0
-AreParts p class.IR parts = AreRateParts parts
-AreParts p class.CreditQ parts = AreNamedParts p class.CreditQ parts
-AreParts p class.CreditNonQ parts = AreNamedParts p class.CreditNonQ parts
-AreParts p class.Equity parts = AreNamedParts p class.Equity parts
-AreParts p class.Commodity parts = AreNamedParts p class.Commodity parts
-AreParts p class.FX parts = AreNamedParts p class.FX parts
 
 -- the buckets of the currencies of a product class that have a volatility
 abbrev pub currency_buckets : Params → List Sensitivity → List (BucketId × BucketMargin)

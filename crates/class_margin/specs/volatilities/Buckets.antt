@@ -1,23 +1,15 @@
--- The buckets that have volatilities, by what stands in them, and how many factors they have.
+-- The buckets that have volatilities, by what stands in them.
 -- (ISDA SIMM methodology, structure of the methodology: buckets of the risk classes.)
-use Rattle.std.specs.Prelude.{ℕ, List, length, Option, Some, None, option_map}
+use Rattle.std.specs.Prelude.{ℕ, List, Option, Some, None, option_map}
 use Rattle.class_rates.specs.SimmKinds.declared.kinds.ProductClass.{ProductClass}
 use Rattle.class_rates.specs.SimmKinds.declared.kinds.RiskClass.{RiskClass}
 use Rattle.class_rates.specs.SimmKinds.declared.kinds.RiskClass.TheVariants as class
 use Rattle.class_rates.specs.SimmKinds.declared.kinds.BucketId.{BucketId}
 use Rattle.class_rates.specs.SimmKinds.declared.kinds.BucketId.TheVariants as id
 use Rattle.class_rates.specs.SimmKinds.declared.bucket.Bucket.{Bucket}
-use Rattle.class_rates.specs.SimmKinds.declared.key.FactorKey.{FactorKey}
 use Rattle.class_rates.specs.SimmRules.Risks.{CreditClass, Qualifying, Non_qualifying, PricedClass, Equities, Commodities}
-use Rattle.class_rates.specs.SimmRules.Priced.{names_of}
-use Rattle.class_rates.specs.SimmRules.ForeignExchange.{pairs_of}
-use Rattle.class_rates.specs.SimmParams.ClassKinds.{credit_class, priced_class}
 use Rattle.class_rates.specs.FactorBook.declared.at.BucketAt.{BucketAt}
-use Rattle.class_rates.specs.FactorBook.declared.holding.Holding.{Holding}
 use Rattle.class_rates.specs.SimmKinds.Factors.{listed_id}
-use Rattle.class_margin.specs.declared.volatilities.buckets.VolatileAt.{VolatileAt}
-use Rattle.class_margin.specs.declared.volatilities.buckets.VolatileAt.TheVariants as volatile
-use Rattle.class_margin.specs.volatilities.Places.{volatilities_of, points_of, name_volatilities, pair_volatilities}
 
 -- in each product class: a currency's, those that the file lists, and the one of all pairs of currencies
 pub data VolatileBucket : Type 0 where
@@ -56,25 +48,3 @@ volatile_by_class class.FX b product = pairs_bucket_at b product
 
 abbrev pub volatile_bucket : BucketAt → Option VolatileBucket
 volatile_bucket at = volatile_by_class at.class at.bucket at.product
-
--- as the code has it
-abbrev pub bucket_view : VolatileAt → VolatileBucket
-bucket_view (volatile.Currency at) = Currency_bucket at.currency at.product
-bucket_view (volatile.Credit at) = Credit_bucket (credit_class at.kind) at.bucket at.product
-bucket_view (volatile.Priced at) = Priced_bucket (priced_class at.kind) at.bucket at.product
-bucket_view (volatile.Pairs product) = Pairs_bucket product
-
--- ---- how many factors it has: a name's volatilities are one, and so are a pair's
-
-abbrev pub count_at : VolatileBucket → List (FactorKey × Holding) → ℕ
-count_at (Currency_bucket currency product) factors = length (volatilities_of currency product factors)
-count_at (Credit_bucket class at product) factors = length (points_of class at product factors)
-count_at (Priced_bucket class at product) factors = length (names_of (name_volatilities class at product factors))
-count_at (Pairs_bucket product) factors = length (pairs_of (pair_volatilities product factors))
-
-abbrev pub count_in : Option VolatileBucket → List (FactorKey × Holding) → ℕ
-count_in None factors = 0
-count_in (Some b) factors = count_at b factors
-
-abbrev pub factor_count : BucketAt → List (FactorKey × Holding) → ℕ
-factor_count at factors = count_in (volatile_bucket at) factors

@@ -36,15 +36,6 @@ class_vega_of p ss class.FX = fx_vega p ss
 abbrev pub volatility_side : ClassAt → SideAt
 volatility_side at = record { product = at.product; class = at.class; side = side.Volatility }
 
--- a class that has more than one bucket
-abbrev pub HasBuckets : RiskClass → Type 0
-HasBuckets class.IR = Unit {0}
-HasBuckets class.CreditQ = Unit {0}
-HasBuckets class.CreditNonQ = Unit {0}
-HasBuckets class.Equity = Unit {0}
-HasBuckets class.Commodity = Unit {0}
-HasBuckets class.FX = ⊥
-
 -- where the factors of a bucket stand
 abbrev pub volatility_place : BucketAt → Place
 volatility_place at = record { product = at.product; class = at.class; side = side.Volatility; bucket = at.bucket }

@@ -1,9 +1,9 @@
 ghost use Rattle.std.specs.Prelude.{◌≡◌, ◌+◌, ◌*◌, IfOk, pos, ◌≤ℤ◌};
 ghost use Rattle.class_margin.specs.curvature.Combine.{curvature_by_class, margins_size, gross_size, AreParts};
 
-use crate::curvature::listed::ListedClass;
 use crate::curvature::numbered_parts::over_numbered;
 use crate::curvature::whole_parts::{over_currencies, over_single};
+use crate::listed::ListedClass;
 use class_rates::factor_book::ClassAt;
 use class_rates::mh_units::Cents;
 use class_rates::simm_kinds::{BucketId, RiskClass};

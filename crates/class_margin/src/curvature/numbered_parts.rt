@@ -1,20 +1,19 @@
 //! The classes of which the file lists buckets: one part over the numbered buckets, and one of the residual bucket.
 ghost use Rattle.std.specs.Prelude.{◌≡◌, ◌+◌, ◌*◌, IfOk, pos, ◌≤ℤ◌, ◌+ℤ◌};
 ghost use Rattle.std.specs.List.{AllByRecursion};
-ghost use Rattle.class_rates.specs.SimmRules.Across.{numbered as numbered_of, residual as residual_of};
+ghost use Rattle.class_rates.specs.SimmRules.Across.{residual as residual_of};
 ghost use Rattle.class_rates.specs.SimmRules.Curvature.{curvature_over};
 ghost use Rattle.class_rates.specs.SimmKinds.Factors.{listed_id};
-ghost use Rattle.class_margin.specs.names_delta.Combine.{parts_in, margins_of, places_of, number_place, IsListed};
-ghost use Rattle.class_margin.specs.curvature.Listed.{listed_in, gamma_in};
+ghost use Rattle.class_margin.specs.names_delta.Combine.{listed_in, gamma_in, parts_in, margins_of, IsListed};
 ghost use Rattle.class_margin.specs.curvature.Numbered.{is_residual_id, numbered_part, residual_part, numbered_bound, residual_bound};
 ghost use Rattle.class_margin.specs.curvature.Combine.{margins_size, gross_size, AreSized};
 
-use crate::curvature::gamma::SquaredGamma;
-use crate::curvature::listed::ListedClass;
 use crate::curvature::part::{margin_over, part_over};
+use crate::listed::{ListedClass, number_parts};
+use crate::table::{Gamma, GammaTable, Scaling};
 use class_rates::mh_units::Cents;
 use class_rates::pair_sum::outer_root;
-use class_rates::simm_kinds::{Bucket, BucketId};
+use class_rates::simm_kinds::BucketId;
 use class_rates::simm_params::Params;
 use class_rates::simm_rules::BucketMargin;
 use std::alloc::{AllocError, Global};
@@ -52,10 +51,9 @@ fn numbered_part(
 {
     class.facts(params);
     let numbered = number_parts(alloc, params, class, parts)?;
-    let gamma = SquaredGamma {
-        params,
-        class,
-        places: numbered.places,
+    let gamma = GammaTable {
+        gamma: Gamma::Listed(params, class, numbered.places),
+        scaling: Scaling::Squared,
     };
     let root = outer_root(numbered.margins.as_slice(), &gamma);
     Ok(part_over(params.lambda_base(), numbered.margins.as_slice(), root))
@@ -75,46 +73,6 @@ fn residual_part(
     let values = residual_values(alloc, parts)?;
     let root = margin_over(values.as_slice());
     Ok(part_over(params.lambda_base(), values.as_slice(), root))
-}
-
-/// The values of the numbered buckets, and the place of each among the buckets that the file lists.
-#[derive(Drop)]
-struct Numbered {
-    margins: Vec<BucketMargin>,
-    places: Vec<usize>,
-}
-
-fn number_parts(
-    alloc: Global,
-    params: &Params,
-    class: ListedClass,
-    parts: &[(BucketId, BucketMargin)],
-) -> Result<Numbered, AllocError>
-    requires { AllByRecursion (λ part. IsListed (listed_in params.now class) (listed_id part.0)) parts.now }
-    ensures margins { IfOk result (λ n. n.margins.items ≡ margins_of (numbered_of (parts_in parts.now))) }
-    ensures places { IfOk result (λ n. n.places.items ≡ places_of (listed_in params.now class) (numbered_of (parts_in parts.now))) }
-{
-    let mut margins = Vec::with_capacity(alloc, parts.len())?;
-    let mut places = Vec::with_capacity(alloc, parts.len())?;
-    for part in parts {
-        if let Some(place) = number_place(params, class, &part.0) {
-            margins.push(part.1)?;
-            places.push(place)?;
-        }
-    }
-    Ok(Numbered { margins, places })
-}
-
-// The place of a numbered bucket among those that the file lists.
-fn number_place(params: &Params, class: ListedClass, id: &BucketId) -> Option<usize>
-    requires { IsListed (listed_in params.now class) (listed_id id.now) }
-    ensures { result ≡ number_place (listed_in params.now class) id.now }
-{
-    if let BucketId::Number(number) = id {
-        Some(class.place(params, Bucket::Number(*number)))
-    } else {
-        None
-    }
 }
 
 // The value of the residual bucket, where it is there.

@@ -1,15 +1,15 @@
 //! Classes whose margin is one part over all buckets: interest rates, with a bucket for each currency, and foreign exchange, with
 //! one in all.
-ghost use Rattle.std.specs.Prelude.{◌≡◌, ◌+◌, ◌*◌, ◌^◌, ◌≤◌, IfOk, map, pos, ◌≤ℤ◌, unsigned_abs};
+ghost use Rattle.std.specs.Prelude.{◌≡◌, ◌+◌, ◌*◌, ◌^◌, ◌≤◌, IfOk, pos, ◌≤ℤ◌, unsigned_abs};
 ghost use Rattle.std.specs.List.{AllByRecursion};
 ghost use Rattle.class_rates.specs.SimmParams.Ranges.{ir_hvrs, IsWithin};
 ghost use Rattle.class_margin.specs.rates_delta.Parts.{IsCurrency};
-ghost use Rattle.class_margin.specs.curvature.Combine.{gamma_across, over_currencies, over_ratio, over_single, margins_size, gross_size, AreSized};
+ghost use Rattle.class_margin.specs.curvature.Combine.{over_currencies, over_ratio, over_single, margins_size, gross_size, AreSized};
 
-use crate::curvature::gamma::EvenGamma;
 use crate::curvature::part::{margin_over, part_over};
-use class_rates::concentration::combine;
-use class_rates::mh_units::{Cents, Corr6, Rate4, div_up};
+use crate::rates_delta::values_of;
+use crate::table::{Gamma, GammaTable, Scaling};
+use class_rates::mh_units::{Cents, Rate4, div_up};
 use class_rates::pair_sum::outer_root;
 use class_rates::simm_kinds::BucketId;
 use class_rates::simm_params::Params;
@@ -45,21 +45,13 @@ fn currency_part(
     ensures size { IfOk result (λ m. m ≤ℤ pos (gross_size parts.now + 10 * margins_size parts.now)) }
 {
     let values = values_of(alloc, parts)?;
-    let gamma = EvenGamma {
-        count: values.len(),
-        gamma: gamma_across(params),
+    let between = params.rate_gamma().in_millionths();
+    let gamma = GammaTable {
+        gamma: Gamma::Even(values.len(), between),
+        scaling: Scaling::Squared,
     };
     let root = outer_root(values.as_slice(), &gamma);
     Ok(part_over(params.lambda_base(), values.as_slice(), root))
-}
-
-// The correlation of two different currencies, squared.
-fn gamma_across(params: &Params) -> Corr6
-    ensures value { result.0 ≡ gamma_across params.now }
-    ensures size { unsigned_abs result.0 ≤ 1000000 }
-{
-    let gamma = params.rate_gamma().in_millionths();
-    combine(gamma, gamma)
 }
 
 // A margin divided by the square of the ratio, upwards to the cent.
@@ -89,14 +81,4 @@ pub fn over_single(
     let values = values_of(alloc, parts)?;
     let root = margin_over(values.as_slice());
     Ok(Cents(part_over(params.lambda_base(), values.as_slice(), root)))
-}
-
-// The values of the buckets, side by side.
-fn values_of(
-    alloc: Global,
-    parts: &[(BucketId, BucketMargin)],
-) -> Result<Vec<BucketMargin>, AllocError>
-    ensures { IfOk result (λ values. values.items ≡ map (λ part. part.1) parts.now) }
-{
-    parts.iter().map(|part| part.1).collect(alloc)
 }

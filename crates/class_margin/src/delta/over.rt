@@ -1,22 +1,24 @@
 //! The margin of a class over the values of its buckets.
-ghost use Rattle.std.specs.Prelude.{◌≡◌, ◌*◌, ◌^◌, List, not, IfOk, pos, ◌≤ℤ◌};
+ghost use Rattle.std.specs.Prelude.{◌≡◌, ◌*◌, ◌^◌, List, not, Some, IfOk, pos, ◌≤ℤ◌};
 ghost use Rattle.std.specs.List.{filter};
 ghost use Rattle.class_rates.specs.SimmKinds.declared.key.FactorKey.{FactorKey};
 ghost use Rattle.class_rates.specs.SimmKinds.declared.kinds.RiskClass.TheVariants as class;
 ghost use Rattle.class_rates.specs.FactorBook.declared.holding.Holding.{Holding};
 ghost use Rattle.book_range.specs.Bounded.{IsMarginable};
+ghost use Rattle.class_margin.specs.names_delta.Combine.{listed_class};
 ghost use Rattle.class_margin.specs.names_delta.Values.{nets_in};
-ghost use Rattle.class_margin.specs.delta.Buckets.{is_single, IsNumbered};
+ghost use Rattle.class_margin.specs.delta.Buckets.{is_single};
 ghost use Rattle.class_margin.specs.delta.Class.{class_delta_of};
 ghost use Rattle.class_margin.specs.delta.Delta.{AreDeltaParts, AreBookDeltas};
 
 use crate::delta::buckets::is_single;
 use crate::delta::single::currencies_from;
+use crate::listed::ListedClass;
 use crate::rates_delta::{currencies_make_delta, rates_stand_by_currency};
 use class_rates::factor_book::{ClassAt, factors_are_netted};
 use class_rates::mh_units::Cents;
 use class_rates::simm_kinds::{BucketId, RiskClass};
-use class_rates::simm_params::Params;
+use class_rates::simm_params::{CreditKind, Params, PricedKind};
 use class_rates::simm_rules::BucketMargin;
 use std::alloc::{AllocError, Global};
 
@@ -37,8 +39,34 @@ pub fn delta_from(
 {
     match at.class {
         RiskClass::IR => over_currencies(alloc, params, at, parts),
-        RiskClass::CreditQ | RiskClass::CreditNonQ | RiskClass::Equity | RiskClass::Commodity =>
-            over_listed(alloc, params, at, parts),
+        RiskClass::CreditQ => over_listed(
+            alloc,
+            params,
+            at,
+            ListedClass::Credit(CreditKind::Qualifying),
+            parts,
+        ),
+        RiskClass::CreditNonQ => over_listed(
+            alloc,
+            params,
+            at,
+            ListedClass::Credit(CreditKind::NonQualifying),
+            parts,
+        ),
+        RiskClass::Equity => over_listed(
+            alloc,
+            params,
+            at,
+            ListedClass::Priced(PricedKind::Equities),
+            parts,
+        ),
+        RiskClass::Commodity => over_listed(
+            alloc,
+            params,
+            at,
+            ListedClass::Priced(PricedKind::Commodities),
+            parts,
+        ),
         RiskClass::FX => Ok(currencies_from(params, at, parts)),
     }
 }
@@ -69,9 +97,10 @@ fn over_listed(
     alloc: Global,
     params: &Params,
     at: ClassAt,
+    class: ListedClass,
     parts: &[(BucketId, BucketMargin)],
 ) -> Result<Cents, AllocError>
-    requires numbered { IsNumbered at.class }
+    requires class { listed_class at.class ≡ Some class }
     requires parts { AreBookDeltas params.now at parts.now }
     ensures value { (factors : List (FactorKey × Holding)) → IsMarginable params.now factors → AreDeltaParts params.now at factors parts.now
         → IfOk result (λ m. m.0 ≡ class_delta_of params.now (nets_in at.product factors) at.class) }
@@ -81,7 +110,7 @@ fn over_listed(
     params.facts();
     factors_are_netted();
     let listed = listed_parts(alloc, parts)?;
-    crate::names_delta::combine(alloc, params, at, listed.as_slice())
+    crate::names_delta::combine(alloc, params, class, listed.as_slice())
 }
 
 // The buckets that files list: all but that of base correlation.

@@ -1,13 +1,12 @@
 //! What the buckets of a product class come to.
-ghost use Rattle.std.specs.Prelude.{◌≡◌, List, map, pos, ◌≤ℤ◌};
+ghost use Rattle.std.specs.Prelude.{◌≡◌, ℕ, List, map, pos, ◌≤ℤ◌};
 ghost use Rattle.class_rates.specs.SimmKinds.declared.kinds.ProductClass.{ProductClass as Product};
-ghost use Rattle.class_rates.specs.SimmKinds.declared.kinds.BucketId.{BucketId};
 ghost use Rattle.class_rates.specs.SimmKinds.declared.kinds.BucketId.TheVariants as id;
 ghost use Rattle.class_rates.specs.SimmKinds.declared.key.FactorKey.{FactorKey};
 ghost use Rattle.class_rates.specs.SimmRules.Net.{Sensitivity};
-ghost use Rattle.class_rates.specs.SimmRules.Rates.{RateIn, rate_delta, rate_weight};
+ghost use Rattle.class_rates.specs.SimmRules.Rates.{RateIn, rates_in, rate_delta, rate_weight};
 ghost use Rattle.class_rates.specs.FactorBook.declared.holding.Holding.{Holding};
-ghost use Rattle.class_margin.specs.rates_delta.Bucket.{buckets_at, nets_of, rates_at};
+ghost use Rattle.class_margin.specs.rates_delta.Bucket.{buckets_at, nets_of};
 ghost use Rattle.class_margin.specs.rates_delta.Range.{IsBucket, IsClass};
 ghost use Rattle.class_margin.specs.rates_delta.Parts.{AreParts, buckets_of, currencies_of, margin_over};
 
@@ -18,7 +17,7 @@ use class_rates::simm_params::Params;
 /// does nothing.
 pub fn currencies_make_delta(params: &Params)
     ensures whole { (ss : List Sensitivity) → margin_over params.now (buckets_of params.now ss) ≡ rate_delta params.now ss }
-    ensures each { (ss : List Sensitivity) → IsClass params.now ss → (bucket : BucketId) → IsBucket params.now (rates_at bucket ss) }
+    ensures each { (ss : List Sensitivity) → IsClass params.now ss → (currency : List ℕ) → IsBucket params.now (rates_in currency ss) }
     ensures weights { (rate : RateIn) → pos 0 ≤ℤ rate_weight params.now rate }
     ensures parts { (ss : List Sensitivity) → IsClass params.now ss → AreParts (buckets_of params.now ss) }
 {

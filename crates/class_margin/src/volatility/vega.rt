@@ -1,18 +1,20 @@
 //! The vega margin of a class over the values of its buckets.
-ghost use Rattle.std.specs.Prelude.{◌≡◌, ◌*◌, ◌^◌, List, IfOk, pos, ◌≤ℤ◌};
+ghost use Rattle.std.specs.Prelude.{◌≡◌, ◌*◌, ◌^◌, List, Some, IfOk, pos, ◌≤ℤ◌};
 ghost use Rattle.class_rates.specs.SimmKinds.declared.key.FactorKey.{FactorKey};
 ghost use Rattle.class_rates.specs.SimmKinds.declared.kinds.RiskClass.TheVariants as class;
 ghost use Rattle.class_rates.specs.FactorBook.declared.holding.Holding.{Holding};
 ghost use Rattle.book_range.specs.Bounded.{IsMarginable};
+ghost use Rattle.class_margin.specs.names_delta.Combine.{listed_class};
 ghost use Rattle.class_margin.specs.names_delta.Values.{nets_in};
-ghost use Rattle.class_margin.specs.volatility.Vega.{class_vega_of, HasBuckets, AreVegaParts, AreBookVegas};
+ghost use Rattle.class_margin.specs.volatility.Vega.{class_vega_of, AreVegaParts, AreBookVegas};
 
 use crate::delta::single_margin;
-use crate::vega::{combine, currencies_make_vega, volatilities_stand_by_currency};
+use crate::listed::ListedClass;
+use crate::vega::{currencies_make_vega, volatilities_stand_by_currency};
 use class_rates::factor_book::{ClassAt, factors_are_netted};
 use class_rates::mh_units::Cents;
 use class_rates::simm_kinds::{BucketId, RiskClass};
-use class_rates::simm_params::Params;
+use class_rates::simm_params::{CreditKind, Params, PricedKind};
 use class_rates::simm_rules::BucketMargin;
 use std::alloc::{AllocError, Global};
 
@@ -31,23 +33,47 @@ pub fn vega_from(
     ensures size { IfOk result (λ m. m.0 ≤ℤ pos (84 * 10 ^ 14)) }
 {
     match at.class {
-        RiskClass::IR
-        | RiskClass::CreditQ
-        | RiskClass::CreditNonQ
-        | RiskClass::Equity
-        | RiskClass::Commodity => over_buckets(alloc, params, at, parts),
+        RiskClass::IR => over_currencies(alloc, params, at, parts),
+        RiskClass::CreditQ => over_listed(
+            alloc,
+            params,
+            at,
+            ListedClass::Credit(CreditKind::Qualifying),
+            parts,
+        ),
+        RiskClass::CreditNonQ => over_listed(
+            alloc,
+            params,
+            at,
+            ListedClass::Credit(CreditKind::NonQualifying),
+            parts,
+        ),
+        RiskClass::Equity => over_listed(
+            alloc,
+            params,
+            at,
+            ListedClass::Priced(PricedKind::Equities),
+            parts,
+        ),
+        RiskClass::Commodity => over_listed(
+            alloc,
+            params,
+            at,
+            ListedClass::Priced(PricedKind::Commodities),
+            parts,
+        ),
         RiskClass::FX => Ok(pairs_from(params, at, parts)),
     }
 }
 
-// The margin of a class that has more than one bucket.
-fn over_buckets(
+// That of interest rates, whose buckets are currencies.
+fn over_currencies(
     alloc: Global,
     params: &Params,
     at: ClassAt,
     parts: &[(BucketId, BucketMargin)],
 ) -> Result<Cents, AllocError>
-    requires several { HasBuckets at.class }
+    requires class { at.class ≡ class.IR }
     requires parts { AreBookVegas params.now at parts.now }
     ensures value { (factors : List (FactorKey × Holding)) → IsMarginable params.now factors → AreVegaParts params.now at factors parts.now
         → IfOk result (λ m. m.0 ≡ class_vega_of params.now (nets_in at.product factors) at.class) }
@@ -58,7 +84,27 @@ fn over_buckets(
     factors_are_netted();
     volatilities_stand_by_currency();
     currencies_make_vega(params);
-    combine(alloc, params, at, parts)
+    crate::rates_delta::combine(alloc, params, parts)
+}
+
+// That of a class of which the file lists buckets.
+fn over_listed(
+    alloc: Global,
+    params: &Params,
+    at: ClassAt,
+    class: ListedClass,
+    parts: &[(BucketId, BucketMargin)],
+) -> Result<Cents, AllocError>
+    requires class { listed_class at.class ≡ Some class }
+    requires parts { AreBookVegas params.now at parts.now }
+    ensures value { (factors : List (FactorKey × Holding)) → IsMarginable params.now factors → AreVegaParts params.now at factors parts.now
+        → IfOk result (λ m. m.0 ≡ class_vega_of params.now (nets_in at.product factors) at.class) }
+    ensures low { IfOk result (λ m. pos 0 ≤ℤ m.0) }
+    ensures size { IfOk result (λ m. m.0 ≤ℤ pos (84 * 10 ^ 14)) }
+{
+    params.facts();
+    factors_are_netted();
+    crate::names_delta::combine(alloc, params, class, parts)
 }
 
 // That of foreign exchange, whose pairs are one bucket.

@@ -1,5 +1,6 @@
 use Rattle.std.proofs.Common.{◌≢◌, [], sym, ap, subst}
 use Rattle.kept_buckets.specs.FactorBook.Places.{factors_at}
+use Rattle.book_margin.specs.Steps.{count_at}
 use Rattle.class_margin.specs.delta.Buckets.{bucket_at, delta_place}
 use Rattle.kept_buckets.specs.declared.value.KeptValue.TheVariants as value
 use Rattle.kept_buckets.specs.Kept.{KeepsValue}
@@ -34,6 +35,6 @@ returns-clause-kept g c =
 
 pub returns-clause-steps : goal.returns-clause-steps
 returns-clause-steps g c =
-    one_saved_at c.args.factors.now (delta_place c.bucket_at.result) (delta_place (bucket_at c.args.at c.args.id.now)) (ap delta_place c.bucket_at.ensures) _ _ _ _ c.delta_bucket.ensures.steps
-    (c.kept_values_save_steps.ensures c.args.kept.now c.keep_delta.new.self (delta_place (bucket_at c.args.at c.args.id.now)) (value.Delta c.in_ok-value.value) c.args.factors.now
+    one_saved_at (count_at c.args.params.now) c.args.factors.now (delta_place c.bucket_at.result) (delta_place (bucket_at c.args.at c.args.id.now)) (ap delta_place c.bucket_at.ensures) _ _ _ _ c.delta_bucket.ensures.steps
+    (c.kept_values_save_steps.ensures (count_at c.args.params.now) c.args.kept.now c.keep_delta.new.self (delta_place (bucket_at c.args.at c.args.id.now)) (value.Delta c.in_ok-value.value) c.args.factors.now
     (subst (λ b. KeepsValue c.args.kept.now c.keep_delta.new.self (delta_place b) (value.Delta c.in_ok-value.value)) c.bucket_at-2.ensures c.in_ok-keep_delta.ensures.ok) c.requires.none c.requires.some)

@@ -1,5 +1,6 @@
 use Rattle.std.proofs.Common.{◌≢◌, [], sym, ap, subst}
 use Rattle.kept_buckets.specs.FactorBook.Places.{factors_at}
+use Rattle.book_margin.specs.Steps.{count_at}
 use Rattle.class_margin.specs.delta.Buckets.{bucket_at}
 use Rattle.class_margin.specs.volatility.Vega.{volatility_place}
 use Rattle.kept_buckets.specs.declared.value.KeptValue.TheVariants as value
@@ -43,7 +44,7 @@ returns-clause-kept g c =
 
 pub returns-clause-steps : goal.returns-clause-steps
 returns-clause-steps g c =
-    two_saved_at c.args.factors.now (volatility_place c.bucket_at.result) (volatility_place c.bucket_at-2.result) (volatility_place (bucket_at c.args.at c.args.id.now)) (ap volatility_place c.bucket_at.ensures) (ap volatility_place c.bucket_at-2.ensures)
+    two_saved_at (count_at c.args.params.now) c.args.factors.now (volatility_place c.bucket_at.result) (volatility_place c.bucket_at-2.result) (volatility_place (bucket_at c.args.at c.args.id.now)) (ap volatility_place c.bucket_at.ensures) (ap volatility_place c.bucket_at-2.ensures)
     _ _ _ _ _ c.vega_bucket.ensures.steps c.curvature_bucket.ensures.steps
-    (c.kept_values_save_steps.ensures c.args.kept.now c.keep_volatility.new.self (volatility_place (bucket_at c.args.at c.args.id.now)) (value.Volatility (record { vega = c.in_ok-vega.vega; curvature = c.in_ok-curvature.curvature })) c.args.factors.now
+    (c.kept_values_save_steps.ensures (count_at c.args.params.now) c.args.kept.now c.keep_volatility.new.self (volatility_place (bucket_at c.args.at c.args.id.now)) (value.Volatility (record { vega = c.in_ok-vega.vega; curvature = c.in_ok-curvature.curvature })) c.args.factors.now
     (subst (λ b. KeepsValue c.args.kept.now c.keep_volatility.new.self (volatility_place b) (value.Volatility (record { vega = c.in_ok-vega.vega; curvature = c.in_ok-curvature.curvature }))) c.bucket_at-3.ensures c.in_ok-keep_volatility.ensures.ok) c.requires.none c.requires.some)

@@ -1,21 +1,17 @@
-use Rattle.std.proofs.Common.{◌≡◌, ◌∙◌, ◌^◌, ap, pos, subst, IfOk, unsigned_abs}
+use Rattle.std.proofs.Common.{◌≡◌, ◌∙◌, ◌^◌, ap, pos, sym, subst, IfOk, unsigned_abs}
 use Rattle.measured_bucket.specs.SimmRules.declared.values.BucketMargin.{BucketMargin}
 use Rattle.measured_bucket.specs.SimmRules.Credit.{credit_vega_value, weighted_point}
-use Rattle.measured_bucket.specs.SimmParams.ClassKinds.{credit_class}
 use Rattle.measured_bucket.specs.SimmParams.ListedBuckets.{credit_bucket_view}
 use Rattle.measured_bucket.specs.Measured.{IsNear}
 use Rattle.measured_bucket.specs.Values.{alone}
-use Rattle.class_credit.specs.Points.{volatilities_at, points_view}
+use Rattle.class_credit.specs.Points.{point_nets, points_view, ArePoints}
 use Rattle.measured_bucket.proofs.Counted.{counted}
-use Rattle.class_credit.proofs.Measured.{ready}
-use Rattle.class_credit.proofs.VolatilePoints.{volatilities_ascend}
 use Rattle.class_credit.proofs.credit.credit_vega.Goals as goal
 
 pub measure-requires : goal.measure-requires
 measure-requires g c =
-    let at = c.args.at in
     let there = ap points_view c.as_slice.ensures.value ∙ c.in_ok-points.ensures in
-    ready (pos 10000) (points_view c.as_slice.result.now) (volatilities_at at c.args.factors.now) there (volatilities_ascend (credit_class at.kind) at.bucket at.product c.args.factors.now c.facts.ensures) c.requires
+    subst (ArePoints (pos 10000)) (sym there) c.requires
 
 pub returns-clause-value : goal.returns-clause-value
 returns-clause-value g c =
@@ -31,4 +27,4 @@ pub returns-clause-steps : goal.returns-clause-steps
 returns-clause-steps g c =
     let there = ap points_view c.as_slice.ensures.value ∙ c.in_ok-points.ensures in
     let terms = c.args.listed.bucket.terms in
-    counted (weighted_point terms.vrw.0 terms.thresholds.vega (points_view c.as_slice.result.now)) c.args.steps.now c.measure.new.steps (points_view c.as_slice.result.now) (volatilities_at c.args.at c.args.factors.now) there c.measure.ensures.steps
+    counted (weighted_point terms.vrw.0 terms.thresholds.vega (points_view c.as_slice.result.now)) c.args.steps.now c.measure.new.steps (points_view c.as_slice.result.now) (point_nets c.args.lent.now) there c.measure.ensures.steps

@@ -1,11 +1,22 @@
-use Rattle.std.proofs.Common.{◌≡◌, ◌∙◌, IfOk, map, ap, subst}
-use Rattle.measured_bucket.specs.FactorBook.Places.{factors_at}
+use Rattle.std.proofs.Common.{◌≡◌, map, rules}
 use Rattle.class_exchange.specs.Currencies.{currency_net, risky_nets}
-use Rattle.class_exchange.proofs.RiskyCurrencies.{currencies_there}
+use Rattle.class_exchange.proofs.RiskyCurrencies.{views, all_risky, are_currencies}
 use Rattle.class_exchange.proofs.currencies.risky_currencies.Goals as goal
 
-pub returns : goal.returns
-returns c =
+pub returns-clause-nets : goal.returns-clause-nets
+returns-clause-nets c =
     let p = c.args.params.now in
-    let fs = c.args.factors.now in
-    subst (λ xs. IfOk c.currencies_at.result (λ nets. nets.items ≡ map (currency_net p) xs)) (ap (λ place. risky_nets p (factors_at place fs)) c.currency_place.ensures ∙ currencies_there p c.args.product fs) c.currencies_at.ensures
+    let made : c.loop-key.nets.items ≡ map (currency_net p) (risky_nets p c.args.lent.now) = search rules in
+    views p c.args.lent.now c.loop-key.nets.items made
+
+pub returns-clause-risky : goal.returns-clause-risky
+returns-clause-risky c =
+    let p = c.args.params.now in
+    let made : c.loop-key.nets.items ≡ map (currency_net p) (risky_nets p c.args.lent.now) = search rules in
+    all_risky p c.args.lent.now c.loop-key.nets.items made
+
+pub returns-clause-ready : goal.returns-clause-ready
+returns-clause-ready c =
+    let p = c.args.params.now in
+    let made : c.loop-key.nets.items ≡ map (currency_net p) (risky_nets p c.args.lent.now) = search rules in
+    are_currencies p c.args.lent.now c.loop-key.nets.items made

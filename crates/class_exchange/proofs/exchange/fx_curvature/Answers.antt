@@ -9,32 +9,36 @@ use Rattle.measured_bucket.specs.declared.tenor_scale.TenorScale.TheVariants as 
 use Rattle.measured_bucket.specs.Measured.{IsNear}
 use Rattle.measured_bucket.specs.Runs.{AreTotals}
 use Rattle.measured_bucket.proofs.SimmParams.Sigmas.{sigma_low}
-use Rattle.measured_bucket.proofs.Totals.{are_totals, totals_near}
-use Rattle.class_exchange.specs.Pairs.{pair_sums, pair_totals, pair_volatilities, curved_sum}
+use Rattle.measured_bucket.proofs.Totals.{totals_near}
+use Rattle.class_exchange.specs.Pairs.{pair_nets, pair_sums, pair_totals, curved_sum}
 use Rattle.class_exchange.proofs.PairValues.{curvature_is, pairs_counted}
 use Rattle.class_exchange.proofs.VolatilePairs.{pairs}
 use Rattle.class_exchange.proofs.exchange.fx_curvature.Goals as goal
 
-pub volatile_pairs-requires : goal.volatile_pairs-requires
-volatile_pairs-requires g c = c.requires.sizes
+pub volatile_pairs-requires-clause-order : goal.volatile_pairs-requires-clause-order
+volatile_pairs-requires-clause-order g c = c.requires.ascends
+
+pub volatile_pairs-requires-clause-sizes : goal.volatile_pairs-requires-clause-sizes
+volatile_pairs-requires-clause-sizes g c = c.requires.range.sizes
 
 pub measure-requires : goal.measure-requires
 measure-requires g c =
     let p = c.args.params.now in
-    let there = ap pair_sums c.as_slice.ensures.value ∙ c.in_ok-pairs.ensures in
-    subst (AreTotals pair_cmp scale.Curved (fx_sigma p)) (sym there) (are_totals pairs scale.Curved (fx_sigma p) (sigma_low p c.facts.ensures.params) (pair_volatilities c.args.product c.args.factors.now) c.requires)
+    let ready = c.in_ok-pairs.ensures.ready p c.facts.ensures.params c.requires in
+    subst (λ xs. AreTotals pair_cmp scale.Curved (fx_sigma p) (pair_sums xs))
+    (sym c.as_slice.ensures.value) ready
 
 pub returns-clause-value : goal.returns-clause-value
 returns-clause-value g c =
     let p = c.args.params.now in
-    let there = ap pair_sums c.as_slice.ensures.value ∙ c.in_ok-pairs.ensures in
-    subst (λ fs. IfOk c.measure.result (λ (m : BucketMargin). m ≡ bucket_value (squared same_pair (pair_rho p)) one fs)) (ap (map (curved_sum p)) there ∙ curvature_is (pair_volatilities c.args.product c.args.factors.now) p) c.measure.ensures.value
+    let there = ap pair_sums c.as_slice.ensures.value ∙ c.in_ok-pairs.ensures.sums in
+    subst (λ fs. IfOk c.measure.result (λ (m : BucketMargin). m ≡ bucket_value (squared same_pair (pair_rho p)) one fs)) (ap (map (curved_sum p)) there ∙ curvature_is (pair_nets c.args.lent.now) p) c.measure.ensures.value
 
 pub returns-clause-near : goal.returns-clause-near
 returns-clause-near g c =
     let p = c.args.params.now in
-    let amounts = pair_volatilities c.args.product c.args.factors.now in
-    let there = ap pair_sums c.as_slice.ensures.value ∙ c.in_ok-pairs.ensures in
+    let amounts = pair_nets c.args.lent.now in
+    let there = ap pair_sums c.as_slice.ensures.value ∙ c.in_ok-pairs.ensures.sums in
     IfOk-weaker c.measure.result (λ (m : BucketMargin). IsNear 219000000 1 1 (fx_sigma p) (pair_totals scale.Curved amounts) (unsigned_abs m.gross))
     (λ m. IsNear 20000 1 1 (λ (v : PairVolatility). fx_sigma p v.pair) amounts (unsigned_abs m.gross))
     (λ m. totals_near pairs scale.Curved (fx_sigma p) (sigma_low p c.facts.ensures.params) amounts 20000 1 1 (unsigned_abs m.gross))
@@ -42,5 +46,5 @@ returns-clause-near g c =
 
 pub returns-clause-steps : goal.returns-clause-steps
 returns-clause-steps g c =
-    let there = ap pair_sums c.as_slice.ensures.value ∙ c.in_ok-pairs.ensures in
-    pairs_counted (pair_volatilities c.args.product c.args.factors.now) (curved_sum c.args.params.now) scale.Curved c.args.steps.now c.measure.new.steps (pair_sums c.as_slice.result.now) there c.measure.ensures.steps
+    let there = ap pair_sums c.as_slice.ensures.value ∙ c.in_ok-pairs.ensures.sums in
+    pairs_counted (pair_nets c.args.lent.now) (curved_sum c.args.params.now) scale.Curved c.args.steps.now c.measure.new.steps (pair_sums c.as_slice.result.now) there c.measure.ensures.steps

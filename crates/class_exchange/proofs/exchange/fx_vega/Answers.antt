@@ -9,32 +9,36 @@ use Rattle.measured_bucket.specs.declared.tenor_scale.TenorScale.TheVariants as 
 use Rattle.measured_bucket.specs.Measured.{IsNear}
 use Rattle.measured_bucket.specs.Runs.{AreTotals}
 use Rattle.measured_bucket.proofs.SimmParams.Sigmas.{sigma_low}
-use Rattle.measured_bucket.proofs.Totals.{are_totals, totals_near}
-use Rattle.class_exchange.specs.Pairs.{pair_sums, pair_totals, pair_volatilities, vega_pair}
+use Rattle.measured_bucket.proofs.Totals.{totals_near}
+use Rattle.class_exchange.specs.Pairs.{pair_nets, pair_sums, pair_totals, vega_pair}
 use Rattle.class_exchange.proofs.PairValues.{vega_is, pairs_counted}
 use Rattle.class_exchange.proofs.VolatilePairs.{pairs}
 use Rattle.class_exchange.proofs.exchange.fx_vega.Goals as goal
 
-pub volatile_pairs-requires : goal.volatile_pairs-requires
-volatile_pairs-requires g c = c.requires.sizes
+pub volatile_pairs-requires-clause-order : goal.volatile_pairs-requires-clause-order
+volatile_pairs-requires-clause-order g c = c.requires.ascends
+
+pub volatile_pairs-requires-clause-sizes : goal.volatile_pairs-requires-clause-sizes
+volatile_pairs-requires-clause-sizes g c = c.requires.range.sizes
 
 pub measure-requires : goal.measure-requires
 measure-requires g c =
     let p = c.args.params.now in
-    let there = ap pair_sums c.as_slice.ensures.value ∙ c.in_ok-pairs.ensures in
-    subst (AreTotals pair_cmp scale.Even (fx_sigma p)) (sym there) (are_totals pairs scale.Even (fx_sigma p) (sigma_low p c.facts.ensures.params) (pair_volatilities c.args.product c.args.factors.now) c.requires)
+    let ready = c.in_ok-pairs.ensures.ready p c.facts.ensures.params c.requires in
+    subst (λ xs. AreTotals pair_cmp scale.Even (fx_sigma p) (pair_sums xs))
+    (sym c.as_slice.ensures.value) ready
 
 pub returns-clause-value : goal.returns-clause-value
 returns-clause-value g c =
     let p = c.args.params.now in
-    let there = ap pair_sums c.as_slice.ensures.value ∙ c.in_ok-pairs.ensures in
-    subst (λ fs. IfOk c.measure.result (λ (m : BucketMargin). m ≡ bucket_value (concentrated same_pair (pair_rho p)) one fs)) (ap (map (vega_pair p)) there ∙ vega_is (pair_volatilities c.args.product c.args.factors.now) p) c.measure.ensures.value
+    let there = ap pair_sums c.as_slice.ensures.value ∙ c.in_ok-pairs.ensures.sums in
+    subst (λ fs. IfOk c.measure.result (λ (m : BucketMargin). m ≡ bucket_value (concentrated same_pair (pair_rho p)) one fs)) (ap (map (vega_pair p)) there ∙ vega_is (pair_nets c.args.lent.now) p) c.measure.ensures.value
 
 pub returns-clause-near : goal.returns-clause-near
 returns-clause-near g c =
     let p = c.args.params.now in
-    let amounts = pair_volatilities c.args.product c.args.factors.now in
-    let there = ap pair_sums c.as_slice.ensures.value ∙ c.in_ok-pairs.ensures in
+    let amounts = pair_nets c.args.lent.now in
+    let there = ap pair_sums c.as_slice.ensures.value ∙ c.in_ok-pairs.ensures.sums in
     IfOk-weaker c.measure.result (λ (m : BucketMargin). IsNear (10 ^ 10) 832799998 695 (fx_sigma p) (pair_totals scale.Even amounts) (unsigned_abs m.gross))
     (λ m. IsNear (10 ^ 10) 832799998 695 (λ (v : PairVolatility). fx_sigma p v.pair) amounts (unsigned_abs m.gross))
     (λ m. totals_near pairs scale.Even (fx_sigma p) (sigma_low p c.facts.ensures.params) amounts (10 ^ 10) 832799998 695 (unsigned_abs m.gross))
@@ -42,5 +46,5 @@ returns-clause-near g c =
 
 pub returns-clause-steps : goal.returns-clause-steps
 returns-clause-steps g c =
-    let there = ap pair_sums c.as_slice.ensures.value ∙ c.in_ok-pairs.ensures in
-    pairs_counted (pair_volatilities c.args.product c.args.factors.now) (vega_pair c.args.params.now) scale.Even c.args.steps.now c.measure.new.steps (pair_sums c.as_slice.result.now) there c.measure.ensures.steps
+    let there = ap pair_sums c.as_slice.ensures.value ∙ c.in_ok-pairs.ensures.sums in
+    pairs_counted (pair_nets c.args.lent.now) (vega_pair c.args.params.now) scale.Even c.args.steps.now c.measure.new.steps (pair_sums c.as_slice.result.now) there c.measure.ensures.steps

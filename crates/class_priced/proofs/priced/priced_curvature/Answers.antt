@@ -10,34 +10,39 @@ use Rattle.measured_bucket.specs.Measured.{IsNear}
 use Rattle.measured_bucket.specs.Runs.{AreTotals}
 use Rattle.measured_bucket.specs.declared.tenor_scale.TenorScale.TheVariants as scale
 use Rattle.measured_bucket.proofs.Counted.{counted}
-use Rattle.measured_bucket.proofs.Totals.{are_totals, totals_near}
-use Rattle.class_priced.specs.Names.{volatilities_at}
+use Rattle.measured_bucket.proofs.Totals.{totals_near}
+use Rattle.class_priced.specs.Names.{volatility_nets}
 use Rattle.class_priced.specs.Sums.{name_sums, name_total, name_totals}
 use Rattle.class_priced.specs.Weights.{curved_name}
 use Rattle.class_priced.proofs.PricedValues.{curvature_is, curvature_of}
 use Rattle.class_priced.proofs.VolatileNames.{names}
 use Rattle.class_priced.proofs.priced.priced_curvature.Goals as goal
 
+pub volatile_names-requires-clause-order : goal.volatile_names-requires-clause-order
+volatile_names-requires-clause-order g c = c.requires.ascends
+
+pub volatile_names-requires-clause-sizes : goal.volatile_names-requires-clause-sizes
+volatile_names-requires-clause-sizes g c = c.requires.range.sizes
+
 pub measure-requires : goal.measure-requires
 measure-requires g c =
     let listed = c.args.listed in
-    let amounts = volatilities_at c.args.at c.args.factors.now in
-    let there = ap name_sums c.as_slice.ensures.value ∙ c.in_ok-names.ensures in
-    subst (AreTotals name_cmp scale.Curved (λ (x : List ℕ). listed.bucket.sigma.0)) (sym there) (are_totals names scale.Curved (λ (x : List ℕ). listed.bucket.sigma.0) (λ x. listed.weighed.sigma.low) amounts c.requires)
+    subst (AreTotals name_cmp scale.Curved (λ (x : List ℕ). listed.bucket.sigma.0)) (sym (ap name_sums c.as_slice.ensures.value))
+    (c.in_ok-names.ensures.measured listed.bucket.sigma.0 listed.weighed.sigma.low c.requires)
 
 pub returns-clause-value : goal.returns-clause-value
 returns-clause-value g c =
     let b = priced_bucket_view c.args.listed.bucket in
-    let amounts = volatilities_at c.args.at c.args.factors.now in
-    let there = ap name_sums c.as_slice.ensures.value ∙ c.in_ok-names.ensures in
+    let amounts = volatility_nets c.args.lent.now in
+    let there = ap name_sums c.as_slice.ensures.value ∙ c.in_ok-names.ensures.sums in
     subst (λ v. IfOk c.measure.result (λ (m : BucketMargin). m ≡ v)) (ap (curvature_of b) there ∙ curvature_is b amounts) c.measure.ensures.value
 
 pub returns-clause-near : goal.returns-clause-near
 returns-clause-near g c =
     let listed = c.args.listed in
     let sigma = λ (x : List ℕ). listed.bucket.sigma.0 in
-    let amounts = volatilities_at c.args.at c.args.factors.now in
-    let there = ap name_sums c.as_slice.ensures.value ∙ c.in_ok-names.ensures in
+    let amounts = volatility_nets c.args.lent.now in
+    let there = ap name_sums c.as_slice.ensures.value ∙ c.in_ok-names.ensures.sums in
     IfOk-weaker c.measure.result (λ (m : BucketMargin). IsNear 219000000 1 1 sigma (name_totals scale.Curved amounts) (unsigned_abs m.gross)) (λ m. IsNear 20000 1 1 (λ (x : NameVolatility). listed.bucket.sigma.0) amounts (unsigned_abs m.gross))
     (λ m near. totals_near names scale.Curved sigma (λ x. listed.weighed.sigma.low) amounts 20000 1 1 (unsigned_abs m.gross) near)
     (subst (λ xs. IfOk c.measure.result (λ (m : BucketMargin). IsNear 219000000 1 1 sigma xs (unsigned_abs m.gross))) there c.measure.ensures.near)
@@ -45,8 +50,8 @@ returns-clause-near g c =
 pub returns-clause-steps : goal.returns-clause-steps
 returns-clause-steps g c =
     let b = priced_bucket_view c.args.listed.bucket in
-    let amounts = volatilities_at c.args.at c.args.factors.now in
-    let there = ap name_sums c.as_slice.ensures.value ∙ c.in_ok-names.ensures in
+    let amounts = volatility_nets c.args.lent.now in
+    let there = ap name_sums c.as_slice.ensures.value ∙ c.in_ok-names.ensures.sums in
     let sum_of : List ℕ → Amount (List ℕ) = λ name. record { of = name; amount = name_total scale.Curved amounts name } in
     subst (λ n. c.measure.new.steps ≤ c.args.steps.now + n * n) (length-map (names_of amounts) sum_of)
     (counted (curved_name b) c.args.steps.now c.measure.new.steps (name_sums c.as_slice.result.now) (name_totals scale.Curved amounts) there c.measure.ensures.steps)

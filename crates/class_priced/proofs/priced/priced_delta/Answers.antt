@@ -1,21 +1,17 @@
 use Rattle.std.proofs.Common.{◌≡◌, ◌∙◌, ◌^◌, ℕ, List, ap, sym, subst, IfOk, unsigned_abs}
 use Rattle.measured_bucket.specs.SimmRules.declared.values.BucketMargin.{BucketMargin}
 use Rattle.measured_bucket.specs.SimmRules.Priced.{price_value}
-use Rattle.measured_bucket.specs.SimmParams.ClassKinds.{priced_class}
 use Rattle.measured_bucket.specs.SimmParams.ListedBuckets.{priced_bucket_view}
 use Rattle.measured_bucket.specs.Measured.{IsNear}
 use Rattle.measured_bucket.proofs.Counted.{counted}
-use Rattle.class_priced.specs.Names.{names_at, names_view, AreNames}
+use Rattle.class_priced.specs.Names.{name_nets, names_view, AreNames}
 use Rattle.class_priced.specs.Weights.{delta_name}
-use Rattle.class_priced.proofs.PricedNames.{names_ascend}
 use Rattle.class_priced.proofs.priced.priced_delta.Goals as goal
 
 pub measure-requires : goal.measure-requires
 measure-requires g c =
-    let at = c.args.at in
-    let fs = c.args.factors.now in
     let there = ap names_view c.as_slice.ensures.value ∙ c.in_ok-names.ensures in
-    subst (AreNames c.args.listed.bucket.terms.weight.0) (sym there) (record { ascends = names_ascend (priced_class at.kind) at.bucket at.product fs c.facts.ensures; range = c.requires })
+    subst (AreNames c.args.listed.bucket.terms.weight.0) (sym there) c.requires
 
 pub returns-clause-value : goal.returns-clause-value
 returns-clause-value g c =
@@ -30,4 +26,4 @@ returns-clause-near g c =
 pub returns-clause-steps : goal.returns-clause-steps
 returns-clause-steps g c =
     let there = ap names_view c.as_slice.ensures.value ∙ c.in_ok-names.ensures in
-    counted (delta_name (priced_bucket_view c.args.listed.bucket)) c.args.steps.now c.measure.new.steps (names_view c.as_slice.result.now) (names_at c.args.at c.args.factors.now) there c.measure.ensures.steps
+    counted (delta_name (priced_bucket_view c.args.listed.bucket)) c.args.steps.now c.measure.new.steps (names_view c.as_slice.result.now) (name_nets c.args.lent.now) there c.measure.ensures.steps

@@ -4,32 +4,30 @@ use Rattle.measured_bucket.specs.SimmRules.Rates.{currency_vega_value, rate_vola
 use Rattle.measured_bucket.specs.Measured.{IsNear}
 use Rattle.measured_bucket.specs.Values.{alone}
 use Rattle.measured_bucket.proofs.Counted.{counted}
-use Rattle.class_rates.specs.Places.{volatilities_at}
-use Rattle.class_rates.specs.Volatilities.{volatilities_view, AreVolatilities}
-use Rattle.class_rates.proofs.VolatilityPlaces.{volatilities_ascend}
+use Rattle.class_rates.specs.Volatilities.{volatilities_among, volatilities_view, AreVolatilities}
 use Rattle.class_rates.proofs.currency.currency_vega.Goals as goal
 
 pub measure-requires : goal.measure-requires
 measure-requires g c =
-    let at = c.args.at in
-    let there = ap (volatilities_view at.currency) c.as_slice.ensures.value ∙ c.in_ok-volatilities.ensures in
-    subst AreVolatilities (sym there) (record { ascends = volatilities_ascend at.currency at.product c.args.factors.now c.facts.ensures; range = c.requires })
+    let currency = c.args.currency.now in
+    let there = ap (volatilities_view currency) c.as_slice.ensures.value ∙ c.in_ok-volatilities.ensures currency in
+    subst AreVolatilities (sym there) c.requires
 
 pub returns-clause-value : goal.returns-clause-value
 returns-clause-value g c =
-    let at = c.args.at in
-    let there = ap (volatilities_view at.currency) c.as_slice.ensures.value ∙ c.in_ok-volatilities.ensures in
-    subst (λ xs. IfOk c.measure.result (λ (m : BucketMargin). m ≡ currency_vega_value c.args.params.now at.currency xs)) there c.measure.ensures.value
+    let currency = c.args.currency.now in
+    let there = ap (volatilities_view currency) c.as_slice.ensures.value ∙ c.in_ok-volatilities.ensures currency in
+    subst (λ xs. IfOk c.measure.result (λ (m : BucketMargin). m ≡ currency_vega_value c.args.params.now currency xs)) there c.measure.ensures.value
 
 pub returns-clause-near : goal.returns-clause-near
 returns-clause-near g c =
-    let at = c.args.at in
-    let there = ap (volatilities_view at.currency) c.as_slice.ensures.value ∙ c.in_ok-volatilities.ensures in
+    let currency = c.args.currency.now in
+    let there = ap (volatilities_view currency) c.as_slice.ensures.value ∙ c.in_ok-volatilities.ensures currency in
     subst (λ xs. IfOk c.measure.result (λ (m : BucketMargin). IsNear (10 ^ 10) 693999998 1 alone xs (unsigned_abs m.gross))) there c.measure.ensures.near
 
 pub returns-clause-steps : goal.returns-clause-steps
 returns-clause-steps g c =
-    let at = c.args.at in
-    let read = volatilities_view at.currency c.as_slice.result.now in
-    let there = ap (volatilities_view at.currency) c.as_slice.ensures.value ∙ c.in_ok-volatilities.ensures in
-    counted (weighted_rate_volatility c.args.params.now (rate_volatility_cr c.args.params.now at.currency read)) c.args.steps.now c.measure.new.steps read (volatilities_at at c.args.factors.now) there c.measure.ensures.steps
+    let currency = c.args.currency.now in
+    let read = volatilities_view currency c.as_slice.result.now in
+    let there = ap (volatilities_view currency) c.as_slice.ensures.value ∙ c.in_ok-volatilities.ensures currency in
+    counted (weighted_rate_volatility c.args.params.now (rate_volatility_cr c.args.params.now currency read)) c.args.steps.now c.measure.new.steps read (volatilities_among currency c.args.lent.now) there c.measure.ensures.steps

@@ -2,7 +2,7 @@ use Rattle.std.proofs.Common.{◌∙◌, ◌+◌, ◌≤◌, is_some, ap, sym, s
 use Rattle.book_margin.specs.SimmKinds.Batch.{rows_of}
 use Rattle.book_margin.specs.SimmRules.Simm.{simm}
 use Rattle.book_margin.specs.FactorBook.Factors.{factors_of}
-use Rattle.book_margin.specs.KeptBuckets.Dirty.{steps_left}
+use Rattle.book_margin.specs.Steps.{steps_due}
 use Rattle.book_margin.specs.Right.{IsFresh, Renews}
 use Rattle.bucket_cache.specs.declared.sums.Sums.{Sums}
 use Rattle.bucket_cache.specs.Entries.{trades_of}
@@ -128,8 +128,8 @@ returns-clause-all g c = λ at measure.
 
 pub returns-clause-steps : goal.returns-clause-steps
 returns-clause-steps g c =
-    subst (λ (l : Live). c.margin_of.new.steps + steps_left c.margin_of.new.kept (factors_of (rows_of l.book)) ≤ c.args.steps.now + steps_left l.kept (factors_of (rows_of l.book))) c.self.view_is
-    (subst (λ factors. c.margin_of.new.steps + steps_left c.margin_of.new.kept factors ≤ c.args.steps.now + steps_left c.self.inside.kept factors) (ap (λ (s : Sums). s.factors) c.self.invariant.summed.summed) c.in_ok-margin.ensures.steps)
+    subst (λ (l : Live). c.margin_of.new.steps + steps_due l.params c.margin_of.new.kept (factors_of (rows_of l.book)) ≤ c.args.steps.now + steps_due l.params l.kept (factors_of (rows_of l.book))) c.self.view_is
+    (subst (λ factors. c.margin_of.new.steps + steps_due c.self.inside.params c.margin_of.new.kept factors ≤ c.args.steps.now + steps_due c.self.inside.params c.self.inside.kept factors) (ap (λ (s : Sums). s.factors) c.self.invariant.summed.summed) c.in_ok-margin.ensures.steps)
 
 pub returns-clause-as_it_was : goal.returns-clause-as_it_was
 returns-clause-as_it_was g c = λ fresh. absurd (not_fresh c.self.inside.last c.args.self.now.is_fresh c.in_default.is (ap (λ (l : Live). l.is_fresh) c.self.view_is) fresh)

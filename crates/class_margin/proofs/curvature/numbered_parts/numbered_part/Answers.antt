@@ -1,4 +1,4 @@
-use Rattle.std.proofs.Common.{◌≡◌, ◌∙◌, ◌+◌, ◌*◌, ◌^◌, ◌<◌, ◌≤◌, sym, ap, subst, pos, ◌≤ℤ◌, ◌<ℤ◌, unsigned_abs, FitsSigned, rules, arith}
+use Rattle.std.proofs.Common.{◌≡◌, refl, ◌∙◌, ◌+◌, ◌*◌, ◌^◌, ◌<◌, ◌≤◌, sym, ap, subst, pos, ◌≤ℤ◌, ◌<ℤ◌, unsigned_abs, FitsSigned, rules, arith}
 use Rattle.std.specs.Prelude.{sum_by}
 use Rattle.std.specs.Int.{w128}
 use Rattle.std.proofs.lemmas.Int.{ints}
@@ -7,19 +7,24 @@ use Rattle.class_rates.specs.SimmRules.declared.values.BucketMargin.{BucketMargi
 use Rattle.class_rates.specs.SimmKinds.Order.{same_bucket}
 use Rattle.class_rates.specs.SimmRules.Across.{outer, numbered, gamma_squared}
 use Rattle.class_margin.specs.names_delta.Combine.{parts_in, margins_of}
-use Rattle.class_margin.specs.curvature.Listed.{listed_in, gamma_in}
+use Rattle.class_margin.specs.names_delta.Combine.{listed_in, gamma_in}
 use Rattle.class_margin.specs.curvature.Numbered.{numbered_bound}
 use Rattle.class_margin.specs.curvature.Part.{part_over}
-use Rattle.class_margin.proofs.curvature.Splits.{split_sizes, all_numbered, squared-symmetric, squared-small, numbered_root}
+use Rattle.class_margin.proofs.curvature.Splits.{split_sizes, all_numbered, squared-symmetric, squared-small, gamma_small, numbered_root}
 use Rattle.class_margin.proofs.curvature.Lambdas.{passed}
 use Rattle.class_margin.proofs.curvature.Totals.{part_is, bound_from}
 use Rattle.class_margin.proofs.curvature.numbered_parts.numbered_part.Goals as goal
 
 pub invariant_of-gamma : goal.invariant_of-gamma
-invariant_of-gamma c = record {
-  symmetric = squared-symmetric (gamma_in c.args.params.now c.args.class) c.in_ok-numbered.numbered.places.items c.facts.ensures;
-  at_most_one = squared-small (gamma_in c.args.params.now c.args.class) c.in_ok-numbered.numbered.places.items c.facts.ensures;
-}
+invariant_of-gamma c =
+    let gamma = gamma_in c.args.params.now c.args.class in
+    let places = c.in_ok-numbered.numbered.places.items in
+    record {
+      small = λ i j p q. gamma_small gamma places c.facts.ensures i j;
+      sized = refl;
+      symmetric = λ i j p q. squared-symmetric gamma places c.facts.ensures i j;
+      at_most_one = λ i j p q. squared-small gamma places c.facts.ensures i j;
+    }
 
 pub outer_root-root-requires-clause-not_negative : goal.outer_root-root-requires-clause-not_negative
 outer_root-root-requires-clause-not_negative c =

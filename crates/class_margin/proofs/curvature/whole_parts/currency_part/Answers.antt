@@ -6,6 +6,9 @@ use Rattle.class_rates.proofs.MhUnits.Integers.{same128}
 use Rattle.class_rates.specs.SimmRules.declared.values.BucketMargin.{BucketMargin}
 use Rattle.class_rates.specs.SimmKinds.Order.{same_name}
 use Rattle.class_rates.specs.SimmRules.Across.{outer}
+use Rattle.class_rates.specs.SimmRules.Bucket.{combined}
+use Rattle.class_rates.specs.SimmRules.Lookups.{six}
+use Rattle.class_rates.proofs.MhUnits.Roundings.{correlation_size}
 use Rattle.class_margin.specs.rates_delta.Parts.{parts_of}
 use Rattle.class_margin.specs.curvature.Combine.{gamma_across, gross_size, margins_size}
 use Rattle.class_margin.specs.curvature.Part.{part_over}
@@ -15,7 +18,16 @@ use Rattle.class_margin.proofs.curvature.Totals.{part_is, bound_from}
 use Rattle.class_margin.proofs.curvature.whole_parts.currency_part.Goals as goal
 
 pub invariant_of-gamma : goal.invariant_of-gamma
-invariant_of-gamma c = record { symmetric = even-symmetric c.gamma_across.result.0; at_most_one = even-small c.gamma_across.result.0 c.gamma_across.ensures.size }
+invariant_of-gamma c =
+    let between = c.in_millionths-between.result.0 in
+    let small = c.in_millionths-between.ensures.size in
+    let squared = correlation_size between between small small in
+    record {
+      small = λ i j p q. small;
+      sized = refl;
+      symmetric = λ i j p q. even-symmetric (combined between between) i j;
+      at_most_one = λ i j p q. even-small (combined between between) squared i j;
+    }
 
 pub outer_root-root-requires-clause-not_negative : goal.outer_root-root-requires-clause-not_negative
 outer_root-root-requires-clause-not_negative c =
@@ -98,7 +110,8 @@ returns-clause-value c =
     same128 part fits ∙ c.part_over.ensures.value ∙ ap (λ z. part_over z c.as_slice-2.result.now (passed root)) c.lambda_base.ensures.value
     ∙ ap (λ ms. part_over p.lambda_base ms (passed root)) (again ∙ values_are ps c.requires.currencies)
     ∙ ap (part_over p.lambda_base (map (λ b. b.value) (parts_of ps)))
-    (root_is ∙ c.outer_root-root.ensures.value ∙ currencies_root (gamma_across p) c.gamma_across.result.0 ps c.as_slice.result.now c.requires.currencies sized.ascends made c.gamma_across.ensures.value)
+    (root_is ∙ c.outer_root-root.ensures.value ∙ currencies_root (gamma_across p) (combined c.in_millionths-between.result.0 c.in_millionths-between.result.0) ps c.as_slice.result.now c.requires.currencies sized.ascends made
+    (ap (λ z. combined z z) (c.in_millionths-between.ensures.value ∙ ap six c.rate_gamma.ensures.value)))
     ∙ part_is p.lambda_base (parts_of ps) (outer same_name (λ b d. gamma_across p) (parts_of ps))
 
 pub returns-clause-low : goal.returns-clause-low

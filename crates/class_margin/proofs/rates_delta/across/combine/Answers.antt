@@ -10,14 +10,29 @@ use Rattle.class_margin.proofs.rates_delta.across.combine.Goals as goal
 pub invariant_of-correlation : goal.invariant_of-correlation
 invariant_of-correlation c =
     let are = c.as_slice-buckets.ensures.value ∙ c.in_ok-values.ensures in
-    let from_one : All (λ (b : BucketMargin). one ≤ℤ b.cr.0) c.as_slice-buckets.result.now = each_value (λ b. one ≤ℤ b.cr.0) (λ b its. its.cr_low) c.args.parts.now c.as_slice-buckets.result.now c.requires are in
     record {
-      small = c.in_millionths-gamma.ensures.size;
-      from_one = from_one;
+      from_one = each_value (λ b. one ≤ℤ b.cr.0) (λ b its. its.cr_low) c.args.parts.now c.as_slice-buckets.result.now c.requires are;
       below = each_value (λ b. b.cr.0 <ℤ pos 347000000) (λ b its. its.cr_high) c.args.parts.now c.as_slice-buckets.result.now c.requires are;
-      symmetric = gamma-symmetric c.in_millionths-gamma.result.0 c.as_slice-buckets.result.now from_one;
-      at_most_one = gamma-small c.in_millionths-gamma.result.0 c.as_slice-buckets.result.now from_one c.in_millionths-gamma.ensures.size;
     }
+
+pub invariant_of-correlation-2-clause-small : goal.invariant_of-correlation-2-clause-small
+invariant_of-correlation-2-clause-small c = λ i j p q. c.in_millionths-gamma.ensures.size
+
+pub invariant_of-correlation-2-clause-symmetric : goal.invariant_of-correlation-2-clause-symmetric
+invariant_of-correlation-2-clause-symmetric c =
+    let are = c.as_slice-buckets.ensures.value ∙ c.in_ok-values.ensures in
+    let gamma = c.in_millionths-gamma.result.0 in
+    let buckets = c.as_slice-buckets.result.now in
+    let from_one : All (λ (b : BucketMargin). one ≤ℤ b.cr.0) buckets = each_value (λ b. one ≤ℤ b.cr.0) (λ b its. its.cr_low) c.args.parts.now buckets c.requires are in
+    λ i j p q. gamma-symmetric gamma buckets from_one i j p q
+
+pub invariant_of-correlation-2-clause-at_most_one : goal.invariant_of-correlation-2-clause-at_most_one
+invariant_of-correlation-2-clause-at_most_one c =
+    let are = c.as_slice-buckets.ensures.value ∙ c.in_ok-values.ensures in
+    let gamma = c.in_millionths-gamma.result.0 in
+    let buckets = c.as_slice-buckets.result.now in
+    let from_one : All (λ (b : BucketMargin). one ≤ℤ b.cr.0) buckets = each_value (λ b. one ≤ℤ b.cr.0) (λ b its. its.cr_low) c.args.parts.now buckets c.requires are in
+    λ i j p q. gamma-small gamma buckets from_one c.in_millionths-gamma.ensures.size i j p q
 
 pub outer_root-requires-clause-not_negative : goal.outer_root-requires-clause-not_negative
 outer_root-requires-clause-not_negative c = each_value (λ b. pos 0 ≤ℤ b.k) (λ b its. its.not_negative) c.args.parts.now c.as_slice-buckets.result.now c.requires (c.as_slice-buckets.ensures.value ∙ c.in_ok-values.ensures)

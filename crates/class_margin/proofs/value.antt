@@ -1,0 +1,4 @@
+pub mod Slots
+pub mod Own
+pub mod Counts
+pub mod Ready

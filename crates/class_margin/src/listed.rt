@@ -1,0 +1,110 @@
+//! The classes of which the file lists buckets, and the numbered ones of these side by side.
+ghost use Rattle.std.specs.Prelude.{◌≡◌, ◌≤◌, true, unsigned_abs, ℕ, IfOk};
+ghost use Rattle.std.specs.List.{AllByRecursion};
+ghost use Rattle.class_rates.specs.SimmKinds.Factors.{listed_id};
+ghost use Rattle.class_rates.specs.SimmParams.ListedBuckets.{listed_place};
+ghost use Rattle.class_rates.specs.SimmParams.Weighed.{AreCorrelations};
+ghost use Rattle.class_rates.specs.SimmRules.Across.{numbered, place_among};
+ghost use Rattle.class_rates.specs.SimmRules.Admits.{lists};
+ghost use Rattle.class_rates.specs.SimmRules.Lookups.{at_row};
+ghost use Rattle.class_margin.specs.names_delta.Combine.{listed_in, gamma_in, parts_in, margins_of, places_of, number_place, IsListed};
+
+use class_rates::mh_units::Rate4;
+use class_rates::simm_kinds::{Bucket, BucketId};
+use class_rates::simm_params::{CreditKind, Params, PricedKind};
+use class_rates::simm_rules::BucketMargin;
+use std::alloc::{AllocError, Global};
+
+/// A class of which the file lists buckets.
+#[derive(Clone, Copy)]
+pub enum ListedClass {
+    /// A class of credit.
+    Credit(CreditKind),
+    /// Equity or commodities.
+    Priced(PricedKind),
+}
+
+impl ListedClass {
+    /// What the correlations of its buckets keep. It does nothing.
+    pub fn facts(self, params: &Params)
+        ensures { AreCorrelations (gamma_in params.now self) }
+    {
+        match self {
+            ListedClass::Credit(_) => params.credit_facts(),
+            ListedClass::Priced(_) => params.priced_facts(),
+        }
+    }
+
+    /// The place of a bucket among those that the file lists, counted from 0.
+    pub fn place(self, params: &Params, bucket: Bucket) -> usize
+        requires { lists (listed_in params.now self) bucket ≡ true }
+        ensures { result ≡ place_among (listed_in params.now self) bucket }
+    {
+        self.find(params, bucket).unwrap()
+    }
+
+    // The same, where the file lists it.
+    fn find(self, params: &Params, bucket: Bucket) -> Option<usize>
+        ensures { result ≡ listed_place (listed_in params.now self) bucket }
+    {
+        match self {
+            ListedClass::Credit(kind) => params.credit_place(kind, bucket),
+            ListedClass::Priced(kind) => params.priced_place(kind, bucket),
+        }
+    }
+
+    /// The correlation of the numbered buckets at two places, in ten-thousandths.
+    pub fn gamma(self, params: &Params, row: usize, column: usize) -> Rate4
+        ensures value { result.0 ≡ at_row (gamma_in params.now self) row column }
+        ensures size { unsigned_abs result.0 ≤ 10000 }
+    {
+        match self {
+            ListedClass::Credit(kind) => params.credit_gamma(kind, row, column),
+            ListedClass::Priced(kind) => params.priced_gamma(kind, row, column),
+        }
+    }
+}
+
+/// The values of the numbered buckets of a class, and the place of each among the buckets that the file lists.
+#[derive(Drop)]
+pub struct Numbered {
+    /// The values.
+    pub margins: Vec<BucketMargin>,
+    /// The places.
+    pub places: Vec<usize>,
+}
+
+/// Those of these parts. Want of memory is the only error.
+pub fn number_parts(
+    alloc: Global,
+    params: &Params,
+    class: ListedClass,
+    parts: &[(BucketId, BucketMargin)],
+) -> Result<Numbered, AllocError>
+    requires { AllByRecursion (λ part. IsListed (listed_in params.now class) (listed_id part.0)) parts.now }
+    ensures margins { IfOk result (λ n. n.margins.items ≡ margins_of (numbered (parts_in parts.now))) }
+    ensures places { IfOk result (λ n.
+        n.places.items ≡ places_of (listed_in params.now class) (numbered (parts_in parts.now))) }
+{
+    let mut margins = Vec::with_capacity(alloc, parts.len())?;
+    let mut places = Vec::with_capacity(alloc, parts.len())?;
+    for part in parts {
+        if let Some(place) = number_place(params, class, &part.0) {
+            margins.push(part.1)?;
+            places.push(place)?;
+        }
+    }
+    Ok(Numbered { margins, places })
+}
+
+// The place of a numbered bucket among those that the file lists.
+fn number_place(params: &Params, class: ListedClass, id: &BucketId) -> Option<usize>
+    requires { IsListed (listed_in params.now class) (listed_id id.now) }
+    ensures { result ≡ number_place (listed_in params.now class) id.now }
+{
+    if let BucketId::Number(number) = id {
+        Some(class.place(params, Bucket::Number(*number)))
+    } else {
+        None
+    }
+}
