@@ -1,2 +1,3 @@
 pub mod Factors
 pub mod Margins
+pub use Rattle.fault_text.specs as FaultText

@@ -9,3 +9,6 @@ pub use breakdown_lines::{
     push_total,
 };
 pub use factor_fields::{push_factor, push_factor_parts};
+
+// what the crates above reach through this one
+pub use fault_text;

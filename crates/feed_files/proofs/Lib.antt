@@ -2,3 +2,4 @@ pub mod SourceLemmas
 pub mod LongLines
 pub mod FedLemmas
 pub mod EndLemmas
+pub use Rattle.command_files.proofs as CommandFiles

@@ -9,3 +9,6 @@ mod sources;
 
 pub use ends::status_of_end;
 pub use sources::{find_feeds, take_all_back};
+
+// what the crates above reach through this one
+pub use command_files;

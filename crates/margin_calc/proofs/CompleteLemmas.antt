@@ -28,7 +28,7 @@ use Rattle.margin_calc.specs.Complete.{IsWell}
 use Rattle.command_files.proofs.KnownFiles.{same_bytes, only_memory_for, params_taken, trades_taken}
 
 -- parameters that were read are those of the file
-same_params : (pn cn : List ℕ) (old new : FolderSeen) (out_old out_new : SinkSeen) (w : IsWell pn cn old new out_old out_new) (bytes : List ℕ) (p : Params) → IsWhole old pn bytes → params_of bytes ≡ Some p → p ≡ w.p
+pub same_params : (pn cn : List ℕ) (old new : FolderSeen) (out_old out_new : SinkSeen) (w : IsWell pn cn old new out_old out_new) (bytes : List ℕ) (p : Params) → IsWhole old pn bytes → params_of bytes ≡ Some p → p ≡ w.p
 same_params pn cn old new out_old out_new w bytes p whole read =
     let same : bytes ≡ w.param_bytes = same_bytes old.told w.t pn bytes w.param_bytes w.told whole.whole w.has_params in
     let read' : params_of w.param_bytes ≡ Some p = subst (λ b. params_of b ≡ Some p) same read in
@@ -40,10 +40,13 @@ one_batch : (read : Result Crif CrifFault) (a b : List TradeRows) → IsOkAnd re
 one_batch (Ok crif) a b h g = sym h ∙ g
 one_batch (Err e) a b h g = absurd h
 
-same_trades : (pn cn : List ℕ) (old new : FolderSeen) (out_old out_new : SinkSeen) (w : IsWell pn cn old new out_old out_new) (bytes : List ℕ) (trades : List TradeRows) → IsWhole old cn bytes → GivesTrades bytes trades → trades ≡ w.trades
+pub one_book : (bytes : List ℕ) (a b : List TradeRows) → GivesTrades bytes a → GivesTrades bytes b → a ≡ b
+one_book bytes a b h g = one_batch (crif_of bytes) a b h g
+
+pub same_trades : (pn cn : List ℕ) (old new : FolderSeen) (out_old out_new : SinkSeen) (w : IsWell pn cn old new out_old out_new) (bytes : List ℕ) (trades : List TradeRows) → IsWhole old cn bytes → GivesTrades bytes trades → trades ≡ w.trades
 same_trades pn cn old new out_old out_new w bytes trades whole read =
     let same : bytes ≡ w.crif_bytes = same_bytes old.told w.t cn bytes w.crif_bytes w.told whole.whole w.has_crif in
-    one_batch (crif_of w.crif_bytes) trades w.trades (subst (λ b. GivesTrades b trades) same read) w.crif_read
+    one_book w.crif_bytes trades w.trades (subst (λ b. GivesTrades b trades) same read) w.crif_read
 
 -- no fault comes but want of memory
 pub only_memory : (pn cn : List ℕ) (old new : FolderSeen) (out_old out_new : SinkSeen)

@@ -1,7 +1,7 @@
 ghost use Rattle.std.specs.Prelude.{◌≡◌, IfOk};
 ghost use Rattle.margin_calc.specs.RefusalLine.{refusal_fault};
 
-use fault_text::push_field;
+use breakdown_text::fault_text::push_field;
 use mh_units::Text;
 use set_core::{Refusal, Reply, push_reply};
 use std::alloc::{AllocError, Global};

@@ -16,18 +16,18 @@ use Rattle.pool_feed.specs.declared.next.FedLine.{FedLine}
 use Rattle.pool_gate.specs.declared.job.PoolReport.{PoolReport}
 use Rattle.pool_gate.specs.Ends.{IsEnd}
 use Rattle.pool_gate.specs.PoolRun.{Fate, all_tops}
-use Rattle.command_files.specs.declared.status.Status.{Status}
-use Rattle.command_files.specs.declared.status.Status.TheVariants as status
-use Rattle.command_files.specs.declared.fault.InputFile.TheVariants as input
-use Rattle.command_files.specs.declared.fault.FileFault.TheVariants as why
-use Rattle.command_files.specs.declared.fault.Fault.{Fault}
-use Rattle.command_files.specs.declared.fault.Fault.TheVariants as fault
-use Rattle.command_files.specs.Files.{Deeds, no_deeds, with_reading, told_after}
-use Rattle.command_files.specs.Grammars.{RefusesTerms}
-use Rattle.command_files.specs.Ending.{status_of}
-use Rattle.command_files.specs.Complete.{EndsWell}
-use Rattle.command_files.proofs.FileLemmas.{rises_earlier}
-use Rattle.command_files.proofs.KnownFiles.{same_bytes, front_bytes, only_memory_for, terms_taken}
+use Rattle.feed_files.specs.CommandFiles.declared.status.Status.{Status}
+use Rattle.feed_files.specs.CommandFiles.declared.status.Status.TheVariants as status
+use Rattle.feed_files.specs.CommandFiles.declared.fault.InputFile.TheVariants as input
+use Rattle.feed_files.specs.CommandFiles.declared.fault.FileFault.TheVariants as why
+use Rattle.feed_files.specs.CommandFiles.declared.fault.Fault.{Fault}
+use Rattle.feed_files.specs.CommandFiles.declared.fault.Fault.TheVariants as fault
+use Rattle.feed_files.specs.CommandFiles.Files.{Deeds, no_deeds, with_reading, told_after}
+use Rattle.feed_files.specs.CommandFiles.Grammars.{RefusesTerms}
+use Rattle.feed_files.specs.CommandFiles.Ending.{status_of}
+use Rattle.feed_files.specs.CommandFiles.Complete.{EndsWell}
+use Rattle.feed_files.proofs.CommandFiles.FileLemmas.{rises_earlier}
+use Rattle.feed_files.proofs.CommandFiles.KnownFiles.{same_bytes, front_bytes, only_memory_for, terms_taken}
 use Rattle.feed_files.specs.Ends.{status_of_end, first_end}
 use Rattle.feed_files.proofs.LongLines.{over_long, line_stays_long}
 use Rattle.feed_files.proofs.EndLemmas.{ends_whole, read_failed}

@@ -9,13 +9,13 @@ use Rattle.feed_runs.specs.declared.feed_end.FeedEnd.{FeedEnd}
 use Rattle.feed_runs.specs.declared.feed_end.FeedEnd.TheVariants as end_at
 use Rattle.pool_gate.specs.declared.job.PoolReport.{PoolReport}
 use Rattle.pool_gate.specs.PoolRun.{Fate, RanOver, all_tops, RanSource, RanOnPool}
-use Rattle.command_files.specs.declared.fault.InputFile.TheVariants as input
-use Rattle.command_files.specs.declared.fault.Fault.{Fault}
-use Rattle.command_files.specs.declared.fault.Fault.TheVariants as fault
-use Rattle.command_files.specs.declared.texts.Printed.{Printed}
-use Rattle.command_files.specs.declared.texts.Printed.TheVariants as printed
-use Rattle.command_files.specs.Texts.{TextGoes}
-use Rattle.command_files.proofs.TextLemmas.{line_of}
+use Rattle.feed_files.specs.CommandFiles.declared.fault.InputFile.TheVariants as input
+use Rattle.feed_files.specs.CommandFiles.declared.fault.Fault.{Fault}
+use Rattle.feed_files.specs.CommandFiles.declared.fault.Fault.TheVariants as fault
+use Rattle.feed_files.specs.CommandFiles.declared.texts.Printed.{Printed}
+use Rattle.feed_files.specs.CommandFiles.declared.texts.Printed.TheVariants as printed
+use Rattle.feed_files.specs.CommandFiles.Texts.{TextGoes}
+use Rattle.feed_files.proofs.CommandFiles.TextLemmas.{line_of}
 use Rattle.feed_files.specs.Ends.{status_of_end}
 use Rattle.feed_files.specs.Sources.{FindsAll, TakesAllBack}
 use Rattle.feed_files.specs.Unrun.{FeedsFail}

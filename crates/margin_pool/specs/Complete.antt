@@ -8,7 +8,7 @@ use Rattle.mh_io.specs.Limits.{most_bytes}
 use Rattle.mh_io.specs.Lines as cut
 use Rattle.mh_io.specs.Lines.{lines}
 use Rattle.csa_terms.specs.Terms.{Agreement}
-use Rattle.command_files.specs.Grammars.{GivesTerms}
+use Rattle.feed_files.specs.CommandFiles.Grammars.{GivesTerms}
 
 -- the folder has a feed of this name, which isn't too long and stops whole
 pub record IsWellFeed (t : Telling) (name : List ℕ) : Type 0 where

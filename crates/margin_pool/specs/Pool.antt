@@ -7,15 +7,15 @@ use Rattle.feed_runs.specs.declared.feed_end.FeedEnd.{FeedEnd}
 use Rattle.feed_runs.specs.declared.feed_end.FeedEnd.TheVariants as end_at
 use Rattle.fault_text.specs.Fields.{field, last_field}
 use Rattle.pool_gate.specs.declared.job.PoolReport.{PoolReport}
-use Rattle.command_files.specs.declared.status.Status.{Status}
-use Rattle.command_files.specs.declared.status.Status.TheVariants as status
-use Rattle.command_files.specs.declared.fault.InputFile.TheVariants as input
-use Rattle.command_files.specs.declared.fault.Fault.{Fault}
-use Rattle.command_files.specs.declared.fault.Fault.TheVariants as fault
-use Rattle.command_files.specs.Files.{KeepsCounts, no_deeds, IsRead, NoValue}
-use Rattle.command_files.specs.Grammars.{GivesTerms, RefusesTerms}
-use Rattle.command_files.specs.Printed.{Got, GotFront, GotLine}
-use Rattle.command_files.specs.Ending.{EndsAtFault}
+use Rattle.feed_files.specs.CommandFiles.declared.status.Status.{Status}
+use Rattle.feed_files.specs.CommandFiles.declared.status.Status.TheVariants as status
+use Rattle.feed_files.specs.CommandFiles.declared.fault.InputFile.TheVariants as input
+use Rattle.feed_files.specs.CommandFiles.declared.fault.Fault.{Fault}
+use Rattle.feed_files.specs.CommandFiles.declared.fault.Fault.TheVariants as fault
+use Rattle.feed_files.specs.CommandFiles.Files.{KeepsCounts, no_deeds, IsRead, NoValue}
+use Rattle.feed_files.specs.CommandFiles.Grammars.{GivesTerms, RefusesTerms}
+use Rattle.feed_files.specs.CommandFiles.Printed.{Got, GotFront, GotLine}
+use Rattle.feed_files.specs.CommandFiles.Ending.{EndsAtFault}
 use Rattle.feed_files.specs.Ends.{status_of_end, first_end}
 use Rattle.feed_files.specs.Unrun.{FeedsFail}
 use Rattle.margin_pool.specs.PoolText.{pool_text}

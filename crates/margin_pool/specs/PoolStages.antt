@@ -3,12 +3,12 @@ use Rattle.std.specs.Prelude.{ℕ, ◌≡◌, ◌<◌, List, Result, Ok, Err}
 use Rattle.mh_io.specs.Folder.{FolderSeen}
 use Rattle.csa_terms.specs.Terms.{Agreement}
 use Rattle.feed_runs.specs.declared.feed_end.FeedEnd.{FeedEnd}
-use Rattle.command_files.specs.declared.status.Status.{Status}
-use Rattle.command_files.specs.declared.status.Status.TheVariants as status
-use Rattle.command_files.specs.declared.fault.Fault.{Fault}
-use Rattle.command_files.specs.declared.fault.Fault.TheVariants as fault
-use Rattle.command_files.specs.declared.texts.Printed.{Printed}
-use Rattle.command_files.specs.declared.texts.Printed.TheVariants as printed
+use Rattle.feed_files.specs.CommandFiles.declared.status.Status.{Status}
+use Rattle.feed_files.specs.CommandFiles.declared.status.Status.TheVariants as status
+use Rattle.feed_files.specs.CommandFiles.declared.fault.Fault.{Fault}
+use Rattle.feed_files.specs.CommandFiles.declared.fault.Fault.TheVariants as fault
+use Rattle.feed_files.specs.CommandFiles.declared.texts.Printed.{Printed}
+use Rattle.feed_files.specs.CommandFiles.declared.texts.Printed.TheVariants as printed
 use Rattle.feed_files.specs.Ends.{status_of_end}
 use Rattle.feed_files.specs.Unrun.{FeedsFail}
 use Rattle.margin_pool.specs.declared.pool_files.Outcome.{Outcome}

@@ -4,7 +4,7 @@ use Rattle.mh_io.specs.Folder.{Reading, FolderSeen}
 use Rattle.csa_terms.specs.Terms.{Agreement}
 use Rattle.pool_gate.specs.declared.job.PoolReport.{PoolReport}
 use Rattle.pool_gate.specs.PoolRun.{Fate, RanOver, all_tops, all_held}
-use Rattle.command_files.specs.Files.{Did}
+use Rattle.feed_files.specs.CommandFiles.Files.{Did}
 use Rattle.feed_files.specs.Fed as file
 use Rattle.feed_files.specs.Fed.{EachFed}
 

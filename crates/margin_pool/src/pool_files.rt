@@ -1,13 +1,13 @@
 //! The files of a pool: the terms, and the feeds that are run on the total.
 ghost use Rattle.std.specs.Prelude.{◌≡◌, ◌≤◌, ◌^◌, length, map, IfOk, IfErr, OnOk};
 ghost use Rattle.std.specs.String.{string_bytes};
-ghost use Rattle.command_files.specs.Files.{KeepsCounts};
+ghost use Rattle.feed_files.specs.CommandFiles.Files.{KeepsCounts};
 ghost use Rattle.margin_pool.specs.Pool.{crowd_line};
 ghost use Rattle.margin_pool.specs.PoolStages.{FeedsEnd, PoolFilesEnd, Refuses};
 
-use command_files::{Fault, InputFile, read_terms_file};
 use csa_terms::SetTerms;
 use fault_text::{begun_line, push_last_number, push_number};
+use feed_files::command_files::{Fault, InputFile, read_terms_file};
 use feed_files::{find_feeds, take_all_back};
 use feed_runs::Gate;
 use mh_io::Folder;

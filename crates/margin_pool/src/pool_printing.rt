@@ -4,14 +4,14 @@ ghost use Rattle.std.specs.List.{flat_map};
 ghost use Rattle.mh_units.specs.Money.{money_text};
 ghost use Rattle.fault_text.specs.Fields.{field};
 ghost use Rattle.fault_text.specs.FeedFields.{end_field, refused_fields};
-ghost use Rattle.command_files.specs.Texts.{TextGoes};
+ghost use Rattle.feed_files.specs.CommandFiles.Texts.{TextGoes};
 ghost use Rattle.margin_pool.specs.PoolText.{held_line, pool_text, refused_line, report_text, rest_line, texts_from};
 ghost use Rattle.margin_pool.specs.Pool.{PoolLeaves, end_of};
 ghost use Rattle.margin_pool.specs.PoolStages.{status_at_end};
 
 use crate::pool_files::Outcome;
-use command_files::{Printed, Status, put_texts};
 use fault_text::{push_end, push_field, push_last_amount, push_number, push_refused_number};
+use feed_files::command_files::{Printed, Status, put_texts};
 use feed_files::status_of_end;
 use feed_runs::FeedEnd;
 use mh_io::Sink;

@@ -1,13 +1,13 @@
 ghost use Rattle.std.specs.Prelude.{◌≤◌, ◌^◌, length, map};
 ghost use Rattle.std.specs.String.{string_bytes};
-ghost use Rattle.command_files.specs.Files.{KeepsCounts};
-ghost use Rattle.command_files.specs.Complete.{EndsWell};
+ghost use Rattle.feed_files.specs.CommandFiles.Files.{KeepsCounts};
+ghost use Rattle.feed_files.specs.CommandFiles.Complete.{EndsWell};
 ghost use Rattle.margin_pool.specs.Pool.{PoolEnds};
 ghost use Rattle.margin_pool.specs.Complete.{IsWellPool};
 
 use crate::pool_files::{PoolFiles, run_files};
 use crate::pool_printing::end_pool;
-use command_files::{Status, end_at_fault};
+use feed_files::command_files::{Status, end_at_fault};
 use feed_runs::Gate;
 use mh_io::{Folder, Sink};
 use std::alloc::Global;

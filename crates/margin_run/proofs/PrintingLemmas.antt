@@ -13,8 +13,8 @@ use Rattle.mh_io.specs.Sink.{BreaksOff, SinkSeen}
 use Rattle.mh_io.specs.declared.writing.PutFault.{PutFault}
 use Rattle.mh_io.proofs.TakesLemmas.{append_known-twice, whole_rest, then_put}
 use Rattle.margin_run.specs.Run.{journal_of}
-use Rattle.command_files.specs.Printed.{Got, GotFront}
-use Rattle.command_files.proofs.FileLemmas.{rises_earlier}
+use Rattle.feed_files.specs.CommandFiles.Printed.{Got, GotFront}
+use Rattle.feed_files.proofs.CommandFiles.FileLemmas.{rises_earlier}
 
 -- each text is that of its place
 pub each_text : {S E : Type 0} (f : S → List ℕ) (sets : List S) (texts : List (List ℕ)) → length texts ≡ length sets

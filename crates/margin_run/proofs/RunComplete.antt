@@ -12,24 +12,24 @@ use Rattle.feed_runs.specs.declared.feed_end.FeedEnd.{FeedEnd}
 use Rattle.feed_runs.specs.declared.feed_end.FeedEnd.TheVariants as end_at
 use Rattle.feed_gate.specs.declared.report.FeedReport.{FeedReport}
 use Rattle.feed_gate.specs.Run.{IsEnd}
-use Rattle.command_files.specs.declared.status.Status.{Status}
-use Rattle.command_files.specs.declared.status.Status.TheVariants as status
-use Rattle.command_files.specs.declared.fault.InputFile.TheVariants as input
-use Rattle.command_files.specs.declared.fault.FileFault.TheVariants as why
-use Rattle.command_files.specs.declared.fault.Fault.{Fault}
-use Rattle.command_files.specs.declared.fault.Fault.TheVariants as fault
-use Rattle.command_files.specs.Files.{Deeds, no_deeds, with_reading, told_after}
+use Rattle.feed_files.specs.CommandFiles.declared.status.Status.{Status}
+use Rattle.feed_files.specs.CommandFiles.declared.status.Status.TheVariants as status
+use Rattle.feed_files.specs.CommandFiles.declared.fault.InputFile.TheVariants as input
+use Rattle.feed_files.specs.CommandFiles.declared.fault.FileFault.TheVariants as why
+use Rattle.feed_files.specs.CommandFiles.declared.fault.Fault.{Fault}
+use Rattle.feed_files.specs.CommandFiles.declared.fault.Fault.TheVariants as fault
+use Rattle.feed_files.specs.CommandFiles.Files.{Deeds, no_deeds, with_reading, told_after}
 use Rattle.feed_files.specs.Ends.{status_of_end}
 use Rattle.margin_run.specs.Fed.{IsFed}
-use Rattle.command_files.specs.Grammars.{RefusesParams, RefusesTerms}
-use Rattle.command_files.specs.Ending.{status_of}
+use Rattle.feed_files.specs.CommandFiles.Grammars.{RefusesParams, RefusesTerms}
+use Rattle.feed_files.specs.CommandFiles.Ending.{status_of}
 use Rattle.margin_run.specs.Notices.{notices}
 use Rattle.margin_run.specs.Desks.{Desks}
 use Rattle.margin_run.specs.Run.{HasRun, RunCause, RunLeaves, RunEnds, end_of}
-use Rattle.command_files.specs.Complete.{EndsWell}
+use Rattle.feed_files.specs.CommandFiles.Complete.{EndsWell}
 use Rattle.margin_run.specs.Complete.{IsWellFeed, IsWellRun}
-use Rattle.command_files.proofs.FileLemmas.{rises_earlier}
-use Rattle.command_files.proofs.KnownFiles.{same_bytes, front_bytes, only_memory_for, params_taken, terms_taken}
+use Rattle.feed_files.proofs.CommandFiles.FileLemmas.{rises_earlier}
+use Rattle.feed_files.proofs.CommandFiles.KnownFiles.{same_bytes, front_bytes, only_memory_for, params_taken, terms_taken}
 use Rattle.feed_files.proofs.EndLemmas.{ends_whole, read_failed}
 use Rattle.margin_run.proofs.FeedStops.{not_cut, not_long, not_over}
 use Rattle.margin_run.proofs.DeskLemmas.{none_failed}

@@ -10,18 +10,18 @@ use Rattle.feed_runs.specs.declared.feed_end.FeedEnd.TheVariants as end_at
 use Rattle.feed_gate.specs.declared.report.FeedReport.{FeedReport}
 use Rattle.call_desk.specs.declared.publishing.Published.{Published}
 use Rattle.call_desk.specs.Publish.{Outcome, Publishes}
-use Rattle.command_files.specs.declared.status.Status.{Status}
-use Rattle.command_files.specs.declared.status.Status.TheVariants as status
-use Rattle.command_files.specs.declared.texts.Printed.{Printed}
-use Rattle.command_files.specs.declared.texts.Printed.TheVariants as printed
-use Rattle.command_files.specs.Printed.{Got}
-use Rattle.command_files.specs.Texts.{TextGoes}
+use Rattle.feed_files.specs.CommandFiles.declared.status.Status.{Status}
+use Rattle.feed_files.specs.CommandFiles.declared.status.Status.TheVariants as status
+use Rattle.feed_files.specs.CommandFiles.declared.texts.Printed.{Printed}
+use Rattle.feed_files.specs.CommandFiles.declared.texts.Printed.TheVariants as printed
+use Rattle.feed_files.specs.CommandFiles.Printed.{Got}
+use Rattle.feed_files.specs.CommandFiles.Texts.{TextGoes}
 use Rattle.margin_run.specs.Notices.{notices}
 use Rattle.margin_run.specs.Desks.{Desks}
 use Rattle.feed_files.specs.Ends.{status_of_end}
 use Rattle.margin_run.specs.Run.{run_text, end_of, RunLeaves}
 use Rattle.margin_run.specs.RunStages.{status_at_end}
-use Rattle.command_files.proofs.TextLemmas.{line_of}
+use Rattle.feed_files.proofs.CommandFiles.TextLemmas.{line_of}
 use Rattle.margin_run.proofs.DeskLemmas.{told, one_failed, one_wanted, all_stay}
 
 module _ {B : Type 0} (sets : List Set) (reports : List FeedReport) (old new : SinkSeen) (d : Desks B) (published : Published) (outcomes : List (Outcome B))

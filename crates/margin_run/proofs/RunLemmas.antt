@@ -12,16 +12,16 @@ use Rattle.feed_gate.specs.declared.report.FeedReport.{FeedReport}
 use Rattle.feed_gate.specs.Sets.{AreApart}
 use Rattle.feed_gate.specs.SetsRun.{IsRun}
 use Rattle.margin_run.specs.declared.run_files.Outcome.{Outcome}
-use Rattle.command_files.specs.declared.fault.InputFile.TheVariants as input
-use Rattle.command_files.specs.declared.fault.Fault.{Fault}
-use Rattle.command_files.specs.declared.fault.Fault.TheVariants as fault
-use Rattle.command_files.specs.Files.{no_deeds, with_reading, IsRead}
+use Rattle.feed_files.specs.CommandFiles.declared.fault.InputFile.TheVariants as input
+use Rattle.feed_files.specs.CommandFiles.declared.fault.Fault.{Fault}
+use Rattle.feed_files.specs.CommandFiles.declared.fault.Fault.TheVariants as fault
+use Rattle.feed_files.specs.CommandFiles.Files.{no_deeds, with_reading, IsRead}
 use Rattle.feed_files.specs.Unrun.{FeedsFail}
 use Rattle.margin_run.specs.Fed.{AreFed}
 use Rattle.margin_run.specs.Run.{HasInputs, HasRun, RunCause}
 use Rattle.margin_run.specs.RunStages.{RunFilesEnd}
-use Rattle.command_files.proofs.FileLemmas.{did_more}
-use Rattle.command_files.proofs.AfterParamsLemmas.{whole_before}
+use Rattle.feed_files.proofs.CommandFiles.FileLemmas.{did_more}
+use Rattle.feed_files.proofs.CommandFiles.AfterParamsLemmas.{whole_before}
 
 -- both files were read
 pub inputs_read : (old mid new : FolderSeen) (pn tn : List ℕ) (p : Params) (agreements : List Agreement) → IsRead old mid no_deeds pn (λ bytes. params_of bytes ≡ Some p) → IsRead mid new no_deeds tn (λ bytes. terms_of bytes ≡ Ok agreements) → old.find_faults ≤ new.find_faults → old.read_faults ≤ new.read_faults → HasInputs pn tn old new p agreements

@@ -5,7 +5,7 @@ use Rattle.mh_io.specs.Folder.{Reading, FolderSeen}
 use Rattle.set_core.specs.Set.{Set}
 use Rattle.feed_gate.specs.declared.report.FeedReport.{FeedReport}
 use Rattle.feed_gate.specs.SetsRun.{IsRun, RanOver}
-use Rattle.command_files.specs.Files.{Did}
+use Rattle.feed_files.specs.CommandFiles.Files.{Did}
 use Rattle.feed_files.specs.Fed as file
 use Rattle.feed_files.specs.Fed.{EachFed}
 

@@ -12,21 +12,21 @@ use Rattle.feed_runs.specs.declared.feed_end.FeedEnd.TheVariants as end_at
 use Rattle.feed_gate.specs.declared.report.FeedReport.{FeedReport}
 use Rattle.margin_text.specs.Journal.{journal_text}
 use Rattle.margin_text.specs.Feeds.{feed_text}
-use Rattle.command_files.specs.declared.status.Status.{Status}
-use Rattle.command_files.specs.declared.status.Status.TheVariants as status
-use Rattle.command_files.specs.declared.fault.InputFile.TheVariants as input
-use Rattle.command_files.specs.declared.fault.Fault.{Fault}
-use Rattle.command_files.specs.declared.fault.Fault.TheVariants as fault
-use Rattle.command_files.specs.Files.{no_deeds, with_reading, Did, IsWhole, NoValue}
+use Rattle.feed_files.specs.CommandFiles.declared.status.Status.{Status}
+use Rattle.feed_files.specs.CommandFiles.declared.status.Status.TheVariants as status
+use Rattle.feed_files.specs.CommandFiles.declared.fault.InputFile.TheVariants as input
+use Rattle.feed_files.specs.CommandFiles.declared.fault.Fault.{Fault}
+use Rattle.feed_files.specs.CommandFiles.declared.fault.Fault.TheVariants as fault
+use Rattle.feed_files.specs.CommandFiles.Files.{no_deeds, with_reading, Did, IsWhole, NoValue}
 use Rattle.feed_files.specs.Ends.{status_of_end, first_end}
 use Rattle.feed_files.specs.Unrun.{FeedsFail}
 use Rattle.margin_run.specs.Fed.{AreFed}
-use Rattle.command_files.specs.Grammars.{RefusesParams, RefusesTerms}
+use Rattle.feed_files.specs.CommandFiles.Grammars.{RefusesParams, RefusesTerms}
 use Rattle.margin_run.specs.Notices.{notices}
 use Rattle.margin_run.specs.Desks.{Desks, AreUntold, AreTold, AllAreTold, OneFailed, OneWanted}
-use Rattle.command_files.specs.Printed.{Got, GotFront, GotLine}
-use Rattle.command_files.specs.Ending.{EndsAtFault}
-use Rattle.command_files.specs.AfterParams.{HasParams, FailsAfterParams}
+use Rattle.feed_files.specs.CommandFiles.Printed.{Got, GotFront, GotLine}
+use Rattle.feed_files.specs.CommandFiles.Ending.{EndsAtFault}
+use Rattle.feed_files.specs.CommandFiles.AfterParams.{HasParams, FailsAfterParams}
 
 -- the parameter file and then the terms file were read whole, with these values, and no count of faults fell
 pub record HasInputs (params_name terms_name : List ℕ) (old new : FolderSeen) (p : Params) (agreements : List Agreement) : Type 0 where

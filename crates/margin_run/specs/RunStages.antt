@@ -4,14 +4,14 @@ use Rattle.mh_io.specs.Folder.{FolderSeen}
 use Rattle.set_core.specs.Set.{Set}
 use Rattle.feed_runs.specs.declared.feed_end.FeedEnd.{FeedEnd}
 use Rattle.call_desk.specs.declared.publishing.Published.{Published}
-use Rattle.command_files.specs.declared.status.Status.{Status}
-use Rattle.command_files.specs.declared.status.Status.TheVariants as status
+use Rattle.feed_files.specs.CommandFiles.declared.status.Status.{Status}
+use Rattle.feed_files.specs.CommandFiles.declared.status.Status.TheVariants as status
 use Rattle.margin_run.specs.declared.feeds_run.FeedsRun.{FeedsRun}
 use Rattle.margin_run.specs.declared.run_files.Inputs.{Inputs}
 use Rattle.margin_run.specs.declared.run_files.Outcome.{Outcome}
-use Rattle.command_files.specs.declared.fault.Fault.{Fault}
-use Rattle.command_files.specs.declared.texts.Printed.{Printed}
-use Rattle.command_files.specs.declared.texts.Printed.TheVariants as printed
+use Rattle.feed_files.specs.CommandFiles.declared.fault.Fault.{Fault}
+use Rattle.feed_files.specs.CommandFiles.declared.texts.Printed.{Printed}
+use Rattle.feed_files.specs.CommandFiles.declared.texts.Printed.TheVariants as printed
 use Rattle.feed_files.specs.Ends.{status_of_end}
 use Rattle.feed_files.specs.Unrun.{FeedsFail}
 use Rattle.margin_run.specs.Fed.{AreFed}

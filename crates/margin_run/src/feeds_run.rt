@@ -2,10 +2,10 @@
 ghost use Rattle.std.specs.Prelude.{◌≡◌, ◌≤◌, [], length, map, All};
 ghost use Rattle.std.specs.String.{string_bytes};
 ghost use Rattle.feed_gate.specs.Sets.{AreApart};
-ghost use Rattle.command_files.specs.Files.{KeepsCounts};
+ghost use Rattle.feed_files.specs.CommandFiles.Files.{KeepsCounts};
 ghost use Rattle.margin_run.specs.RunStages.{FeedsEnd};
 
-use command_files::Fault;
+use feed_files::command_files::Fault;
 use feed_files::{find_feeds, take_all_back};
 use feed_gate::{FeedReport, SetsRun, run_on_sets};
 use feed_runs::Gate;

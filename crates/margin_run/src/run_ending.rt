@@ -9,7 +9,7 @@ use crate::run_files::Outcome;
 use crate::run_printing::print_run;
 use crate::telling::tell_desks;
 use call_desk::{Desk, Published};
-use command_files::{Printed, Status};
+use feed_files::command_files::{Printed, Status};
 use feed_files::status_of_end;
 use feed_gate::FeedReport;
 use feed_runs::FeedEnd;

@@ -1,12 +1,12 @@
 //! The files of a run: parameters, terms, and the feeds that are run on its sets.
 ghost use Rattle.std.specs.Prelude.{◌≤◌, length, map};
 ghost use Rattle.std.specs.String.{string_bytes};
-ghost use Rattle.command_files.specs.Files.{KeepsCounts};
+ghost use Rattle.feed_files.specs.CommandFiles.Files.{KeepsCounts};
 ghost use Rattle.margin_run.specs.RunStages.{InputsEnd, RunFilesEnd};
 
 use crate::feeds_run::{FeedsRun, run_feed_files};
-use command_files::{Fault, InputFile, read_param_file, read_terms_file};
 use csa_terms::Terms;
+use feed_files::command_files::{Fault, InputFile, read_param_file, read_terms_file};
 use feed_gate::{FeedReport, make_sets};
 use feed_runs::Gate;
 use mh_io::Folder;

@@ -2,12 +2,12 @@
 ghost use Rattle.std.specs.Prelude.{◌≡◌, ◌<◌, ◌≤◌, ◌++◌, length, map, slice_index_or, Ok, IfOk, OnOk, OnErr};
 ghost use Rattle.std.specs.List.{flat_map};
 ghost use Rattle.set_core.specs.Set.{Set};
-ghost use Rattle.command_files.specs.Texts.{TextGoes};
+ghost use Rattle.feed_files.specs.CommandFiles.Texts.{TextGoes};
 ghost use Rattle.margin_run.specs.Run.{journal_of, feeds_text, run_text};
 
 use crate::run_files::Outcome;
-use command_files::{Printed, put_texts};
 use csa_terms::SetTerms;
+use feed_files::command_files::{Printed, put_texts};
 use feed_gate::FeedReport;
 use margin_text::{journal_text, push_report};
 use mh_io::Sink;

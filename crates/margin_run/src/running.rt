@@ -1,16 +1,16 @@
 ghost use Rattle.std.specs.Prelude.{◌<◌, ◌≤◌, ◌^◌, length, map};
 ghost use Rattle.std.specs.String.{string_bytes};
 ghost use Rattle.std.specs.Vec.{vec_len};
-ghost use Rattle.command_files.specs.Files.{KeepsCounts};
+ghost use Rattle.feed_files.specs.CommandFiles.Files.{KeepsCounts};
 ghost use Rattle.margin_run.specs.Desks.{desks_of};
 ghost use Rattle.margin_run.specs.Run.{RunEnds};
-ghost use Rattle.command_files.specs.Complete.{EndsWell};
+ghost use Rattle.feed_files.specs.CommandFiles.Complete.{EndsWell};
 ghost use Rattle.margin_run.specs.Complete.{IsWellRun};
 
 use crate::run_ending::end_run;
 use crate::run_files::{RunFiles, run_files};
 use call_desk::Desk;
-use command_files::{Status, end_at_fault};
+use feed_files::command_files::{Status, end_at_fault};
 use feed_runs::Gate;
 use mh_io::{Folder, Sink};
 use std::alloc::Global;

@@ -1,6 +1,6 @@
 use Rattle.std.proofs.Common.{sym, ap, ◌∙◌, subst}
 use Rattle.std.specs.List.{flat_map}
-use Rattle.command_files.specs.Texts.{TextGoes}
+use Rattle.feed_files.specs.CommandFiles.Texts.{TextGoes}
 use Rattle.margin_pool.specs.Pool.{PoolLeaves, end_of}
 use Rattle.margin_pool.proofs.PoolLemmas.{leaves_at}
 use Rattle.margin_pool.proofs.pool_printing.end_pool.Goals as goal

@@ -1,7 +1,7 @@
 use Rattle.std.proofs.Common.{inl, inr, ap, ◌∙◌}
 use Rattle.margin_run.specs.Run.{end_of, run_text}
 use Rattle.margin_run.specs.RunStages.{status_at_end}
-use Rattle.command_files.proofs.TextLemmas.{line_of}
+use Rattle.feed_files.proofs.CommandFiles.TextLemmas.{line_of}
 use Rattle.margin_run.proofs.RunEndLemmas.{end_leaves}
 use Rattle.margin_run.proofs.run_ending.end_run.Goals as goal
 

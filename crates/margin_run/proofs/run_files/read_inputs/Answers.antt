@@ -1,6 +1,6 @@
 use Rattle.std.proofs.Common.{arith, refl}
-use Rattle.command_files.specs.Grammars.{RefusesTerms}
-use Rattle.command_files.proofs.AfterParamsLemmas.{fails_after_params}
+use Rattle.feed_files.specs.CommandFiles.Grammars.{RefusesTerms}
+use Rattle.feed_files.proofs.CommandFiles.AfterParamsLemmas.{fails_after_params}
 use Rattle.margin_run.proofs.RunLemmas.{inputs_read}
 use Rattle.margin_run.proofs.run_files.read_inputs.Goals as goal
 

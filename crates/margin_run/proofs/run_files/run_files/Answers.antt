@@ -1,10 +1,10 @@
 use Rattle.std.proofs.Common.{◌≡◌, [], refl, sym, subst, map, All}
 use Rattle.std.specs.String.{string_bytes}
 use Rattle.mh_io.specs.Folder.{FolderSeen}
-use Rattle.command_files.specs.declared.fault.Fault.TheVariants as fault
+use Rattle.feed_files.specs.CommandFiles.declared.fault.Fault.TheVariants as fault
 use Rattle.feed_gate.proofs.Starting.{none_called}
 use Rattle.margin_run.proofs.RunLemmas.{no_run, failed_run, has_run}
-use Rattle.command_files.proofs.FileLemmas.{did_nothing}
+use Rattle.feed_files.proofs.CommandFiles.FileLemmas.{did_nothing}
 use Rattle.margin_run.proofs.run_files.run_files.Goals as goal
 
 pub returns-in_default-clause-ends : goal.returns-in_default-clause-ends
