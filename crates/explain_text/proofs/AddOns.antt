@@ -1,6 +1,6 @@
 -- The line of a multiplier, once its pieces are added.
 use Rattle.std.proofs.Common.{◌≡◌, ℕ, List, ◌++◌, ap, ◌∙◌, ℤ, pos, ◌-ℤ◌, ◌*ℤ◌, codes}
-use Rattle.mh_units.specs.Rounding.{up}
+use Rattle.measured_bucket.specs.MhUnits.Rounding.{up}
 use Rattle.breakdown_text.proofs.Pieces.{two_pieces}
 use Rattle.explain_text.specs.Lines.{add_on_fields, amount_fields}
 

@@ -2,11 +2,11 @@
 use Rattle.std.proofs.Common.{◌≡◌, ◌≢◌, ℕ, ◌<◌, [], ◌++◌, length, get_or, Bool, cond, Option, Some, None, refl, ap, ℤ}
 use Rattle.std.specs.Prelude.{is_some, IsSome, IfSome, option_map}
 use Rattle.std.specs.List.{flat_map}
-use Rattle.simm_kinds.specs.declared.kinds.BucketId.{BucketId}
-use Rattle.simm_kinds.specs.declared.kinds.Measure.{Measure}
-use Rattle.simm_kinds.specs.declared.kinds.Measure.TheVariants as measure
-use Rattle.simm_rules.specs.declared.values.BucketMargin.{BucketMargin}
-use Rattle.simm_rules.specs.Params.{Params}
+use Rattle.measured_bucket.specs.SimmKinds.declared.kinds.BucketId.{BucketId}
+use Rattle.measured_bucket.specs.SimmKinds.declared.kinds.Measure.{Measure}
+use Rattle.measured_bucket.specs.SimmKinds.declared.kinds.Measure.TheVariants as measure
+use Rattle.measured_bucket.specs.SimmRules.declared.values.BucketMargin.{BucketMargin}
+use Rattle.measured_bucket.specs.SimmRules.Params.{Params}
 use Rattle.bucket_cache.specs.BookMargin.Right.{IsRightDelta, IsRightVolatility, AreRight, IsFresh, measured_value, value_in}
 use Rattle.bucket_cache.specs.FactorBook.declared.at.BucketAt.{BucketAt}
 use Rattle.bucket_cache.specs.FactorBook.declared.at.SideAt.{SideAt}
@@ -18,8 +18,8 @@ use Rattle.bucket_cache.specs.KeptBuckets.declared.value.KeptValue.TheVariants a
 use Rattle.bucket_cache.specs.KeptBuckets.Cached.{delta_in, volatility_in, is_measured, part_in, place_on, cached_in}
 use Rattle.bucket_cache.specs.KeptBuckets.Kept.{Kept, value_at}
 use Rattle.bucket_cache.proofs.ClassMargin.OnSide.{some_next}
-use Rattle.explain_text.specs.Lines.{net_line, bucket_line, measure_line}
-use Rattle.explain_text.specs.Sides.{Values, first_measure, second_measure, bucket_in, class_of_side, bucket_lines, side_lines}
+use Rattle.explain_text.specs.Lines.{net_line, measure_line}
+use Rattle.explain_text.specs.Sides.{Values, first_measure, second_measure, bucket_in, class_of_side, value_lines, bucket_lines, side_lines}
 use Rattle.explain_text.specs.Explained.{values_of}
 use Rattle.explain_text.proofs.Lent.{Factors}
 use Rattle.explain_text.proofs.Pieces.{same_pieces, same_any}
@@ -83,15 +83,15 @@ module _ (p : Params) (fs : Factors) (kept : Kept) (right : AreRight p fs kept) 
     second_same : K (bucket_in at b) (second_measure at.side) ≡ V (bucket_in at b) (second_measure at.side)
     second_same = second_is p fs (bucket_in at b) kept right fresh at.side has
 
-    lines_same : bucket_lines K at b (factors_at (place_in at b) fs) ≡ bucket_lines V at b (factors_at (place_in at b) fs)
+    lines_same : bucket_lines p K at b (factors_at (place_in at b) fs) ≡ bucket_lines p V at b (factors_at (place_in at b) fs)
     lines_same = λ k.
         flat_map net_line (factors_at (place_in at b) fs)
-        ++ bucket_line (bucket_in at b) (first_measure at.side) (first_same k)
-        ++ bucket_line (bucket_in at b) (second_measure at.side) (second_same k)
+        ++ value_lines p (bucket_in at b) (first_measure at.side) (factors_at (place_in at b) fs) (first_same k)
+        ++ value_lines p (bucket_in at b) (second_measure at.side) (factors_at (place_in at b) fs) (second_same k)
 
-  pub side_is : (M N : Measure → ℤ) → ((m : Measure) → M m ≡ N m) → side_lines K M fs at ≡ side_lines V N fs at
+  pub side_is : (M N : Measure → ℤ) → ((m : Measure) → M m ≡ N m) → side_lines p K M fs at ≡ side_lines p V N fs at
   side_is M N margins = λ k.
-      same_pieces (λ b. bucket_lines K at b (factors_at (place_in at b) fs)) (λ b. bucket_lines V at b (factors_at (place_in at b) fs)) (buckets_on at fs) lines_same k
+      same_pieces (λ b. bucket_lines p K at b (factors_at (place_in at b) fs)) (λ b. bucket_lines p V at b (factors_at (place_in at b) fs)) (buckets_on at fs) lines_same k
       ++ cond (same_any (λ b. is_some (K (bucket_in at b) (first_measure at.side))) (λ b. is_some (V (bucket_in at b) (first_measure at.side))) (buckets_on at fs) (λ i b inside is. ap is_some (first_same i b inside is)) k)
       (measure_line (class_of_side at) (first_measure at.side) (margins (first_measure at.side) k)) []
       ++ cond (same_any (λ b. is_some (K (bucket_in at b) (second_measure at.side))) (λ b. is_some (V (bucket_in at b) (second_measure at.side))) (buckets_on at fs) (λ i b inside is. ap is_some (second_same i b inside is)) k)

@@ -1,6 +1,9 @@
 mod Pieces
 mod Lent
 mod FromKept
+mod Weighed
+mod OverTenors
+mod Measured
 mod Products
 mod AddOns
 mod OfClass

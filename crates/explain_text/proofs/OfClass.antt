@@ -1,12 +1,12 @@
 -- The lines of a risk class and of a product class, from the figures of a batch, once the pieces of them are added.
 use Rattle.std.proofs.Common.{◌≡◌, ℕ, List, [], ◌++◌, Bool, true, cond, sym, ap, ◌∙◌, ℤ}
 use Rattle.std.specs.List.{flat_map}
-use Rattle.simm_kinds.specs.declared.kinds.Measure.{Measure}
-use Rattle.simm_kinds.specs.declared.kinds.ProductClass.{ProductClass}
-use Rattle.simm_kinds.specs.declared.row.TradeRows.{TradeRows}
-use Rattle.simm_rules.specs.Params.{Params}
-use Rattle.simm_rules.specs.Parts.{class_part, product_part}
-use Rattle.simm_rules.specs.Simm.{classes}
+use Rattle.measured_bucket.specs.SimmKinds.declared.kinds.Measure.{Measure}
+use Rattle.measured_bucket.specs.SimmKinds.declared.kinds.ProductClass.{ProductClass}
+use Rattle.measured_bucket.specs.SimmKinds.declared.row.TradeRows.{TradeRows}
+use Rattle.measured_bucket.specs.SimmRules.Params.{Params}
+use Rattle.measured_bucket.specs.SimmRules.Parts.{class_part, product_part}
+use Rattle.measured_bucket.specs.SimmRules.Simm.{classes}
 use Rattle.bucket_cache.specs.BookMargin.declared.measures.MeasureMargins.{MeasureMargins}
 use Rattle.bucket_cache.specs.BookMargin.Measures.{AreMeasures, measure_in}
 use Rattle.bucket_cache.specs.FactorBook.declared.at.ClassAt.{ClassAt}
@@ -26,10 +26,10 @@ use Rattle.explain_text.proofs.Products.{lines_at, lines_of_class, its_lines}
 
 module _ (p : Params) (trades : List TradeRows) (f : BatchFigures) (figures : AreFigures p trades f) (at : ClassAt) (m : MeasureMargins) (are : AreMeasures p f.factors at m) where
   abbrev kept_lines : SideAt → List ℕ
-  kept_lines s = side_lines (cached_in f.kept) (λ (x : Measure). (measure_in m x).0) f.factors s
+  kept_lines s = side_lines p (cached_in f.kept) (λ (x : Measure). (measure_in m x).0) f.factors s
 
   abbrev ruled_lines : BookSide → List ℕ
-  ruled_lines s = side_lines (values_of p f.factors) (margins_of p f.factors at) f.factors (side_of_class at s)
+  ruled_lines s = side_lines p (values_of p f.factors) (margins_of p f.factors at) f.factors (side_of_class at s)
 
   side_same : (s : BookSide) (its : SideAt) (t0 t1 : List ℕ) → its ≡ side_of_class at s → t1 ≡ t0 ++ kept_lines its → t1 ≡ t0 ++ ruled_lines s
   side_same s its t0 t1 is grown =

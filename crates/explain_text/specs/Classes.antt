@@ -1,13 +1,14 @@
 -- The lines of the risk classes of a product class, and those of the product class.
 use Rattle.std.specs.Prelude.{ℕ, List, [], ◌++◌, length, Bool, not, ◌||◌, ◌==◌, if◌then◌else◌, ℤ}
 use Rattle.std.specs.List.{flat_map, list_any}
-use Rattle.simm_kinds.specs.declared.kinds.Measure.{Measure}
-use Rattle.simm_kinds.specs.declared.kinds.ProductClass.{ProductClass}
-use Rattle.simm_kinds.specs.declared.kinds.RiskClass.{RiskClass}
-use Rattle.simm_kinds.specs.declared.key.FactorKey.{FactorKey}
-use Rattle.simm_rules.specs.declared.values.ProductMargin.{ProductMargin}
-use Rattle.simm_rules.specs.Parts.{class_part}
-use Rattle.simm_rules.specs.Simm.{classes}
+use Rattle.measured_bucket.specs.SimmKinds.declared.kinds.Measure.{Measure}
+use Rattle.measured_bucket.specs.SimmKinds.declared.kinds.ProductClass.{ProductClass}
+use Rattle.measured_bucket.specs.SimmKinds.declared.kinds.RiskClass.{RiskClass}
+use Rattle.measured_bucket.specs.SimmKinds.declared.key.FactorKey.{FactorKey}
+use Rattle.measured_bucket.specs.SimmRules.declared.values.ProductMargin.{ProductMargin}
+use Rattle.measured_bucket.specs.SimmRules.Params.{Params}
+use Rattle.measured_bucket.specs.SimmRules.Parts.{class_part}
+use Rattle.measured_bucket.specs.SimmRules.Simm.{classes}
 use Rattle.bucket_cache.specs.FactorBook.declared.at.ClassAt.{ClassAt}
 use Rattle.bucket_cache.specs.FactorBook.declared.at.SideAt.{SideAt}
 use Rattle.bucket_cache.specs.FactorBook.declared.holding.Holding.{Holding}
@@ -32,11 +33,11 @@ abbrev pub has_class : List (FactorKey × Holding) → ClassAt → Bool
 has_class factors at = has_side factors (side_of_class at side.Delta) || has_side factors (side_of_class at side.Volatility)
 
 -- a class that has a sensitivity: the side of delta, that of volatility, and its margin
-abbrev pub class_lines : Values → Margins → List (FactorKey × Holding) → ClassAt → ℤ → List ℕ
-class_lines values margins factors at margin =
+abbrev pub class_lines : Params → Values → Margins → List (FactorKey × Holding) → ClassAt → ℤ → List ℕ
+class_lines p values margins factors at margin =
     if has_class factors at
-    then side_lines values (margins at) factors (side_of_class at side.Delta)
-    ++ side_lines values (margins at) factors (side_of_class at side.Volatility)
+    then side_lines p values (margins at) factors (side_of_class at side.Delta)
+    ++ side_lines p values (margins at) factors (side_of_class at side.Volatility)
     ++ class_margin_line at.product at.class margin
     else []
 
@@ -47,9 +48,9 @@ abbrev pub has_product : List (FactorKey × Holding) → ProductClass → Bool
 has_product factors product = list_any (λ class. has_class factors (class_in product class)) classes
 
 -- a product class that has a sensitivity: its risk classes, and its margin
-unfoldable pub product_lines : Values → Margins → List (FactorKey × Holding) → ProductClass → ProductMargin → List ℕ
-product_lines values margins factors product part =
+unfoldable pub product_lines : Params → Values → Margins → List (FactorKey × Holding) → ProductClass → ProductMargin → List ℕ
+product_lines p values margins factors product part =
     if has_product factors product
-    then flat_map (λ class. class_lines values margins factors (class_in product class) (class_part part class).0) classes
+    then flat_map (λ class. class_lines p values margins factors (class_in product class) (class_part part class).0) classes
     ++ product_margin_line product part.margin.0
     else []

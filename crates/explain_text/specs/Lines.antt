@@ -1,23 +1,25 @@
 -- The lines of an explained margin, each with the figures of one thing. Fields are parted by one tab.
 use Rattle.std.specs.Prelude.{ℕ, ◌^◌, List, [], ◌++◌, Option, Some, None, codes, decimal, ℤ, pos, ◌-ℤ◌, ◌*ℤ◌}
 use Rattle.std.specs.Fmt.{signed_decimal}
-use Rattle.mh_units.specs.Money.{money_text}
-use Rattle.mh_units.specs.Rounding.{up}
-use Rattle.simm_kinds.specs.declared.kinds.BucketId.{BucketId}
-use Rattle.simm_kinds.specs.declared.kinds.BucketId.TheVariants as id
-use Rattle.simm_kinds.specs.declared.kinds.Measure.{Measure}
-use Rattle.simm_kinds.specs.declared.kinds.Measure.TheVariants as measure
-use Rattle.simm_kinds.specs.declared.kinds.ProductClass.{ProductClass}
-use Rattle.simm_kinds.specs.declared.kinds.RiskClass.{RiskClass}
-use Rattle.simm_kinds.specs.declared.key.FactorKey.{FactorKey}
-use Rattle.simm_kinds.specs.Factors.{kind_of}
-use Rattle.simm_kinds.specs.Kinds.{product_word, class_word, kind_word}
-use Rattle.simm_rules.specs.declared.values.BucketMargin.{BucketMargin}
-use Rattle.simm_rules.specs.Risks.{Amount}
+use Rattle.measured_bucket.specs.MhUnits.Money.{money_text}
+use Rattle.measured_bucket.specs.MhUnits.Rounding.{up}
+use Rattle.measured_bucket.specs.SimmKinds.declared.kinds.BucketId.{BucketId}
+use Rattle.measured_bucket.specs.SimmKinds.declared.kinds.BucketId.TheVariants as id
+use Rattle.measured_bucket.specs.SimmKinds.declared.kinds.Measure.{Measure}
+use Rattle.measured_bucket.specs.SimmKinds.declared.kinds.Measure.TheVariants as measure
+use Rattle.measured_bucket.specs.SimmKinds.declared.kinds.ProductClass.{ProductClass}
+use Rattle.measured_bucket.specs.SimmKinds.declared.kinds.RiskClass.{RiskClass}
+use Rattle.measured_bucket.specs.SimmKinds.declared.key.FactorKey.{FactorKey}
+use Rattle.measured_bucket.specs.SimmKinds.Factors.{kind_of}
+use Rattle.measured_bucket.specs.SimmKinds.Kinds.{product_word, class_word, kind_word}
+use Rattle.measured_bucket.specs.SimmRules.declared.values.BucketMargin.{BucketMargin}
+use Rattle.measured_bucket.specs.SimmRules.Risks.{Amount}
 use Rattle.bucket_cache.specs.FactorBook.declared.at.BucketAt.{BucketAt}
 use Rattle.bucket_cache.specs.FactorBook.declared.at.ClassAt.{ClassAt}
 use Rattle.bucket_cache.specs.FactorBook.declared.holding.Holding.{Holding}
-use Rattle.fault_text.specs.Fields.{field, last_field}
+use Rattle.measured_bucket.specs.declared.weighing.Group.{Group}
+use Rattle.measured_bucket.specs.declared.weighing.Weighing.{Weighing}
+use Rattle.breakdown_text.specs.FaultText.Fields.{field, last_field}
 use Rattle.breakdown_text.specs.Factors.{factor_fields}
 
 -- ---- nets
@@ -59,15 +61,41 @@ root_fields v = field (signed_decimal v.q) ++ field (money_text v.k) ++ last_fie
 abbrev pub value_fields : BucketMargin → List ℕ
 value_fields v = sum_fields v ++ root_fields v
 
--- the value of a bucket in a measure; nothing where it has not that measure
-abbrev pub bucket_line : BucketAt → Measure → Option BucketMargin → List ℕ
-bucket_line at measure None = []
-bucket_line at measure (Some v) =
+-- the value of a bucket in a measure
+abbrev pub bucket_line : BucketAt → Measure → BucketMargin → List ℕ
+bucket_line at measure v =
     measure_fields (codes "BUCKET") measure at.product at.class ++ field (bucket_word at.bucket) ++ value_fields v
 
 -- the margin of a measure in a risk class
 abbrev pub measure_line : ClassAt → Measure → ℤ → List ℕ
 measure_line at measure margin = measure_fields (codes "MEASURE") measure at.product at.class ++ last_field (money_text margin)
+
+-- ---- factors
+
+-- the amount that is weighed: in cents; in curvature a whole number of 21,900ths of a cent
+abbrev pub amount_text : Measure → ℤ → List ℕ
+amount_text measure.Delta amount = money_text amount
+amount_text measure.Vega amount = money_text amount
+amount_text measure.Curvature amount = signed_decimal amount
+amount_text measure.BaseCorr amount = money_text amount
+
+-- the net of the concentration group and its threshold; both are empty where no concentration scales the factor
+abbrev pub group_fields : Option Group → List ℕ
+group_fields None = field [] ++ field []
+group_fields (Some group) = field (money_text group.net) ++ field (money_text group.threshold)
+
+abbrev pub weighing_fields : Measure → Weighing → List ℕ
+weighing_fields measure from = field (amount_text measure from.amount) ++ group_fields from.group
+
+-- the concentration factor in millionths, the weight in ten-thousandths, and the weighted value that they make of the amount
+abbrev pub weighted_fields : ℤ → ℤ → ℤ → List ℕ
+weighted_fields cr weight w = field (signed_decimal cr) ++ field (signed_decimal weight) ++ last_field (money_text w)
+
+-- a factor in a measure, by the fields of its name
+abbrev pub factor_line : Measure → ProductClass → List ℕ → Weighing → ℤ → ℤ → List ℕ
+factor_line measure product name from cr w =
+    field (codes "FACTOR") ++ field (measure_word measure) ++ field (product_word product) ++ name
+    ++ weighing_fields measure from ++ weighted_fields cr (from.weight).0 w
 
 -- ---- additional margins
 

@@ -1,10 +1,10 @@
 //! The lines of the additional margins.
 ghost use Rattle.std.specs.Prelude.{◌≡◌, ◌++◌, List, true, OnOk};
 ghost use Rattle.std.specs.List.{flat_map, list_all};
-ghost use Rattle.simm_kinds.specs.Batch.{is_in_range};
-ghost use Rattle.simm_kinds.specs.declared.row.CrifRow.{CrifRow as Row};
-ghost use Rattle.simm_rules.specs.AddOns.{multiplier, notional_factor};
-ghost use Rattle.simm_rules.specs.Parts.{product_part};
+ghost use Rattle.measured_bucket.specs.SimmKinds.Batch.{is_in_range};
+ghost use Rattle.measured_bucket.specs.SimmKinds.declared.row.CrifRow.{CrifRow as Row};
+ghost use Rattle.measured_bucket.specs.SimmRules.AddOns.{multiplier, notional_factor};
+ghost use Rattle.measured_bucket.specs.SimmRules.Parts.{product_part};
 ghost use Rattle.class_combine.specs.Multipliers.{IsMultiplier};
 ghost use Rattle.class_combine.specs.Notionals.{size_at, IsFactor};
 ghost use Rattle.class_combine.specs.Sums.{AreOfBook};
@@ -12,13 +12,13 @@ ghost use Rattle.class_combine.specs.Whole.{HasProductMargins};
 ghost use Rattle.explain_text.specs.Lines.{add_on_fields, amount_fields, notional_line, multiplier_line};
 ghost use Rattle.explain_text.specs.Explained.{adds_lines};
 
+use breakdown_text::fault_text::{push_field, push_last_amount, push_number, push_sum};
 use breakdown_text::push_add_ons;
 use bucket_cache::BatchFigures;
 use class_combine::{AddOnSums, multiplier_share, notional_share};
-use fault_text::{push_field, push_last_amount, push_number, push_sum};
-use mh_units::{Cents, Rate4, Text};
-use simm_kinds::{CrifRow, Name, ProductClass};
-use simm_rules::Breakdown;
+use measured_bucket::mh_units::{Cents, Rate4, Text};
+use measured_bucket::simm_kinds::{CrifRow, Name, ProductClass};
+use measured_bucket::simm_rules::Breakdown;
 use std::alloc::AllocError;
 
 /// Adds the lines of the additional margins of a batch with these parameters: each factor of notionals and each multiplier, in the

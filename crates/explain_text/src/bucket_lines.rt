@@ -1,49 +1,81 @@
-//! The lines of a bucket on a side: its nets, and its value in each measure that it has.
-ghost use Rattle.std.specs.Prelude.{◌≡◌, ◌++◌, Some, OnOk};
+//! The lines of a bucket on a side: its nets, and in each measure that it has its factors and its
+//! value.
+ghost use Rattle.std.specs.Prelude.{◌≡◌, ◌++◌, OnOk};
 ghost use Rattle.bucket_cache.specs.KeptBuckets.Cached.{cached_in};
-ghost use Rattle.fault_text.specs.Fields.{field};
+ghost use Rattle.breakdown_text.specs.FaultText.Fields.{field};
 ghost use Rattle.explain_text.specs.Lines.{bucket_word, sum_fields, root_fields, value_fields, bucket_line};
-ghost use Rattle.explain_text.specs.Sides.{bucket_lines};
+ghost use Rattle.explain_text.specs.Measurable.{CanMeasure, CanMeasureOn};
+ghost use Rattle.explain_text.specs.Sides.{bucket_lines, value_lines};
 
+use crate::factors::push_factors_in;
 use crate::measure_fields::push_measure_fields;
 use crate::net_lines::push_nets;
 use crate::sides::{bucket_in, first_measure, second_measure};
+use breakdown_text::fault_text::{push_field, push_last_amount, push_number, push_sum};
 use bucket_cache::factor_book::{BucketAt, ClassAt, PlaceFactors, SideAt};
 use bucket_cache::kept_buckets::KeptBuckets;
-use fault_text::{push_field, push_last_amount, push_number, push_sum};
-use mh_units::Text;
-use simm_kinds::{BucketId, Measure};
-use simm_rules::BucketMargin;
-use std::alloc::AllocError;
+use measured_bucket::mh_units::Text;
+use measured_bucket::simm_kinds::{BucketId, Measure};
+use measured_bucket::simm_params::Params;
+use measured_bucket::simm_rules::BucketMargin;
+use std::alloc::{AllocError, Global};
 
-/// Adds the lines of a bucket, whose nets and values are lent.
+/// Adds the lines of a bucket, whose nets, which can be measured, and values are lent.
 pub(crate) fn push_bucket(
     text: &mut Text,
+    alloc: Global,
+    params: &Params,
     kept: &KeptBuckets,
     at: SideAt,
     bucket: &BucketId,
     nets: &PlaceFactors,
 ) -> Result<(), AllocError>
-    ensures { OnOk result (text.new ≡ text.old ++ bucket_lines (cached_in kept.now) at bucket.now nets.now) }
+    requires { CanMeasureOn params.now at bucket.now nets.now }
+    ensures { OnOk result (text.new ≡ text.old
+        ++ bucket_lines params.now (cached_in kept.now) at bucket.now nets.now) }
 {
     let its = bucket_in(at, *bucket);
     push_nets(text, nets)?;
-    push_measure(text, kept, &its, first_measure(at.side))?;
-    push_measure(text, kept, &its, second_measure(at.side))?;
+    push_measure(
+        text,
+        alloc,
+        params,
+        kept,
+        &its,
+        first_measure(at.side),
+        nets,
+    )?;
+    push_measure(
+        text,
+        alloc,
+        params,
+        kept,
+        &its,
+        second_measure(at.side),
+        nets,
+    )?;
     Ok(())
 }
 
-// Adds the line of its value in a measure, where it has it.
+// Adds its factors in a measure and its value, where it has the measure.
 fn push_measure(
     text: &mut Text,
+    alloc: Global,
+    params: &Params,
     kept: &KeptBuckets,
     at: &BucketAt,
     measure: Measure,
+    nets: &PlaceFactors,
 ) -> Result<(), AllocError>
-    ensures { OnOk result (text.new ≡ text.old ++ bucket_line at.now measure (cached_in kept.now at.now measure)) }
+    requires { CanMeasure params.now at.now measure nets.now }
+    ensures { OnOk result (text.new ≡ text.old
+        ++ value_lines params.now at.now measure nets.now (cached_in kept.now at.now measure)) }
 {
     match kept.cached(*at, measure) {
-        Some(value) => push_bucket_line(text, at, measure, &value),
+        Some(value) => {
+            push_factors_in(text, alloc, params, at, measure, nets)?;
+            push_bucket_line(text, at, measure, &value)
+        }
         None => Ok(()),
     }
 }
@@ -55,7 +87,7 @@ fn push_bucket_line(
     measure: Measure,
     value: &BucketMargin,
 ) -> Result<(), AllocError>
-    ensures { OnOk result (text.new ≡ text.old ++ bucket_line at.now measure (Some value.now)) }
+    ensures { OnOk result (text.new ≡ text.old ++ bucket_line at.now measure value.now) }
 {
     let class = ClassAt {
         product: at.product,
@@ -66,8 +98,8 @@ fn push_bucket_line(
     push_value(text, value)
 }
 
-// Adds the bucket as a row has it.
-fn push_bucket_word(text: &mut Text, bucket: &BucketId) -> Result<(), AllocError>
+/// Adds the bucket as a row has it.
+pub(crate) fn push_bucket_word(text: &mut Text, bucket: &BucketId) -> Result<(), AllocError>
     ensures { OnOk result (text.new ≡ text.old ++ field (bucket_word bucket.now)) }
 {
     match bucket {

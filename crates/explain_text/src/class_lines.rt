@@ -1,9 +1,9 @@
 //! The lines of the risk classes of each product class, and of the product classes.
 ghost use Rattle.std.specs.Prelude.{◌≡◌, ◌++◌, List, OnOk};
 ghost use Rattle.std.specs.List.{flat_map};
-ghost use Rattle.simm_kinds.specs.declared.row.TradeRows.{TradeRows};
-ghost use Rattle.simm_rules.specs.Parts.{class_part, product_part};
-ghost use Rattle.simm_rules.specs.Simm.{classes};
+ghost use Rattle.measured_bucket.specs.SimmKinds.declared.row.TradeRows.{TradeRows};
+ghost use Rattle.measured_bucket.specs.SimmRules.Parts.{class_part, product_part};
+ghost use Rattle.measured_bucket.specs.SimmRules.Simm.{classes};
 ghost use Rattle.bucket_cache.specs.Figures.{AreFigures};
 ghost use Rattle.explain_text.specs.Classes.{side_of_class, has_side, has_class, has_product, class_in, class_lines, product_lines};
 ghost use Rattle.explain_text.specs.Explained.{values_of, margins_of, products_lines};
@@ -12,9 +12,9 @@ use crate::side_lines::push_side;
 use breakdown_text::{push_class_margin, push_product_margin};
 use bucket_cache::factor_book::{BookSide, ClassAt, Factors, SideAt};
 use bucket_cache::{BatchFigures, measure_margins};
-use mh_units::Text;
-use simm_kinds::{ProductClass, RiskClass};
-use simm_params::Params;
+use measured_bucket::mh_units::Text;
+use measured_bucket::simm_kinds::{ProductClass, RiskClass};
+use measured_bucket::simm_params::Params;
 use std::alloc::{AllocError, Global};
 
 /// Adds the lines of all product classes that have a sensitivity.
@@ -26,7 +26,7 @@ pub(crate) fn push_products(
 ) -> Result<(), AllocError>
     requires { (trades : List TradeRows) × AreFigures params.now trades figures.now }
     ensures { OnOk result (text.new ≡ text.old
-        ++ products_lines (values_of params.now figures.now.factors) (margins_of params.now figures.now.factors) figures.now.factors figures.now.margin) }
+        ++ products_lines params.now (values_of params.now figures.now.factors) (margins_of params.now figures.now.factors) figures.now.factors figures.now.margin) }
 {
     for product in &ProductClass::ALL {
         push_product(text, alloc, params, figures, *product)?;
@@ -45,7 +45,7 @@ fn push_product(
 ) -> Result<(), AllocError>
     requires { (trades : List TradeRows) × AreFigures params.now trades figures.now }
     ensures { OnOk result (text.new ≡ text.old
-        ++ product_lines (values_of params.now figures.now.factors) (margins_of params.now figures.now.factors) figures.now.factors product
+        ++ product_lines params.now (values_of params.now figures.now.factors) (margins_of params.now figures.now.factors) figures.now.factors product
         (product_part figures.now.margin product)) }
 {
     if !has_product(&figures.factors, product) {
@@ -66,7 +66,7 @@ fn push_classes(
 ) -> Result<(), AllocError>
     requires { (trades : List TradeRows) × AreFigures params.now trades figures.now }
     ensures { OnOk result (text.new ≡ text.old
-        ++ flat_map (λ class. class_lines (values_of params.now figures.now.factors) (margins_of params.now figures.now.factors) figures.now.factors
+        ++ flat_map (λ class. class_lines params.now (values_of params.now figures.now.factors) (margins_of params.now figures.now.factors) figures.now.factors
         (class_in product class) (class_part (product_part figures.now.margin product) class).0) classes) }
 {
     for class in &RiskClass::ALL {
@@ -85,7 +85,7 @@ fn push_class(
 ) -> Result<(), AllocError>
     requires { (trades : List TradeRows) × AreFigures params.now trades figures.now }
     ensures { OnOk result (text.new ≡ text.old
-        ++ class_lines (values_of params.now figures.now.factors) (margins_of params.now figures.now.factors) figures.now.factors at
+        ++ class_lines params.now (values_of params.now figures.now.factors) (margins_of params.now figures.now.factors) figures.now.factors at
         (class_part (product_part figures.now.margin at.product) at.class).0) }
 {
     let factors = &figures.factors;
@@ -94,14 +94,12 @@ fn push_class(
         return Ok(());
     }
     let margins = measure_margins(alloc, params, factors, kept, at)?;
-    push_side(text, factors, kept, side_of(at, BookSide::Delta), margins)?;
-    push_side(
-        text,
-        factors,
-        kept,
+    let (delta, volatility) = (
+        side_of(at, BookSide::Delta),
         side_of(at, BookSide::Volatility),
-        margins,
-    )?;
+    );
+    push_side(text, alloc, params, factors, kept, delta, margins)?;
+    push_side(text, alloc, params, factors, kept, volatility, margins)?;
     let margin = figures.margin.product(at.product).class(at.class);
     push_class_margin(text, at.product, at.class, margin.0)?;
     Ok(())

@@ -1,6 +1,6 @@
 //! All lines of an explained margin.
 ghost use Rattle.std.specs.Prelude.{◌≡◌, IfOk};
-ghost use Rattle.simm_kinds.specs.Batch.{rows_of};
+ghost use Rattle.measured_bucket.specs.SimmKinds.Batch.{rows_of};
 ghost use Rattle.bucket_cache.specs.Figures.{AreFigures};
 ghost use Rattle.explain_text.specs.Explained.{explain_text};
 
@@ -9,9 +9,9 @@ use crate::class_lines::push_products;
 use breakdown_text::push_total;
 use bucket_cache::{BatchFigures, batch_parameters};
 use class_combine::sizes_are_of_rows;
-use mh_units::Text;
-use simm_kinds::TradeRows;
-use simm_params::Params;
+use measured_bucket::mh_units::Text;
+use measured_bucket::simm_kinds::TradeRows;
+use measured_bucket::simm_params::Params;
 use std::alloc::{AllocError, Global};
 
 /// How the margin of a batch comes about, in lines: of each product class and risk class that has a sensitivity the nets of each

@@ -2,13 +2,14 @@
 ghost use Rattle.std.specs.Prelude.{◌≡◌, ◌++◌, OnOk};
 ghost use Rattle.explain_text.specs.Lines.{measure_word, measure_fields};
 
+use breakdown_text::fault_text::push_field;
 use bucket_cache::factor_book::ClassAt;
-use fault_text::push_field;
-use mh_units::Text;
-use simm_kinds::Measure;
+use measured_bucket::mh_units::Text;
+use measured_bucket::simm_kinds::Measure;
 use std::alloc::AllocError;
 
-fn measure_word(measure: Measure) -> &'static str
+/// The word of a measure.
+pub(crate) fn measure_word(measure: Measure) -> &'static str
     ensures { result.now ≡ measure_word measure }
 {
     match measure {

@@ -3,11 +3,11 @@ ghost use Rattle.std.specs.Prelude.{◌≡◌, ◌++◌, OnOk};
 ghost use Rattle.std.specs.List.{flat_map};
 ghost use Rattle.explain_text.specs.Lines.{net_line};
 
+use breakdown_text::fault_text::{push_field, push_last_number, push_sum};
 use breakdown_text::push_factor;
 use bucket_cache::factor_book::{Holding, PlaceFactors};
-use fault_text::{push_field, push_last_number, push_sum};
-use mh_units::Text;
-use simm_kinds::FactorKey;
+use measured_bucket::mh_units::Text;
+use measured_bucket::simm_kinds::FactorKey;
 use std::alloc::AllocError;
 
 /// Adds the lines of the nets of a place.

@@ -6,7 +6,7 @@ ghost use Rattle.explain_text.specs.Sides.{first_measure, second_measure, bucket
 
 use bucket_cache::factor_book::{BookSide, BucketAt, ClassAt, Factors, SideAt};
 use bucket_cache::kept_buckets::KeptBuckets;
-use simm_kinds::{BucketId, Measure};
+use measured_bucket::simm_kinds::{BucketId, Measure};
 
 /// The first of the two measures of a side.
 pub(crate) fn first_measure(side: BookSide) -> Measure

@@ -3,13 +3,13 @@ use Rattle.std.proofs.Common.{ℕ, List, Result, Ok, Err, inl, inr, sym, subst, 
 use Rattle.mh_io.specs.Faults.{Rises}
 use Rattle.mh_io.specs.Folder.{FolderSeen}
 use Rattle.mh_io.specs.Sink.{SinkSeen}
-use Rattle.simm_kinds.specs.declared.row.TradeRows.{TradeRows}
-use Rattle.simm_rules.specs.Params.{Params}
-use Rattle.command_files.specs.declared.fault.Fault.{Fault}
-use Rattle.command_files.specs.declared.status.Status.{Status}
-use Rattle.command_files.specs.declared.status.Status.TheVariants as status
-use Rattle.command_files.specs.Complete.{EndsWell}
-use Rattle.command_files.specs.Printed.{Prints}
+use Rattle.explain_text.specs.SimmKinds.declared.row.TradeRows.{TradeRows}
+use Rattle.explain_text.specs.SimmRules.Params.{Params}
+use Rattle.margin_calc.specs.CommandFiles.declared.fault.Fault.{Fault}
+use Rattle.margin_calc.specs.CommandFiles.declared.status.Status.{Status}
+use Rattle.margin_calc.specs.CommandFiles.declared.status.Status.TheVariants as status
+use Rattle.margin_calc.specs.CommandFiles.Complete.{EndsWell}
+use Rattle.margin_calc.specs.CommandFiles.Printed.{Prints}
 use Rattle.margin_calc.specs.Calc.{HasBoth}
 use Rattle.margin_calc.specs.Complete.{IsWell}
 use Rattle.margin_calc.proofs.CalcLemmas.{fails_cause}

@@ -2,15 +2,15 @@
 use Rattle.std.specs.Prelude.{ℕ, ◌≡◌, List, None, ◌⊎◌, Result, Ok, Err}
 use Rattle.mh_io.specs.Folder.{FolderSeen}
 use Rattle.mh_io.specs.Sink.{SinkSeen}
-use Rattle.simm_kinds.specs.declared.row.TradeRows.{TradeRows}
-use Rattle.simm_kinds.specs.Batch.{rows_of}
-use Rattle.simm_rules.specs.Params.{Params}
-use Rattle.simm_rules.specs.Range.{range}
+use Rattle.explain_text.specs.SimmKinds.declared.row.TradeRows.{TradeRows}
+use Rattle.explain_text.specs.SimmKinds.Batch.{rows_of}
+use Rattle.explain_text.specs.SimmRules.Params.{Params}
+use Rattle.explain_text.specs.SimmRules.Range.{range}
 use Rattle.explain_text.specs.BucketCache.Live.{first_unadmitted}
-use Rattle.command_files.specs.declared.fault.Fault.{Fault}
-use Rattle.command_files.specs.declared.status.Status.{Status}
-use Rattle.command_files.specs.Ending.{EndsAtFault}
-use Rattle.command_files.specs.Printed.{Prints}
+use Rattle.margin_calc.specs.CommandFiles.declared.fault.Fault.{Fault}
+use Rattle.margin_calc.specs.CommandFiles.declared.status.Status.{Status}
+use Rattle.margin_calc.specs.CommandFiles.Ending.{EndsAtFault}
+use Rattle.margin_calc.specs.CommandFiles.Printed.{Prints}
 use Rattle.explain_text.specs.Explained.{explain_text}
 use Rattle.margin_calc.specs.Calc.{HasBoth, CalcCause, BatchComesTo}
 

@@ -1,11 +1,11 @@
 ghost use Rattle.std.specs.Prelude.{◌≤◌};
-ghost use Rattle.command_files.specs.Complete.{EndsWell};
-ghost use Rattle.command_files.specs.Files.{KeepsCounts};
+ghost use Rattle.margin_calc.specs.CommandFiles.Complete.{EndsWell};
+ghost use Rattle.margin_calc.specs.CommandFiles.Files.{KeepsCounts};
 ghost use Rattle.margin_calc.specs.Complete.{IsWell};
 ghost use Rattle.margin_explain.specs.Explain.{ExplainEnds};
 
 use crate::text_of::text_of_files;
-use command_files::{Status, end_at_fault, print_text};
+use margin_calc::command_files::{Status, end_at_fault, print_text};
 use mh_io::{Folder, Sink};
 use std::alloc::Global;
 

@@ -1,14 +1,14 @@
-ghost use Rattle.command_files.specs.Files.{KeepsCounts};
+ghost use Rattle.margin_calc.specs.CommandFiles.Files.{KeepsCounts};
 ghost use Rattle.margin_explain.specs.Explain.{TextEnds, ExplainedEnds};
 
-use command_files::Fault;
 use explain_text::bucket_cache::batch_figures;
 use explain_text::explained_lines;
+use explain_text::mh_units::Text;
+use explain_text::simm_kinds::Batch;
+use explain_text::simm_params::Params;
+use margin_calc::command_files::Fault;
 use margin_calc::{batch_fault, read_both};
 use mh_io::Folder;
-use mh_units::Text;
-use simm_kinds::Batch;
-use simm_params::Params;
 use std::alloc::Global;
 
 /// Works out the lines of a batch.

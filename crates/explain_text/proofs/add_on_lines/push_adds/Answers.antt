@@ -1,6 +1,6 @@
 use Rattle.std.specs.List.{flat_map}
-use Rattle.simm_rules.specs.AddOns.{multiplier, notional_factor}
-use Rattle.simm_rules.specs.Parts.{product_part}
+use Rattle.measured_bucket.specs.SimmRules.AddOns.{multiplier, notional_factor}
+use Rattle.measured_bucket.specs.SimmRules.Parts.{product_part}
 use Rattle.class_combine.specs.Notionals.{size_at}
 use Rattle.breakdown_text.proofs.Pieces.{three_pieces}
 use Rattle.breakdown_text.specs.Margins.{add_on_lines}

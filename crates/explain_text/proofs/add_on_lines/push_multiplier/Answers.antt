@@ -1,6 +1,6 @@
 use Rattle.std.proofs.Common.{◌∙◌}
-use Rattle.simm_kinds.specs.Kinds.{product_word}
-use Rattle.simm_rules.specs.Parts.{product_part}
+use Rattle.measured_bucket.specs.SimmKinds.Kinds.{product_word}
+use Rattle.measured_bucket.specs.SimmRules.Parts.{product_part}
 use Rattle.explain_text.proofs.AddOns.{multiplier_is}
 use Rattle.explain_text.proofs.add_on_lines.push_multiplier.Goals as goal
 

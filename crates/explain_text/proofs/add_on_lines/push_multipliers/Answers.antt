@@ -1,6 +1,6 @@
 use Rattle.std.proofs.Common.{◌∙◌}
-use Rattle.simm_rules.specs.AddOns.{multiplier}
-use Rattle.simm_rules.specs.Parts.{product_part}
+use Rattle.measured_bucket.specs.SimmRules.AddOns.{multiplier}
+use Rattle.measured_bucket.specs.SimmRules.Parts.{product_part}
 use Rattle.class_combine.proofs.Rows.{row_in_range}
 use Rattle.explain_text.specs.Lines.{multiplier_line}
 use Rattle.explain_text.proofs.Pieces.{row_step}

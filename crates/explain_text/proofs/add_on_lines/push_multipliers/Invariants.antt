@@ -1,7 +1,7 @@
 use Rattle.std.proofs.Common.{◌≡◌, ◌++◌, drop}
 use Rattle.std.specs.List.{flat_map}
-use Rattle.simm_rules.specs.AddOns.{multiplier}
-use Rattle.simm_rules.specs.Parts.{product_part}
+use Rattle.measured_bucket.specs.SimmRules.AddOns.{multiplier}
+use Rattle.measured_bucket.specs.SimmRules.Parts.{product_part}
 use Rattle.explain_text.specs.Lines.{multiplier_line}
 use Rattle.explain_text.proofs.add_on_lines.push_multipliers.Given as goal
 

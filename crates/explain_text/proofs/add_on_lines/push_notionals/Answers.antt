@@ -1,5 +1,5 @@
 use Rattle.std.proofs.Common.{◌∙◌}
-use Rattle.simm_rules.specs.AddOns.{notional_factor}
+use Rattle.measured_bucket.specs.SimmRules.AddOns.{notional_factor}
 use Rattle.class_combine.proofs.Rows.{row_in_range}
 use Rattle.class_combine.specs.Notionals.{size_at}
 use Rattle.explain_text.specs.Lines.{notional_line}

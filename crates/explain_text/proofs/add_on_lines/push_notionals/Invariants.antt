@@ -1,6 +1,6 @@
 use Rattle.std.proofs.Common.{◌≡◌, ◌++◌, drop}
 use Rattle.std.specs.List.{flat_map}
-use Rattle.simm_rules.specs.AddOns.{notional_factor}
+use Rattle.measured_bucket.specs.SimmRules.AddOns.{notional_factor}
 use Rattle.class_combine.specs.Notionals.{size_at}
 use Rattle.explain_text.specs.Lines.{notional_line}
 use Rattle.explain_text.proofs.add_on_lines.push_notionals.Given as goal

@@ -1,8 +1,8 @@
 use Rattle.std.proofs.Common.{◌+◌, ◌∙◌, ap, sym, drop, get_or, arith}
 use Rattle.std.proofs.lemmas.List.{drop_more}
-use Rattle.simm_kinds.specs.declared.kinds.RiskClass.{RiskClass}
-use Rattle.simm_kinds.specs.declared.kinds.RiskClass.TheVariants as class
-use Rattle.simm_rules.specs.Simm.{classes}
+use Rattle.measured_bucket.specs.SimmKinds.declared.kinds.RiskClass.{RiskClass}
+use Rattle.measured_bucket.specs.SimmKinds.declared.kinds.RiskClass.TheVariants as class
+use Rattle.measured_bucket.specs.SimmRules.Simm.{classes}
 use Rattle.explain_text.specs.Classes.{has_class, has_product, class_in}
 use Rattle.explain_text.proofs.Pieces.{any_next}
 use Rattle.explain_text.proofs.class_lines.has_product.Goals as goal

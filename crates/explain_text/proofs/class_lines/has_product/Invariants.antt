@@ -1,6 +1,6 @@
 use Rattle.std.proofs.Common.{◌≡◌, drop}
 use Rattle.std.specs.List.{list_any}
-use Rattle.simm_rules.specs.Simm.{classes}
+use Rattle.measured_bucket.specs.SimmRules.Simm.{classes}
 use Rattle.explain_text.specs.Classes.{has_class, has_product, class_in}
 use Rattle.explain_text.proofs.class_lines.has_product.Given as goal
 

@@ -1,7 +1,7 @@
 use Rattle.std.proofs.Common.{rules, ◌∙◌, FitsSigned, ℤ, to_z, of_z}
 use Rattle.std.specs.Int.{w128}
 use Rattle.std.proofs.lemmas.Int.{to_z-of_z}
-use Rattle.simm_rules.specs.Parts.{class_part}
+use Rattle.measured_bucket.specs.SimmRules.Parts.{class_part}
 use Rattle.explain_text.proofs.OfClass.{class_is}
 use Rattle.explain_text.proofs.class_lines.push_class.Goals as goal
 
@@ -15,7 +15,7 @@ returns c =
     let fits : FitsSigned w128 c.class-margin.result.0 = search rules in
     let shown : ℤ = to_z w128 (of_z w128 c.class-margin.result.0) in
     class_is c.args.params.now c.requires.0 f c.requires.1 at c.in_ok-margins.margins c.in_ok-margins.ensures
-    c.has_class.result shown c.side_of.result c.side_of-2.result c.args.text.now c.push_side.new.text c.push_side-2.new.text c.push_class_margin.new.text
+    c.has_class.result shown c.side_of-delta.result c.side_of-volatility.result c.args.text.now c.push_side.new.text c.push_side-2.new.text c.push_class_margin.new.text
     c.has_class.ensures c.if-not-has_class.false
     (to_z-of_z w128 c.class-margin.result.0 fits ∙ (λ k. (c.class-margin.ensures k).0) ∙ (λ k. (class_part (c.product.ensures k) at.class).0))
-    c.side_of.ensures c.side_of-2.ensures c.in_ok-push_side.ensures c.in_ok-push_side-2.ensures c.in_ok-push_class_margin.ensures
+    c.side_of-delta.ensures c.side_of-volatility.ensures c.in_ok-push_side.ensures c.in_ok-push_side-2.ensures c.in_ok-push_class_margin.ensures

@@ -1,6 +1,6 @@
 use Rattle.std.proofs.Common.{◌∙◌, ◌++◌, ap, arith}
-use Rattle.simm_kinds.specs.declared.kinds.RiskClass.TheVariants as class
-use Rattle.simm_rules.specs.Simm.{classes}
+use Rattle.measured_bucket.specs.SimmKinds.declared.kinds.RiskClass.TheVariants as class
+use Rattle.measured_bucket.specs.SimmRules.Simm.{classes}
 use Rattle.breakdown_text.proofs.Pieces.{piece_step}
 use Rattle.explain_text.proofs.Products.{lines_of_class, lines_at}
 use Rattle.explain_text.proofs.class_lines.push_classes.Goals as goal

@@ -1,6 +1,6 @@
 use Rattle.std.proofs.Common.{◌≡◌, ◌++◌, drop}
 use Rattle.std.specs.List.{flat_map}
-use Rattle.simm_rules.specs.Simm.{classes}
+use Rattle.measured_bucket.specs.SimmRules.Simm.{classes}
 use Rattle.explain_text.proofs.Products.{lines_of_class}
 use Rattle.explain_text.proofs.class_lines.push_classes.Given as goal
 

@@ -2,8 +2,8 @@ use Rattle.std.proofs.Common.{◌++◌, ◌∙◌, drop, arith}
 use Rattle.std.specs.List.{flat_map}
 use Rattle.std.proofs.lemmas.List.{drop_all}
 use Rattle.std.proofs.lemmas.Result.{err_from_is_err_and}
-use Rattle.simm_kinds.specs.declared.kinds.ProductClass.TheVariants as product
-use Rattle.simm_rules.specs.Simm.{products}
+use Rattle.measured_bucket.specs.SimmKinds.declared.kinds.ProductClass.TheVariants as product
+use Rattle.measured_bucket.specs.SimmRules.Simm.{products}
 use Rattle.breakdown_text.proofs.Pieces.{piece_step}
 use Rattle.explain_text.proofs.Pieces.{lent_end}
 use Rattle.explain_text.proofs.Products.{its_lines}

@@ -1,6 +1,6 @@
 use Rattle.std.proofs.Common.{◌≡◌, ◌++◌, drop}
 use Rattle.std.specs.List.{flat_map}
-use Rattle.simm_rules.specs.Simm.{products}
+use Rattle.measured_bucket.specs.SimmRules.Simm.{products}
 use Rattle.explain_text.proofs.Products.{its_lines}
 use Rattle.explain_text.proofs.class_lines.push_products.Given as goal
 

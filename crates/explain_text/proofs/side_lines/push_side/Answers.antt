@@ -1,6 +1,6 @@
 use Rattle.std.proofs.Common.{◌++◌, ◌∙◌, ap}
 use Rattle.std.specs.List.{flat_map}
-use Rattle.simm_kinds.specs.declared.kinds.Measure.{Measure}
+use Rattle.measured_bucket.specs.SimmKinds.declared.kinds.Measure.{Measure}
 use Rattle.bucket_cache.specs.BookMargin.Measures.{measure_in}
 use Rattle.bucket_cache.specs.FactorBook.Places.{factors_at, place_in, buckets_on}
 use Rattle.bucket_cache.specs.KeptBuckets.Cached.{cached_in}
@@ -12,9 +12,10 @@ pub returns : goal.returns
 returns c =
     let K = cached_in c.args.kept.now in
     let M = λ (m : Measure). (measure_in c.args.margins m).0 in
+    let p = c.args.params.now in
     let at = c.args.at in
     let fs = c.args.factors.now in
-    three_pieces (flat_map (λ b. bucket_lines K at b (factors_at (place_in at b) fs)) (buckets_on at fs))
+    three_pieces (flat_map (λ b. bucket_lines p K at b (factors_at (place_in at b) fs)) (buckets_on at fs))
     (margin_line K M at (buckets_on at fs) (first_measure at.side)) (margin_line K M at (buckets_on at fs) (second_measure at.side))
     c.args.text.now c.push_buckets.new.text c.push_margin.new.text c.push_margin-2.new.text
     c.in_ok-push_buckets.ensures

@@ -1,6 +1,6 @@
 use Rattle.std.proofs.Common.{Err, ◌∙◌, ap, sym, refl, inl}
-use Rattle.simm_kinds.specs.Batch.{rows_of}
-use Rattle.simm_rules.specs.Range.{range}
+use Rattle.explain_text.specs.SimmKinds.Batch.{rows_of}
+use Rattle.explain_text.specs.SimmRules.Range.{range}
 use Rattle.explain_text.specs.BucketCache.declared.figures.BatchFigures.{BatchFigures}
 use Rattle.explain_text.specs.BucketCache.Live.{first_unadmitted}
 use Rattle.explain_text.specs.Explained.{explain_text}
