@@ -5,13 +5,15 @@ use Rattle.std.specs.Str.{bytes_eq}
 use Rattle.margin_schedule.specs.ScheduleIm.IsoDates.declared.date.DateNumbers.{DateNumbers}
 use Rattle.margin_schedule.specs.ScheduleIm.EndDates.{end_date_of}
 use Rattle.feed_reader.specs.Values.{number}
+use Rattle.margin_whatif.specs.Words.{is_trade_word}
 use Rattle.margin_pool.specs.PoolFeed.Values.{some_amount}
 
--- the forms of a command, each with its file words, and a sample with its numbers
+-- the forms of a command, each with its file words and names, and a sample with its numbers
 pub data Form : Type 0 where
   Calc : (params crif : List ℕ) → Form
   Explain : (params crif : List ℕ) → Form
   Schedule : (day : DateNumbers) (crif : List ℕ) → Form
+  WhatIf : (params crif candidate : List ℕ) (names : List (List ℕ)) → Form
   Sample : (feeds seed : ℕ) → Form
   Run : (params terms : List ℕ) (feeds : List (List ℕ)) → Form
   Pool : (terms : List ℕ) (total : ℕ) (feeds : List (List ℕ)) → Form
@@ -68,8 +70,23 @@ feeds_form command first second feeds =
     else if bytes_eq command (codes "pool") && is_name_word first && are_feed_words feeds then pool_form first (some_amount second) feeds
     else None
 
+-- words that name 0 to 100 trades
+abbrev pub are_trade_words : List (List ℕ) → Bool
+are_trade_words words = nat_le (length words) 100 && list_all (λ word. is_name_word word && is_trade_word word) words
+
+-- `whatif PARAMS CRIF CANDIDATE NAME..` with 0 to 100 names of trades
+abbrev pub what_if_form : List ℕ → List ℕ → List (List ℕ) → Option Form
+what_if_form params crif [] = None
+what_if_form params crif (candidate ∷ names) =
+    if is_name_word params && is_name_word crif && is_name_word candidate && are_trade_words names then Some (WhatIf params crif candidate names) else None
+
+-- four words or more: a what-if, or feeds
+abbrev pub long_form : List ℕ → List ℕ → List ℕ → List (List ℕ) → Option Form
+long_form command first second rest =
+    if bytes_eq command (codes "whatif") then what_if_form first second rest else feeds_form command first second rest
+
 -- these; all other words are no form
 abbrev pub form_of : List (List ℕ) → Option Form
 form_of (command ∷ first ∷ second ∷ []) = short_form command first second
-form_of (command ∷ first ∷ second ∷ feed ∷ feeds) = feeds_form command first second (feed ∷ feeds)
+form_of (command ∷ first ∷ second ∷ third ∷ rest) = long_form command first second (third ∷ rest)
 form_of _ = None

@@ -17,6 +17,7 @@ use margin_pool::pool;
 use margin_run::run;
 use margin_sample::sample;
 use margin_schedule::schedule;
+use margin_whatif::whatif;
 use mh_io::{Folder, Sink};
 use std::alloc::Global;
 use std::sync::Wait;
@@ -24,7 +25,8 @@ use std::thread::Threads;
 
 /// All that the program does: `calc PARAMS CRIF` prints the margin of one batch, as `calc` says; `explain PARAMS CRIF`
 /// prints how that margin comes about, as `explain` says; `schedule DATE CRIF` prints the
-/// margin of a portfolio by the standard schedule on a day, as `schedule` says; `run PARAMS TERMS FEED..`
+/// margin of a portfolio by the standard schedule on a day, as `schedule` says; `whatif PARAMS CRIF CANDIDATE NAME..` prints the
+/// margin of a batch before and after a candidate comes and 0 to 100 trades leave, as `whatif` says; `run PARAMS TERMS FEED..`
 /// runs 1 to 32 feeds at the same time on the netting sets of the terms, prints the journals and what became of the feeds,
 /// and tells each desk the calls that were made; `pool TERMS TOTAL FEED..` runs 1 to 32 feeds at the same time on a total that
 /// the netting sets of the terms share, and prints what each was replied, as `pool` says. Words that are no form of a command
@@ -62,6 +64,7 @@ pub fn margin_house<R: Threads + Wait + Sync, F: Folder, K: Sink, G: Gate>(
         Some(Command::Calc(files)) => calc(alloc, files.params, files.crif, folder, out),
         Some(Command::Explain(files)) => explain(alloc, files.params, files.crif, folder, out),
         Some(Command::Schedule(files)) => schedule(alloc, files.day, files.crif, folder, out),
+        Some(Command::WhatIf(files)) => whatif(alloc, files, folder, out),
         Some(Command::Sample(plan)) => sample(rt, alloc, plan, out, gate),
         Some(Command::Run(files)) => run(rt, alloc, files, folder, out, desks, retired, gate),
         Some(Command::Pool(files)) => pool(rt, alloc, files, folder, out, gate),

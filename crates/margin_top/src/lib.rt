@@ -12,3 +12,4 @@ pub use margin_explain::explain;
 pub use margin_pool::pool;
 pub use margin_run::journal_text;
 pub use margin_schedule::schedule;
+pub use margin_whatif::whatif;

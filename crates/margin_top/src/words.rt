@@ -1,7 +1,8 @@
-ghost use Rattle.std.specs.Prelude.{◌≡◌, map, length, true, IfSome};
+ghost use Rattle.std.specs.Prelude.{◌≡◌, map, length, true, ◌&&◌, IfSome};
 ghost use Rattle.std.specs.List.{list_all};
 ghost use Rattle.std.specs.String.{string_bytes};
-ghost use Rattle.margin_top.specs.Words.{is_name_word, are_feed_words, margin_form, feeds_form, number_of, sample_form, short_form, form_of};
+ghost use Rattle.margin_top.specs.Words.{is_name_word, are_feed_words, margin_form, feeds_form, are_trade_words, what_if_form, long_form, number_of, sample_form, short_form, form_of};
+ghost use Rattle.margin_whatif.specs.Words.{is_trade_word, words_in};
 ghost use Rattle.margin_top.specs.WordsRead.{IsForm, IsPlan, AreFew, IsWithin};
 
 use feed_reader::number_in;
@@ -9,6 +10,7 @@ use margin_pool::{PoolFiles, amount_in};
 use margin_run::RunFiles;
 use margin_sample::SamplePlan;
 use margin_schedule::EndDate;
+use margin_whatif::{WhatIfFiles, is_trade};
 
 /// The files of a margin calculation, and of its explanation.
 #[derive(Clone, Copy)]
@@ -52,12 +54,32 @@ fn are_feeds(words: &[String]) -> bool
     !words.is_empty() && words.len() <= MOST_FEEDS && are_names(words)
 }
 
+/// How many trades a what-if names at most.
+const MOST_NAMES: usize = 100;
+
+fn are_trade_names(words: &[String]) -> bool
+    ensures { result ≡ list_all (λ word. is_name_word (string_bytes word) && is_trade_word (string_bytes word)) words.now }
+{
+    words
+        .iter()
+        .all(|word| is_name(word.as_str()) && is_trade(word.as_bytes()))
+}
+
+/// Words that name trades.
+fn are_trades(words: &[String]) -> bool
+    ensures form { result ≡ are_trade_words (map string_bytes words.now) }
+    ensures names { result ≡ true → list_all is_trade_word (words_in words.now) ≡ true }
+{
+    words.len() <= MOST_NAMES && are_trade_names(words)
+}
+
 /// A command with its files.
 #[derive(Clone, Copy)]
 pub(crate) enum Command<'a> {
     Calc(CalcFiles<'a>),
     Explain(CalcFiles<'a>),
     Schedule(ScheduleFiles<'a>),
+    WhatIf(WhatIfFiles<'a>),
     Sample(SamplePlan),
     Run(RunFiles<'a>),
     Pool(PoolFiles<'a>),
@@ -154,6 +176,42 @@ fn feeds_command<'a>(
     None
 }
 
+/// The what-if whose files and trades these words name.
+fn what_if_command<'a>(params: &'a str, crif: &'a str, rest: &'a [String]) -> Option<Command<'a>>
+    ensures form { IsForm result (what_if_form params.now crif.now (map string_bytes rest.now)) }
+    ensures within { IsWithin result }
+{
+    let [candidate, names @ ..] = rest else {
+        return None;
+    };
+    let candidate = candidate.as_str();
+    if is_name(params) && is_name(crif) && is_name(candidate) && are_trades(names) {
+        return Some(Command::WhatIf(WhatIfFiles {
+            params,
+            crif,
+            candidate,
+            names,
+        }));
+    }
+    None
+}
+
+/// The what-if or the run of feeds that four words or more ask for.
+fn long_command<'a>(
+    command: &'a str,
+    first: &'a str,
+    second: &'a str,
+    rest: &'a [String],
+) -> Option<Command<'a>>
+    ensures form { IsForm result (long_form command.now first.now second.now (map string_bytes rest.now)) }
+    ensures within { IsWithin result }
+{
+    if command == "whatif" {
+        return what_if_command(first, second, rest);
+    }
+    feeds_command(command, first, second, rest)
+}
+
 /// The command of the words, if they are a form of one.
 pub(crate) fn command_of(words: &[String]) -> Option<Command<'_>>
     ensures form { IsForm result (form_of (map string_bytes words.now)) }
@@ -163,8 +221,8 @@ pub(crate) fn command_of(words: &[String]) -> Option<Command<'_>>
         [command, first, second] => {
             short_command(command.as_str(), first.as_str(), second.as_str())
         }
-        [command, first, second, feeds @ ..] => {
-            feeds_command(command.as_str(), first.as_str(), second.as_str(), feeds)
+        [command, first, second, rest @ ..] => {
+            long_command(command.as_str(), first.as_str(), second.as_str(), rest)
         }
         _ => None,
     }

@@ -1,0 +1,5 @@
+pub mod Alone
+pub mod Behind
+pub mod Asking
+pub mod Ends
+pub mod Complete

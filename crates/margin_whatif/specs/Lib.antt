@@ -1,0 +1,5 @@
+pub mod Words
+pub mod Lines
+pub mod FaultLine
+pub mod WhatIf
+pub mod Complete

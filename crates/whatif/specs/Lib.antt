@@ -1,0 +1,3 @@
+pub mod Faults
+pub mod Asked
+pub use Rattle.bucket_cache.specs as BucketCache
