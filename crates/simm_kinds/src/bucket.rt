@@ -7,7 +7,7 @@ use crate::words::is_word;
 use crate::{BucketId, BucketNumber};
 
 /// The bucket of an issuer or an index: one of the numbered ones, or the residual one, which comes last.
-#[derive(Clone, Copy, PartialEq, Eq, PartialOrd, Ord)]
+#[derive(Clone, Copy, PartialEq, Eq, PartialOrd, Ord, Hash)]
 pub enum Bucket {
     /// A bucket with a number, from 1.
     Number(BucketNumber),

@@ -5,7 +5,7 @@ ghost use Rattle.simm_kinds.specs.BucketNumber.{is_bucket_number, bucket_number_
 use std::marker::Model;
 
 /// The number of a bucket, 1 to 64. Contracts see just the number.
-#[derive(Clone, Copy, PartialEq, Eq, PartialOrd, Ord)]
+#[derive(Clone, Copy, PartialEq, Eq, PartialOrd, Ord, Hash)]
 pub struct BucketNumber {
     number: u8,
 }

@@ -5,7 +5,7 @@ ghost use Rattle.simm_kinds.specs.Tenors.{tenor_word, tenor_at, credit_tenor_at,
 use crate::Tenor;
 
 /// A vertex of a credit spread: one of five years of the grid of tenors.
-#[derive(Clone, Copy, Debug, PartialEq, Eq, PartialOrd, Ord)]
+#[derive(Clone, Copy, Debug, PartialEq, Eq, PartialOrd, Ord, Hash)]
 pub enum CreditTenor {
     /// One year.
     Y1,

@@ -1,12 +1,18 @@
 ghost use Rattle.std.specs.Prelude.{◌≡◌, true, if◌then◌else◌};
+ghost use Rattle.std.proofs.Common.{rules};
+ghost use Rattle.std.specs.Cmp.{partial_order_from_own_ties};
+ghost use Rattle.std.specs.Cmp.Rules.{comparing};
+ghost use Rattle.std.specs.Cmp.Lexicographic.{slice_cmp};
+ghost use Rattle.std.specs.Ordering.{nat_cmp, as_partial_cmp};
 ghost use Rattle.simm_kinds.specs.NameText.{is_currency};
 ghost use Rattle.simm_kinds.specs.Currency.{currency_text};
 
+use std::cmp::Ordering;
 use std::marker::Model;
 
 /// A currency: three ASCII letters in upper case. Currencies are equal, ordered and hashed by their letters; contracts
 /// see just these.
-#[derive(Clone, Copy, Debug, PartialEq, Eq, PartialOrd, Ord)]
+#[derive(Clone, Copy, Debug, PartialEq, Eq, Hash)]
 pub struct Currency {
     letters: [u8; 3],
 }
@@ -65,5 +71,34 @@ fn of_three(letters: [u8; 3]) -> Option<Currency>
         Some(Currency { letters })
     } else {
         None
+    }
+}
+
+impl Ord for Currency {
+    ghost cmp = { slice_cmp nat_cmp };
+
+    ghost total = { Prim.search (comparing, rules) };
+
+    ghost matches_partial_cmp = { Prim.search (comparing, rules) };
+
+    ghost matches_eq = { Prim.search (comparing, rules) };
+
+    fn cmp(&self, other: &Currency) -> Ordering {
+        let ours = self.letters;
+        let theirs = other.letters;
+        let first = ours[0].cmp(&theirs[0]);
+        first
+            .then(ours[1].cmp(&theirs[1]))
+            .then(ours[2].cmp(&theirs[2]))
+    }
+}
+
+impl PartialOrd for Currency {
+    ghost partial_cmp = { as_partial_cmp (slice_cmp nat_cmp) };
+
+    ghost laws = { partial_order_from_own_ties (Prim.search (comparing, rules)) (Prim.search (comparing, rules)) };
+
+    fn partial_cmp(&self, other: &Currency) -> Option<Ordering> {
+        Some(self.cmp(other))
     }
 }

@@ -6,7 +6,7 @@ use std::marker::Model;
 
 /// A pair of two different currencies, the alphabetically smaller one first: an exchange rate has one pair, whichever
 /// way round a file writes it. Contracts see the two currencies.
-#[derive(Clone, Copy, Debug, PartialEq, Eq, PartialOrd, Ord)]
+#[derive(Clone, Copy, Debug, PartialEq, Eq, PartialOrd, Ord, Hash)]
 pub struct CurrencyPair {
     first: Currency,
     second: Currency,

@@ -9,7 +9,7 @@ use std::alloc::{AllocError, Global};
 
 /// A risk factor: a variant for each risk type of a sensitivity, in the order of the standard's table, with just the parts
 /// that this type has. Factors are ordered by their variants, and those of one variant part by part.
-#[derive(Drop, PartialEq, Eq, PartialOrd, Ord)]
+#[derive(Drop, PartialEq, Eq, PartialOrd, Ord, Hash)]
 pub enum Factor {
     /// Yield curve of a currency at a tenor.
     IrCurve {

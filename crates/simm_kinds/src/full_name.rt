@@ -7,7 +7,7 @@ use std::marker::Model;
 
 /// A name that isn't empty: of an issuer, an index, a commodity. Full names are equal, ordered and hashed by their
 /// bytes; contracts see just these.
-#[derive(Drop, PartialEq, Eq, PartialOrd, Ord)]
+#[derive(Drop, PartialEq, Eq, PartialOrd, Ord, Hash)]
 pub struct FullName {
     name: Name,
 }

@@ -6,7 +6,7 @@ use std::alloc::{AllocError, Global};
 
 /// The key of a sensitivity: what it is to, in a trade of which product class. Sensitivities with equal keys net. Keys are
 /// ordered by the product class, and then by the factor.
-#[derive(Drop, PartialEq, Eq, PartialOrd, Ord)]
+#[derive(Drop, PartialEq, Eq, PartialOrd, Ord, Hash)]
 pub struct FactorKey {
     /// The product class of the trade.
     pub product: ProductClass,

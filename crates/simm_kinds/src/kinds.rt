@@ -8,7 +8,7 @@ use crate::words::{Worded, first_worded, is_word};
 use crate::{Bucket, BucketNumber, Currency};
 
 /// The product class of a trade. Margins of different product classes never net.
-#[derive(Clone, Copy, Debug, PartialEq, Eq, PartialOrd, Ord)]
+#[derive(Clone, Copy, Debug, PartialEq, Eq, PartialOrd, Ord, Hash)]
 pub enum ProductClass {
     /// Interest rates and foreign exchange.
     RatesFX,
@@ -64,7 +64,7 @@ impl Worded for ProductClass {
 }
 
 /// The risk class that a sensitivity belongs to.
-#[derive(Clone, Copy, Debug, PartialEq, Eq, PartialOrd, Ord)]
+#[derive(Clone, Copy, Debug, PartialEq, Eq, PartialOrd, Ord, Hash)]
 pub enum RiskClass {
     /// Interest rates, with inflation and cross-currency basis.
     IR,
@@ -269,7 +269,7 @@ impl Worded for RiskType {
 }
 
 /// A vertex of the standard's grid of maturities: weeks, months, years.
-#[derive(Clone, Copy, Debug, PartialEq, Eq, PartialOrd, Ord)]
+#[derive(Clone, Copy, Debug, PartialEq, Eq, PartialOrd, Ord, Hash)]
 pub enum Tenor {
     /// Two weeks.
     W2,
@@ -356,7 +356,7 @@ impl Worded for Tenor {
 }
 
 /// The sub-curve of an interest rate sensitivity.
-#[derive(Clone, Copy, Debug, PartialEq, Eq, PartialOrd, Ord)]
+#[derive(Clone, Copy, Debug, PartialEq, Eq, PartialOrd, Ord, Hash)]
 pub enum SubCurve {
     /// Overnight index swaps.
     Ois,
@@ -421,7 +421,7 @@ impl Worded for SubCurve {
 
 /// The bucket that a sensitivity is summed in: one of the numbered ones, the residual one, that of a currency (interest
 /// rates), or the one bucket of a class that has no others.
-#[derive(Clone, Copy, PartialEq, Eq, PartialOrd, Ord)]
+#[derive(Clone, Copy, PartialEq, Eq, PartialOrd, Ord, Hash)]
 pub enum BucketId {
     /// A bucket with a number, from 1.
     Number(BucketNumber),
