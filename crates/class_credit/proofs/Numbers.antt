@@ -37,9 +37,6 @@ equal_left a b c e = nat_list_cmp_total.congr a b c e
 equal_right : (a b c : List ℕ) → name_cmp b c ≡ Equal → name_cmp a b ≡ name_cmp a c
 equal_right a b c e = nat_list_cmp_total.antisymm a b ∙ ap ordering_reverse (equal_left b c a e) ∙ sym (nat_list_cmp_total.antisymm a c)
 
-less_then : (a b c : List ℕ) → name_cmp a b ≡ Less → NotAfter b c → name_cmp a c ≡ Less
-less_then a b c h g = ⊎_elim (λ less. nat_list_cmp_total.trans a b c h less) (λ equal. sym (equal_right a b c equal) ∙ h) g
-
 then_less : (a b c : List ℕ) → NotAfter a b → name_cmp b c ≡ Less → name_cmp a c ≡ Less
 then_less a b c h g = ⊎_elim (λ less. nat_list_cmp_total.trans a b c less g) (λ equal. equal_left a b c equal ∙ g) h
 

@@ -1,5 +1,6 @@
 //! Base correlation: the index families of credit that qualifies, in one bucket, without concentration.
-ghost use Rattle.std.specs.Prelude.{◌≡◌, ℕ, ◌+◌, ◌*◌, ◌*ℤ◌, ◌^◌, ◌≤◌, All, IfOk, List, length, map, option_map, pos, unsigned_abs};
+ghost use Rattle.std.specs.Prelude.{◌≡◌, ℕ, ◌+◌, ◌*◌, ◌*ℤ◌, ◌^◌, ◌≤◌, pos, unsigned_abs};
+ghost use Rattle.std.specs.Prelude.{All, IfOk, List, length, map, option_map};
 ghost use Rattle.measured_bucket.specs.MhUnits.Rounding.{away};
 ghost use Rattle.measured_bucket.specs.SimmKinds.Order.{same_name};
 ghost use Rattle.measured_bucket.specs.SimmRules.BaseCorrelation.{as_index, base_value, index_rho, weighted_index};
@@ -9,7 +10,8 @@ ghost use Rattle.measured_bucket.specs.WeightedBucket.declared.scaling.Scaling.T
 ghost use Rattle.measured_bucket.specs.Explained.{without_group};
 ghost use Rattle.measured_bucket.specs.Measured.{IsNear, IsSound};
 ghost use Rattle.measured_bucket.specs.Values.{IsSmall};
-ghost use Rattle.class_credit.specs.Base.{index_nets, index_weight, indices_view, weighed_net, AreIndices};
+ghost use Rattle.class_credit.specs.Base.{index_nets, index_weight, indices_view};
+ghost use Rattle.class_credit.specs.Base.{weighed_net, AreIndices};
 ghost use Rattle.class_credit.specs.Unweighed.{unweighed_index};
 
 use measured_bucket::factor_book::PlaceFactors;
@@ -95,8 +97,9 @@ impl<'a> Measured for BaseCorrelation<'a> {
     }
 }
 
-/// The value of the one bucket of a product class's base correlations, of the index families of its place, which are in range and in
-/// order. `n` index families take at most `n * n` steps. Want of memory is the only error.
+/// The value of the one bucket of a product class's base correlations, of the index families of
+/// its place, which are in range and in order. `n` index families take at most `n * n` steps. Want
+/// of memory is the only error.
 pub fn base_correlation<L: Ledger>(
     alloc: Global,
     params: &Params,
@@ -168,7 +171,8 @@ fn index_weighings(
     weight: Rate4,
     indices: &[IndexNet],
 ) -> Result<Vec<Weighing>, AllocError>
-    ensures { IfOk result (λ weighings. weighings.items ≡ map (λ index. without_group weight.0 index.net) indices.now) }
+    ensures { IfOk result (λ weighings.
+        weighings.items ≡ map (λ index. without_group weight.0 index.net) indices.now) }
 {
     let mut weighings = Vec::with_capacity(alloc, indices.len())?;
     for index in indices {

@@ -18,8 +18,8 @@ use measured_bucket::simm_rules::BucketMargin;
 use std::alloc::{AllocError, Global};
 use std::sync::ledger::Ledger;
 
-/// The delta value of a bucket that the file lists, of the points of its place, which are in range and in order. `n` points take
-/// at most `n * n` steps. Want of memory is the only error.
+/// The delta value of a bucket that the file lists, of the points of its place, which are in range
+/// and in order. `n` points take at most `n * n` steps. Want of memory is the only error.
 pub fn credit_delta<L: Ledger>(
     alloc: Global,
     listed: ListedCredit,
@@ -42,8 +42,9 @@ pub fn credit_delta<L: Ledger>(
     measure(alloc, &measured, steps)
 }
 
-/// The vega value of a bucket that the file lists, of the volatilities of its place, which are in range and in order. `n`
-/// volatilities take at most `n * n` steps. Want of memory is the only error.
+/// The vega value of a bucket that the file lists, of the volatilities of its place, which are in
+/// range and in order. `n` volatilities take at most `n * n` steps. Want of memory is the only
+/// error.
 pub fn credit_vega<L: Ledger>(
     alloc: Global,
     listed: ListedCredit,
@@ -66,8 +67,9 @@ pub fn credit_vega<L: Ledger>(
     measure(alloc, &measured, steps)
 }
 
-/// The curvature value of a bucket that the file lists, of the volatilities of its place, which are in range and in order. `n`
-/// volatilities take at most `n * n` steps. Want of memory is the only error.
+/// The curvature value of a bucket that the file lists, of the volatilities of its place, which
+/// are in range and in order. `n` volatilities take at most `n * n` steps. Want of memory is the
+/// only error.
 pub fn credit_curvature<L: Ledger>(
     alloc: Global,
     listed: ListedCredit,

@@ -48,7 +48,8 @@ impl<'a> Measured for CreditCurvature<'a> {
 
     ghost weighted = { λ x. map (curved_point x.listed.bucket.terms.curvature) (points_view x.points.now) };
 
-    ghost unweighed = { λ x. map (uncurved_point x.listed.bucket.terms.curvature) (points_view x.points.now) };
+    ghost unweighed = { λ x. let terms = x.listed.bucket.terms in
+        map (uncurved_point terms.curvature) (points_view x.points.now) };
 
     ghost weigh = { λ weight amount _. risk_of weight amount };
 
@@ -138,7 +139,8 @@ fn curvature_weighings(
     points: &[PointNet],
 ) -> Result<Vec<Weighing>, AllocError>
     requires { All (λ point. unsigned_abs point.net ≤ 2 * 10 ^ 20) points.now }
-    ensures { IfOk result (λ weighings. weighings.items ≡ map (λ point. weighing_at sigma.0 (point_view point)) points.now) }
+    ensures { IfOk result (λ weighings.
+        weighings.items ≡ map (λ point. weighing_at sigma.0 (point_view point)) points.now) }
 {
     let mut weighings = Vec::with_capacity(alloc, points.len())?;
     for point in points {

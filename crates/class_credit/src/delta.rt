@@ -45,7 +45,8 @@ impl<'a> Measured for CreditDelta<'a> {
     ghost weighted = { λ x. let terms = x.listed.bucket.terms in let points = points_view x.points.now in
         map (weighted_point terms.weight.0 terms.thresholds.delta points) points };
 
-    ghost unweighed = { λ x. let terms = x.listed.bucket.terms in let points = points_view x.points.now in
+    ghost unweighed = { λ x. let terms = x.listed.bucket.terms in
+        let points = points_view x.points.now in
         map (unweighed_point terms.weight.0 terms.thresholds.delta points) points };
 
     ghost weigh = { weighted_value };

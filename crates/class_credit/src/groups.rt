@@ -2,7 +2,8 @@
 ghost use Rattle.std.specs.Prelude.{◌≡◌, ◌-◌, ◌<◌, IfOk, map, length};
 ghost use Rattle.std.specs.List.Sorted.{IsStrictlySortedBy};
 ghost use Rattle.measured_bucket.specs.WeightedBucket.Group.{group_net};
-ghost use Rattle.class_credit.specs.Groups.{changes, issuers_view, weighed_in, AreGrouped, AreWeighable, CanWeigh};
+ghost use Rattle.class_credit.specs.Groups.{changes, issuers_view, weighed_in};
+ghost use Rattle.class_credit.specs.Groups.{AreGrouped, AreWeighable, CanWeigh};
 ghost use Rattle.class_credit.specs.Points.{point_cmp, points_view};
 ghost use Rattle.class_credit.specs.Unweighed.{unweighed_point, weighing_in};
 
@@ -68,8 +69,8 @@ pub fn weigh_points(
     Ok(weighed)
 }
 
-/// What each net is weighed from by this weight: itself, and the group of its issuer over the threshold, in cents. Want of
-/// memory is the only error.
+/// What each net is weighed from by this weight: itself, and the group of its issuer over the
+/// threshold, in cents. Want of memory is the only error.
 pub fn point_weighings(
     alloc: Global,
     weight: Rate4,
@@ -79,7 +80,8 @@ pub fn point_weighings(
     requires ascends { IsStrictlySortedBy point_cmp (map (λ a. a.of) (points_view points.now)) }
     requires weighable { AreWeighable weight.0 threshold (points_view points.now) }
     ensures { let amounts = points_view points.now in IfOk result (λ weighings.
-        weighings.items ≡ map (λ factor. factor.from) (map (unweighed_point weight.0 threshold amounts) amounts)) }
+        weighings.items ≡ map (λ factor. factor.from)
+        (map (unweighed_point weight.0 threshold amounts) amounts)) }
 {
     let grouped = group_points(alloc, threshold, points)?;
     let amounts = grouped.as_slice();
@@ -95,7 +97,8 @@ fn group_weighings(
     nets: &[i128],
 ) -> Result<Vec<Weighing>, AllocError>
     requires { nets.now ≡ map (λ amount. group_net grouped.now amount.group) grouped.now }
-    ensures { IfOk result (λ weighings. weighings.items ≡ map (weighing_in weight.0 grouped.now) grouped.now) }
+    ensures { IfOk result (λ weighings.
+        weighings.items ≡ map (weighing_in weight.0 grouped.now) grouped.now) }
 {
     let mut weighings = Vec::with_capacity(alloc, grouped.len())?;
     for place in 0..grouped.len() {

@@ -27,7 +27,8 @@ pub struct PointNet<'a> {
     pub net: i128,
 }
 
-/// The nets to the points of a place, or to their volatilities, in their order. Want of memory is the only error.
+/// The nets to the points of a place, or to their volatilities, in their order. Want of memory is
+/// the only error.
 pub fn points_among<'a>(
     alloc: Global,
     lent: &'a PlaceFactors,

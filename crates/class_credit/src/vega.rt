@@ -46,7 +46,8 @@ impl<'a> Measured for CreditVega<'a> {
     ghost weighted = { λ x. let terms = x.listed.bucket.terms in let points = points_view x.points.now in
         map (weighted_point terms.vrw.0 terms.thresholds.vega points) points };
 
-    ghost unweighed = { λ x. let terms = x.listed.bucket.terms in let points = points_view x.points.now in
+    ghost unweighed = { λ x. let terms = x.listed.bucket.terms in
+        let points = points_view x.points.now in
         map (unweighed_point terms.vrw.0 terms.thresholds.vega points) points };
 
     ghost weigh = { weighted_value };

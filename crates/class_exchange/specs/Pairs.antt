@@ -51,7 +51,8 @@ ArePairsInRange p amounts = AreRunsInRange (λ v. fx_sigma p v.pair) amounts
 -- ---- their order: by pair and tenor
 
 abbrev pub pair_volatility_cmp : PairVolatility → PairVolatility → Ordering
-pair_volatility_cmp x y = ordering_then (pair_cmp x.pair y.pair) (nat_cmp (tenor_place x.tenor) (tenor_place y.tenor))
+pair_volatility_cmp x y =
+    ordering_then (pair_cmp x.pair y.pair) (nat_cmp (tenor_place x.tenor) (tenor_place y.tenor))
 
 -- those that can be measured: different ones in order, in range
 pub record ArePairs (p : Params) (amounts : List (Amount PairVolatility)) : Type 0 where

@@ -1,4 +1,5 @@
-//! The currencies of a product class, as a book lends them at their place. A sensitivity to the calculation currency is no risk.
+//! The currencies of a product class, as a book lends them at their place. A sensitivity to the
+//! calculation currency is no risk.
 ghost use Rattle.std.specs.Prelude.{◌≡◌, All, IfOk};
 ghost use Rattle.measured_bucket.specs.SimmRules.Risks.{risk};
 ghost use Rattle.class_exchange.specs.Currencies.{as_risky, currencies_view, risky_nets};
@@ -20,8 +21,8 @@ pub struct CurrencyNet {
     pub net: i128,
 }
 
-/// The nets to the currencies of a place, other than the calculation currency, in their order; the category of each is looked up once.
-/// Want of memory is the only error.
+/// The nets to the currencies of a place, other than the calculation currency, in their order; the
+/// category of each is looked up once. Want of memory is the only error.
 pub fn risky_currencies(
     alloc: Global,
     params: &Params,

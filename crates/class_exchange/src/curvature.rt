@@ -103,7 +103,8 @@ fn pair_weighings(
     params: &Params,
     pairs: &[TenorSum<CurrencyPair>],
 ) -> Result<Vec<Weighing>, AllocError>
-    ensures { IfOk result (λ weighings. weighings.items ≡ map (λ pair. (uncurved_pair params.now (pair_sum pair)).from) pairs.now) }
+    ensures { IfOk result (λ weighings. weighings.items
+        ≡ map (λ pair. (uncurved_pair params.now (pair_sum pair)).from) pairs.now) }
 {
     let mut weighings = Vec::with_capacity(alloc, pairs.len())?;
     for pair in pairs {

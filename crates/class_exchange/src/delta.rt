@@ -6,7 +6,9 @@ ghost use Rattle.measured_bucket.specs.SimmRules.Concentration.{one};
 ghost use Rattle.measured_bucket.specs.SimmRules.ForeignExchange.{currency_rho, fx_weight, weighted_currency};
 ghost use Rattle.measured_bucket.specs.WeightedBucket.declared.scaling.Scaling.TheVariants as ways;
 ghost use Rattle.measured_bucket.specs.Measured.{IsNear};
-ghost use Rattle.class_exchange.specs.Currencies.{currencies_view, currency_view, weighed_currency, AreCurrencies, CanWeigh, IsRisky};
+ghost use Rattle.class_exchange.specs.Currencies.{currencies_view, currency_view};
+ghost use Rattle.class_exchange.specs.Currencies.{weighed_currency, AreCurrencies};
+ghost use Rattle.class_exchange.specs.Currencies.{CanWeigh, IsRisky};
 ghost use Rattle.class_exchange.specs.Unweighed.{unweighed_currency};
 
 use crate::categories::CategoryRho;
@@ -43,7 +45,8 @@ impl<'a> Measured for FxDelta<'a> {
 
     ghost weighted = { λ x. map (weighted_currency x.params.now) (currencies_view x.currencies.now) };
 
-    ghost unweighed = { λ x. map (unweighed_currency x.params.now) (currencies_view x.currencies.now) };
+    ghost unweighed = { λ x.
+        map (unweighed_currency x.params.now) (currencies_view x.currencies.now) };
 
     ghost weigh = { weighted_value };
 
@@ -112,7 +115,8 @@ fn currency_weighings(
     currencies: &[CurrencyNet],
 ) -> Result<Vec<Weighing>, AllocError>
     requires { All (IsRisky params.now) currencies.now }
-    ensures { IfOk result (λ weighings. weighings.items ≡ map (λ net. (unweighed_currency params.now (currency_view net)).from) currencies.now) }
+    ensures { IfOk result (λ weighings. weighings.items
+        ≡ map (λ net. (unweighed_currency params.now (currency_view net)).from) currencies.now) }
 {
     let mut weighings = Vec::with_capacity(alloc, currencies.len())?;
     for currency in currencies {

@@ -1,4 +1,5 @@
-//! The values of the one bucket of foreign exchange of a product class, of the factors of its place in a book.
+//! The values of the one bucket of foreign exchange of a product class, of the factors of its
+//! place in a book.
 ghost use Rattle.std.specs.Prelude.{◌≡◌, ◌+◌, ◌*◌, ◌^◌, ◌≤◌, IfOk, length, unsigned_abs};
 ghost use Rattle.measured_bucket.specs.SimmRules.ForeignExchange.{fx_sigma, fx_weight, fx_value, fx_vega_value, fx_curvature_value, pairs_of};
 ghost use Rattle.measured_bucket.specs.Measured.{IsNear, IsSound};
@@ -18,9 +19,9 @@ use measured_bucket::{TenorScale, measure};
 use std::alloc::{AllocError, Global};
 use std::sync::ledger::Ledger;
 
-/// The delta value of the currencies of a place, whose `k` is the delta margin of foreign exchange; they are in range and in order.
-/// A sensitivity to the calculation currency is no risk. `n` other currencies take at most `n * n` steps. Want of memory is the
-/// only error.
+/// The delta value of the currencies of a place, whose `k` is the delta margin of foreign
+/// exchange; they are in range and in order. A sensitivity to the calculation currency is no risk.
+/// `n` other currencies take at most `n * n` steps. Want of memory is the only error.
 pub fn fx_delta<L: Ledger>(
     alloc: Global,
     params: &Params,
@@ -32,7 +33,8 @@ pub fn fx_delta<L: Ledger>(
     ensures sound { IfOk result IsSound }
     ensures near { let currencies = risky_nets params.now lent.now in IfOk result (λ m.
         IsNear (10 ^ 10) 346999999 1 (fx_weight params.now) currencies (unsigned_abs m.gross)) }
-    ensures steps { let n = length (risky_nets params.now lent.now) in steps.new ≤ steps.old + n * n }
+    ensures steps { let n = length (risky_nets params.now lent.now) in
+        steps.new ≤ steps.old + n * n }
 {
     let currencies = risky_currencies(alloc, params, lent)?;
     let measured = FxDelta {
@@ -42,8 +44,9 @@ pub fn fx_delta<L: Ledger>(
     measure(alloc, &measured, steps)
 }
 
-/// The vega value of the pairs of currencies of a place, whose `k` is the vega margin of foreign exchange; their volatilities are in
-/// range and in order. `n` pairs take at most `n * n` steps. Want of memory is the only error.
+/// The vega value of the pairs of currencies of a place, whose `k` is the vega margin of foreign
+/// exchange; their volatilities are in range and in order. `n` pairs take at most `n * n` steps.
+/// Want of memory is the only error.
 pub fn fx_vega<L: Ledger>(
     alloc: Global,
     params: &Params,
@@ -55,7 +58,8 @@ pub fn fx_vega<L: Ledger>(
     ensures sound { IfOk result IsSound }
     ensures near { let volatilities = pair_nets lent.now in IfOk result (λ m.
         IsNear (10 ^ 10) 832799998 695 (λ v. fx_sigma params.now v.pair) volatilities (unsigned_abs m.gross)) }
-    ensures steps { let n = length (pairs_of (pair_nets lent.now)) in steps.new ≤ steps.old + n * n }
+    ensures steps { let n = length (pairs_of (pair_nets lent.now)) in
+        steps.new ≤ steps.old + n * n }
 {
     params.facts();
     let pairs = volatile_pairs(alloc, lent, TenorScale::Even)?;
@@ -66,8 +70,8 @@ pub fn fx_vega<L: Ledger>(
     measure(alloc, &measured, steps)
 }
 
-/// The curvature value of the pairs of currencies of a place, whose volatilities are in range and in order. `n` pairs take at most
-/// `n * n` steps. Want of memory is the only error.
+/// The curvature value of the pairs of currencies of a place, whose volatilities are in range and
+/// in order. `n` pairs take at most `n * n` steps. Want of memory is the only error.
 pub fn fx_curvature<L: Ledger>(
     alloc: Global,
     params: &Params,
@@ -79,7 +83,8 @@ pub fn fx_curvature<L: Ledger>(
     ensures sound { IfOk result IsSound }
     ensures near { let volatilities = pair_nets lent.now in IfOk result (λ m.
         IsNear 20000 1 1 (λ v. fx_sigma params.now v.pair) volatilities (unsigned_abs m.gross)) }
-    ensures steps { let n = length (pairs_of (pair_nets lent.now)) in steps.new ≤ steps.old + n * n }
+    ensures steps { let n = length (pairs_of (pair_nets lent.now)) in
+        steps.new ≤ steps.old + n * n }
 {
     params.facts();
     let pairs = volatile_pairs(alloc, lent, TenorScale::Curved)?;

@@ -25,8 +25,9 @@ struct PairVolatility {
     tenor: Tenor,
 }
 
-/// What the nets to the volatilities of each pair of a place, which are in order, come to over its tenors, in the order of the pairs.
-/// The sizes of the nets come to no more than those of 200,000 amounts that a batch can have. Want of memory is the only error.
+/// What the nets to the volatilities of each pair of a place, which are in order, come to over its
+/// tenors, in the order of the pairs. The sizes of the nets come to no more than those of 200,000
+/// amounts that a batch can have. Want of memory is the only error.
 pub fn volatile_pairs(
     alloc: Global,
     lent: &PlaceFactors,

@@ -116,7 +116,8 @@ fn pair_weighings(
     pairs: &[TenorSum<CurrencyPair>],
 ) -> Result<Vec<Weighing>, AllocError>
     requires { All (CanWeigh params.now) pairs.now }
-    ensures { IfOk result (λ weighings. weighings.items ≡ map (λ pair. (unweighed_pair params.now (pair_sum pair)).from) pairs.now) }
+    ensures { IfOk result (λ weighings. weighings.items
+        ≡ map (λ pair. (unweighed_pair params.now (pair_sum pair)).from) pairs.now) }
 {
     let mut weighings = Vec::with_capacity(alloc, pairs.len())?;
     for pair in pairs {
