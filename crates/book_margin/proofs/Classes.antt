@@ -1,8 +1,9 @@
 -- The margins of the risk classes in each product class, as they are kept.
-use Rattle.std.proofs.Common.{◌≡◌, List, Option, Some, refl, sym, ◌∙◌, subst, Result, Ok, Err}
-use Rattle.std.specs.Prelude.{IsSome, IfSome, IfOk, OnOk}
+use Rattle.std.proofs.Common.{◌≡◌, List, Option, Some, None, refl, sym, ◌∙◌, subst, Result, Ok, Err}
+use Rattle.std.specs.Prelude.{IsSome, IfSome, OnOk, option_map}
 use Rattle.std.specs.List.{AllByRecursion}
 use Rattle.kept_buckets.specs.MhUnits.declared.quantities.Cents.{Cents}
+use Rattle.kept_buckets.specs.SimmKinds.declared.margin_side.MarginSide.{MarginSide}
 use Rattle.kept_buckets.specs.SimmKinds.declared.kinds.ProductClass.{ProductClass}
 use Rattle.kept_buckets.specs.SimmKinds.declared.kinds.ProductClass.TheVariants as product
 use Rattle.kept_buckets.specs.SimmKinds.declared.kinds.RiskClass.{RiskClass}
@@ -15,13 +16,16 @@ use Rattle.kept_buckets.specs.SimmRules.Net.{Sensitivity}
 use Rattle.kept_buckets.specs.SimmRules.Simm.{products, classes, class_margin_of}
 use Rattle.kept_buckets.specs.FactorBook.declared.at.ClassAt.{ClassAt}
 use Rattle.kept_buckets.specs.FactorBook.declared.holding.Holding.{Holding}
+use Rattle.class_margin.specs.NegatedBook.Sides.{side_factors}
 use Rattle.class_margin.specs.names_delta.Values.{nets_in}
 use Rattle.class_combine.specs.declared.whole.ProductClasses.{ProductClasses}
-use Rattle.class_combine.specs.Classes.{class_in, IsClassMargin}
+use Rattle.class_combine.specs.Classes.{class_in}
 use Rattle.class_combine.specs.Whole.{classes_in, AreProductClasses}
+use Rattle.kept_buckets.specs.declared.both_margins.BothMargins.{BothMargins}
+use Rattle.kept_buckets.specs.Margins.{margin_on}
 use Rattle.kept_buckets.specs.Kept.{Kept, margin_at}
 use Rattle.book_margin.specs.Classes.{classes_of, products_of}
-use Rattle.book_margin.specs.Right.{IsMargin, AreRight, AreMarginsKept, IsFresh}
+use Rattle.book_margin.specs.Right.{IsMargin, AreMargins, AreRight, AreMarginsKept, IsFresh, side_margin}
 
 abbrev Factors : Type 0
 Factors = List (FactorKey × Holding)
@@ -57,25 +61,25 @@ all_margins kept h at = each_product (IsProductKept kept) h at.product at.class
 
 -- ---- read from what is kept
 
-pub classes_read : (kept : Kept) (a : ProductClass) (m : ClassMargins) → margin_at kept (class_of_product a class.IR) ≡ Some m.ir → margin_at kept (class_of_product a class.CreditQ) ≡ Some m.credit_q
-    → margin_at kept (class_of_product a class.CreditNonQ) ≡ Some m.credit_nonq → margin_at kept (class_of_product a class.Equity) ≡ Some m.equity
-    → margin_at kept (class_of_product a class.Commodity) ≡ Some m.commodity → margin_at kept (class_of_product a class.FX) ≡ Some m.fx
-    → (c : RiskClass) → margin_at kept (class_of_product a c) ≡ Some (class_in m c)
-classes_read kept a m ir credit_q credit_nonq equity commodity fx class.IR = ir
-classes_read kept a m ir credit_q credit_nonq equity commodity fx class.CreditQ = credit_q
-classes_read kept a m ir credit_q credit_nonq equity commodity fx class.CreditNonQ = credit_nonq
-classes_read kept a m ir credit_q credit_nonq equity commodity fx class.Equity = equity
-classes_read kept a m ir credit_q credit_nonq equity commodity fx class.Commodity = commodity
-classes_read kept a m ir credit_q credit_nonq equity commodity fx class.FX = fx
+pub classes_read : (side : MarginSide) (kept : Kept) (a : ProductClass) (m : ClassMargins) → side_margin side kept (class_of_product a class.IR) ≡ Some m.ir → side_margin side kept (class_of_product a class.CreditQ) ≡ Some m.credit_q
+    → side_margin side kept (class_of_product a class.CreditNonQ) ≡ Some m.credit_nonq → side_margin side kept (class_of_product a class.Equity) ≡ Some m.equity
+    → side_margin side kept (class_of_product a class.Commodity) ≡ Some m.commodity → side_margin side kept (class_of_product a class.FX) ≡ Some m.fx
+    → (c : RiskClass) → side_margin side kept (class_of_product a c) ≡ Some (class_in m c)
+classes_read side kept a m ir credit_q credit_nonq equity commodity fx class.IR = ir
+classes_read side kept a m ir credit_q credit_nonq equity commodity fx class.CreditQ = credit_q
+classes_read side kept a m ir credit_q credit_nonq equity commodity fx class.CreditNonQ = credit_nonq
+classes_read side kept a m ir credit_q credit_nonq equity commodity fx class.Equity = equity
+classes_read side kept a m ir credit_q credit_nonq equity commodity fx class.Commodity = commodity
+classes_read side kept a m ir credit_q credit_nonq equity commodity fx class.FX = fx
 
-abbrev AreRead : Kept → ProductClass → ClassMargins → Type 0
-AreRead kept a m = (c : RiskClass) → margin_at kept (class_of_product a c) ≡ Some (class_in m c)
+abbrev AreRead : MarginSide → Kept → ProductClass → ClassMargins → Type 0
+AreRead side kept a m = (c : RiskClass) → side_margin side kept (class_of_product a c) ≡ Some (class_in m c)
 
-pub products_read : (kept : Kept) (m : ProductClasses) → AreRead kept product.RatesFX m.rates_fx → AreRead kept product.Credit m.credit → AreRead kept product.Equity m.equity → AreRead kept product.Commodity m.commodity
-    → (at : ClassAt) → margin_at kept at ≡ Some (class_in (classes_in m at.product) at.class)
-products_read kept m rates_fx credit equity commodity at = by at.product at.class
+pub products_read : (side : MarginSide) (kept : Kept) (m : ProductClasses) → AreRead side kept product.RatesFX m.rates_fx → AreRead side kept product.Credit m.credit → AreRead side kept product.Equity m.equity → AreRead side kept product.Commodity m.commodity
+    → (at : ClassAt) → side_margin side kept at ≡ Some (class_in (classes_in m at.product) at.class)
+products_read side kept m rates_fx credit equity commodity at = by at.product at.class
   where
-    by : (a : ProductClass) (c : RiskClass) → margin_at kept (class_of_product a c) ≡ Some (class_in (classes_in m a) c)
+    by : (a : ProductClass) (c : RiskClass) → side_margin side kept (class_of_product a c) ≡ Some (class_in (classes_in m a) c)
     by product.RatesFX = rates_fx
     by product.Credit = credit
     by product.Equity = equity
@@ -115,12 +119,16 @@ of_rule p fs product.Credit = of_class p (nets_in product.Credit fs)
 of_rule p fs product.Equity = of_class p (nets_in product.Equity fs)
 of_rule p fs product.Commodity = of_class p (nets_in product.Commodity fs)
 
-module _ (p : Params) (fs : Factors) (kept : Kept) (m : ProductClasses) (right : AreRight p fs kept) (are : (at : ClassAt) → margin_at kept at ≡ Some (class_in (classes_in m at.product) at.class)) where
-  its_margin : (at : ClassAt) → IsMargin p fs at (class_in (classes_in m at.product) at.class).0
-  its_margin at = subst (λ (o : Option Cents). IfSome o (λ x. IsMargin p fs at x.0)) (are at) (right.margins at)
+of_side : (p : Params) (fs : Factors) (side : MarginSide) (at : ClassAt) (o : Option BothMargins) (w : Cents) → option_map (λ m. margin_on m side) o ≡ Some w → IfSome o (AreMargins p fs at) → IsMargin p (side_factors side fs) at w.0
+of_side p fs side at None w e h = absurd (cc e)
+of_side p fs side at (Some m) w e h = let is : margin_on m side ≡ w = cc in subst (λ (x : Cents). IsMargin p (side_factors side fs) at x.0) is (h side)
 
-  pub products_are : m ≡ products_of p fs
-  products_are = same_products m (products_of p fs) (λ a c. (its_margin (class_of_product a c)).value ∙ sym (of_rule p fs a c))
+module _ (p : Params) (fs : Factors) (side : MarginSide) (kept : Kept) (m : ProductClasses) (right : AreRight p fs kept) (are : (at : ClassAt) → side_margin side kept at ≡ Some (class_in (classes_in m at.product) at.class)) where
+  its_margin : (at : ClassAt) → IsMargin p (side_factors side fs) at (class_in (classes_in m at.product) at.class).0
+  its_margin at = of_side p fs side at (margin_at kept at) (class_in (classes_in m at.product) at.class) (are at) (right.margins at)
+
+  pub products_are : m ≡ products_of p (side_factors side fs)
+  products_are = same_products m (products_of p (side_factors side fs)) (λ a c. (its_margin (class_of_product a c)).value ∙ sym (of_rule p (side_factors side fs) a c))
 
   pub products_sized : AreProductClasses m
   products_sized a c = (its_margin (class_of_product a c)).size
@@ -133,8 +141,3 @@ fresh kept right all = record { margins = all; whole = λ at. right.whole at (al
 pub on_ok : {T E P : Type 0} (r : Result T E) → P → OnOk r P
 on_ok (Ok x) h = h
 on_ok (Err e) h = tt
-
-pub margin_is : {E : Type 0} (p : Params) (fs : Factors) (at : ClassAt) (r : Result Cents E) → IfOk r (λ m. m.0 ≡ class_margin_of p (nets_in at.product fs) at.class) → IfOk r (λ m. IsClassMargin m.0)
-    → IfOk r (λ m. IsMargin p fs at m.0)
-margin_is p fs at (Ok m) value size = record { value = value; size = size }
-margin_is p fs at (Err e) value size = tt

@@ -1,5 +1,5 @@
 -- The margin of a risk class by its parts, as the code adds them up.
-use Rattle.std.proofs.Common.{◌≡◌, ◌*◌, ◌^◌, ◌≤◌, ℕ, List, ℤ, ◌+ℤ◌, unsigned_abs, FitsSigned, refl, sym, ◌∙◌, subst, arith, lit≤}
+use Rattle.std.proofs.Common.{◌≡◌, ◌*◌, ◌^◌, ◌≤◌, ℕ, List, map, ℤ, ◌+ℤ◌, unsigned_abs, FitsSigned, refl, sym, ap, ◌∙◌, subst, arith, lit≤}
 use Rattle.std.specs.Int.{w128}
 use Rattle.std.proofs.lemmas.Int.{ints}
 use Rattle.kept_buckets.specs.MhUnits.declared.quantities.Cents.{Cents}
@@ -7,19 +7,28 @@ use Rattle.kept_buckets.specs.SimmKinds.declared.kinds.RiskClass.{RiskClass}
 use Rattle.kept_buckets.specs.SimmKinds.declared.kinds.RiskClass.TheVariants as class
 use Rattle.kept_buckets.specs.SimmKinds.declared.kinds.Measure.TheVariants as measure
 use Rattle.kept_buckets.specs.SimmRules.Params.{Params}
-use Rattle.kept_buckets.specs.SimmRules.Net.{Sensitivity}
+use Rattle.kept_buckets.specs.SimmRules.Net.{Sensitivity, in_product}
 use Rattle.kept_buckets.specs.SimmRules.Simm.{class_margin_of}
 use Rattle.class_combine.specs.Classes.{IsClassMargin}
 use Rattle.class_combine.proofs.Products.{passed, plus, added}
+use Rattle.kept_buckets.specs.SimmRules.BaseCorrelation.{base_margin}
+use Rattle.class_margin.specs.NegatedBook.Negated.{negated_factors}
+use Rattle.class_margin.specs.NegatedBook.Turned.{IsEven}
+use Rattle.class_margin.proofs.NegatedBook.Netting.{in_product-negated}
+use Rattle.class_margin.proofs.NegatedBook.Factors.{nets_of-negated}
 use Rattle.class_margin.specs.volatility.Curvature.{class_curvature_of}
 use Rattle.class_margin.specs.delta.Class.{class_delta_of}
 use Rattle.class_margin.specs.volatility.Vega.{class_vega_of}
 use Rattle.kept_buckets.specs.SimmKinds.declared.key.FactorKey.{FactorKey}
 use Rattle.kept_buckets.specs.FactorBook.declared.at.ClassAt.{ClassAt}
 use Rattle.kept_buckets.specs.FactorBook.declared.holding.Holding.{Holding}
+use Rattle.kept_buckets.specs.FactorBook.Factors.{net_of}
 use Rattle.class_margin.specs.names_delta.Values.{nets_in}
 use Rattle.book_margin.specs.declared.measures.MeasureMargins.{MeasureMargins}
+use Rattle.kept_buckets.specs.SimmKinds.declared.margin_side.MarginSide.TheVariants.{Collect, Post}
+use Rattle.kept_buckets.specs.declared.both_margins.BothMargins.{BothMargins}
 use Rattle.book_margin.specs.Classes.{base_of}
+use Rattle.book_margin.specs.Right.{IsMargin, AreMargins}
 use Rattle.book_margin.specs.Measures.{AreMeasures, AreWithin, IsWithin, measure_at, measures_sum}
 
 parts_are : (p : Params) (ss : List Sensitivity) (c : RiskClass) → class_delta_of p ss c +ℤ class_vega_of p ss c +ℤ class_curvature_of p ss c +ℤ base_of p ss c ≡ class_margin_of p ss c
@@ -74,3 +83,27 @@ measures_of p fs at delta vega curvature base d v c b measure.Delta = d
 measures_of p fs at delta vega curvature base d v c b measure.Vega = v
 measures_of p fs at delta vega curvature base d v c b measure.Curvature = c
 measures_of p fs at delta vega curvature base d v c b measure.BaseCorr = b
+
+-- ---- those of the negated book
+
+base_of-even : (p : Params) → IsEven (base_margin p) → (c : RiskClass) → IsEven (λ ss. base_of p ss c)
+base_of-even p even class.IR ss = refl
+base_of-even p even class.CreditQ ss = even ss
+base_of-even p even class.CreditNonQ ss = refl
+base_of-even p even class.Equity ss = refl
+base_of-even p even class.Commodity ss = refl
+base_of-even p even class.FX ss = refl
+
+pub posted_are : (p : Params) (fs : List (FactorKey × Holding)) (at : ClassAt) (m : MeasureMargins) (curvature : Cents)
+    → ((c : RiskClass) → IsEven (λ ss. class_delta_of p ss c)) → ((c : RiskClass) → IsEven (λ ss. class_vega_of p ss c)) → IsEven (base_margin p)
+    → AreMeasures p fs at m → curvature.0 ≡ measure_at p (negated_factors fs) at measure.Curvature → AreMeasures p (negated_factors fs) at (record m { curvature = curvature })
+posted_are p fs at m curvature delta vega base its curved = measures_of p (negated_factors fs) at m.delta m.vega curvature m.base
+    (its measure.Delta ∙ sym (turned (λ ss. class_delta_of p ss at.class) (delta at.class))) (its measure.Vega ∙ sym (turned (λ ss. class_vega_of p ss at.class) (vega at.class))) curved
+    (its measure.BaseCorr ∙ sym (turned (λ ss. base_of p ss at.class) (base_of-even p base at.class)))
+  where
+    turned : (margin : List Sensitivity → ℤ) → IsEven margin → margin (nets_in at.product (negated_factors fs)) ≡ margin (nets_in at.product fs)
+    turned margin even = ap margin (ap (in_product at.product) (nets_of-negated fs) ∙ in_product-negated at.product (map net_of fs)) ∙ even (nets_in at.product fs)
+
+pub both_are : (p : Params) (fs : List (FactorKey × Holding)) (at : ClassAt) (m : BothMargins) → IsMargin p fs at m.collect.0 → IsMargin p (negated_factors fs) at m.post.0 → AreMargins p fs at m
+both_are p fs at m collect post Collect = collect
+both_are p fs at m collect post Post = post

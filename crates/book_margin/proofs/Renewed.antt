@@ -3,7 +3,9 @@ use Rattle.std.proofs.Common.{◌≡◌, ◌≢◌, ℕ, ◌+◌, ◌*◌, ◌�
 use Rattle.std.specs.Prelude.{is_some, IsSome, IfSome, sum_by, option_map}
 use Rattle.std.specs.BTreeMap.{is_at}
 use Rattle.std.proofs.lemmas.Bool.{and_parts, and_from, eqb-true, eq-eqb}
-use Rattle.kept_buckets.specs.MhUnits.declared.quantities.Cents.{Cents}
+use Rattle.kept_buckets.specs.SimmKinds.declared.margin_side.MarginSide.{MarginSide}
+use Rattle.kept_buckets.specs.SimmKinds.declared.margin_side.MarginSide.TheVariants.{Collect, Post}
+use Rattle.kept_buckets.specs.declared.both_margins.BothMargins.{BothMargins}
 use Rattle.kept_buckets.specs.SimmKinds.declared.kinds.Measure.{Measure}
 use Rattle.kept_buckets.specs.SimmKinds.declared.kinds.Measure.TheVariants as measure
 use Rattle.kept_buckets.specs.SimmKinds.declared.key.FactorKey.{FactorKey}
@@ -28,9 +30,10 @@ use Rattle.kept_buckets.specs.declared.value.KeptValue.TheVariants as value
 use Rattle.kept_buckets.specs.declared.value.VolatilityMargins.{VolatilityMargins}
 use Rattle.kept_buckets.specs.Cached.{delta_in, volatility_in, kept_delta, kept_volatility, is_measured, place_in, part_in, cached_in}
 use Rattle.kept_buckets.specs.Dirty.{Count, measures_of, steps_left}
+use Rattle.kept_buckets.specs.Margins.{margin_on}
 use Rattle.kept_buckets.specs.Kept.{Kept, value_at, margin_at, KeepsValue, KeepsMargin}
 use Rattle.kept_buckets.specs.Margins.{is_class}
-use Rattle.book_margin.specs.Right.{IsDelta, AreVolatility, IsRightDelta, IsRightVolatility, IsMargin, AreDeltasKept, IsWhole, AreRight, AreMarginsKept, Renews, measured_value, value_in}
+use Rattle.book_margin.specs.Right.{IsDelta, AreVolatility, IsRightDelta, IsRightVolatility, AreMargins, AreDeltasKept, IsWhole, AreRight, AreMarginsKept, Renews, measured_value, value_in}
 
 abbrev Factors : Type 0
 Factors = List (FactorKey × Holding)
@@ -196,7 +199,7 @@ module _ {p : Params} {fs : Factors} (old new : Kept) (place : Place) (its : Kep
     right = record {
       deltas = λ at. each_value (IsRightDelta p fs at) (delta_place at) (right.deltas at) (as_delta at);
       volatilities = λ at. each_value (IsRightVolatility p fs at) (volatility_place at) (right.volatilities at) (as_volatility at);
-      margins = λ at. subst (λ (o : Option Cents). IfSome o (λ m. IsMargin p fs at m.0)) (sym (keeps.margins at)) (right.margins at);
+      margins = λ at. subst (λ (o : Option BothMargins). IfSome o (AreMargins p fs at)) (sym (keeps.margins at)) (right.margins at);
       whole = λ at is.
           let before = right.whole at (ap is_some (sym (keeps.margins at)) ∙ is) in
           record {
@@ -261,15 +264,15 @@ one_class_at a b e =
 own_class : (a : ClassAt) → is_class a a ≡ true
 own_class a = and_from (same_product a.product a.product) (same_class a.class a.class) (eq-eqb (product_place a.product) (product_place a.product) refl) (eq-eqb (class_place a.class) (class_place a.class) refl)
 
-module _ {p : Params} {fs : Factors} (old new : Kept) (at : ClassAt) (its : Cents) (right : AreRight p fs old) (keeps : KeepsMargin old new at its) (is : IsMargin p fs at its.0) where
+module _ {p : Params} {fs : Factors} (old new : Kept) (at : ClassAt) (its : BothMargins) (right : AreRight p fs old) (keeps : KeepsMargin old new at its) (is : AreMargins p fs at its) where
   -- one that was kept of the class was the same
-  same_margin : (w : Cents) → margin_at old at ≡ Some w → its ≡ w
+  same_margin : (w : BothMargins) → margin_at old at ≡ Some w → its ≡ w
   same_margin w h =
-      let its_is : IsMargin p fs at w.0 = subst (λ (o : Option Cents). IfSome o (λ m. IsMargin p fs at m.0)) h (right.margins at) in
-      let figure : its.0 ≡ w.0 = is.value ∙ sym its_is.value in
-      λ i. record { 0 = figure i }
+      let its_are : AreMargins p fs at w = subst (λ (o : Option BothMargins). IfSome o (AreMargins p fs at)) h (right.margins at) in
+      let figure : (side : MarginSide) → (margin_on its side).0 ≡ (margin_on w side).0 = λ side. (is side).value ∙ sym (its_are side).value in
+      λ i. record { collect = record { 0 = figure Collect i }; post = record { 0 = figure Post i } }
 
-  still_margin : (q : ClassAt) (w : Cents) → margin_at old q ≡ Some w → margin_at new q ≡ Some w
+  still_margin : (q : ClassAt) (w : BothMargins) → margin_at old q ≡ Some w → margin_at new q ≡ Some w
   still_margin q w h = keeps.margins q ∙ by (is_class at q) refl
     where
       by : (t : Bool) → is_class at q ≡ t → cond t (Some its) (margin_at old q) ≡ Some w
@@ -287,22 +290,22 @@ module _ {p : Params} {fs : Factors} (old new : Kept) (at : ClassAt) (its : Cent
     right = record {
       deltas = λ b. subst (λ (o : Option KeptValue). IfSome o (IsRightDelta p fs b)) (sym (keeps.values (delta_place b))) (right.deltas b);
       volatilities = λ b. subst (λ (o : Option KeptValue). IfSome o (IsRightVolatility p fs b)) (sym (keeps.values (volatility_place b))) (right.volatilities b);
-      margins = λ q. subst (λ (o : Option Cents). IfSome o (λ m. IsMargin p fs q m.0)) (sym (keeps.margins q)) (margin_by q (is_class at q) refl);
+      margins = λ q. subst (λ (o : Option BothMargins). IfSome o (AreMargins p fs q)) (sym (keeps.margins q)) (margin_by q (is_class at q) refl);
       whole = λ q some. whole_still q (whole_by q (is_class at q) refl (ap is_some (sym (keeps.margins q)) ∙ some));
     };
     values = λ place v e. keeps.values place ∙ e;
     margins = still_margin;
   }
     where
-      margin_by : (q : ClassAt) (t : Bool) → is_class at q ≡ t → IfSome (cond t (Some its) (margin_at old q)) (λ m. IsMargin p fs q m.0)
-      margin_by q true e = subst (λ x. IsMargin p fs x its.0) (one_class_at at q e) is
+      margin_by : (q : ClassAt) (t : Bool) → is_class at q ≡ t → IfSome (cond t (Some its) (margin_at old q)) (AreMargins p fs q)
+      margin_by q true e = subst (λ x. AreMargins p fs x its) (one_class_at at q e) is
       margin_by q false e = right.margins q
 
       whole_by : (q : ClassAt) (t : Bool) → is_class at q ≡ t → is_some (cond t (Some its) (margin_at old q)) ≡ true → IsWhole fs old q
       whole_by q true e some = subst (λ x. IsWhole fs old x) (one_class_at at q e) whole
       whole_by q false e some = right.whole q some
 
-module _ (old new : Kept) (at : ClassAt) (its : Cents) (keeps : KeepsMargin old new at its) where
+module _ (old new : Kept) (at : ClassAt) (its : BothMargins) (keeps : KeepsMargin old new at its) where
   pub margin_now : IsSome (margin_at new at)
   margin_now = ap is_some (keeps.margins at ∙ ap (λ t. cond t (Some its) (margin_at old at)) (own_class at))
 

@@ -3,7 +3,8 @@ use Rattle.std.proofs.Common.{◌≡◌, ◌≢◌, List, [], ◌∷◌, Bool, t
 use Rattle.std.specs.Prelude.{is_some, IsSome, IfSome}
 use Rattle.std.specs.List.{list_any}
 use Rattle.std.proofs.lemmas.Bool.{and_parts}
-use Rattle.kept_buckets.specs.MhUnits.declared.quantities.Cents.{Cents}
+use Rattle.kept_buckets.specs.SimmKinds.declared.margin_side.MarginSide.{MarginSide}
+use Rattle.kept_buckets.specs.SimmKinds.declared.margin_side.MarginSide.TheVariants.{Collect, Post}
 use Rattle.kept_buckets.specs.SimmKinds.declared.key.FactorKey.{FactorKey}
 use Rattle.kept_buckets.specs.SimmKinds.declared.row.CrifRow.{CrifRow}
 use Rattle.kept_buckets.specs.SimmKinds.Factors.{class_of, side_of, bucket_of}
@@ -18,6 +19,10 @@ use Rattle.kept_buckets.specs.FactorBook.declared.holding.Holding.{Holding}
 use Rattle.kept_buckets.specs.FactorBook.declared.place.Place.{Place}
 use Rattle.kept_buckets.specs.FactorBook.Place.{book_side}
 use Rattle.kept_buckets.specs.FactorBook.Places.{same_side, stands_at, factors_at}
+use Rattle.class_margin.specs.NegatedBook.Negated.{negated_factor, negated_factors}
+use Rattle.class_margin.specs.NegatedBook.Sides.{side_factors}
+use Rattle.class_margin.proofs.NegatedBook.Lists.{filter-map}
+use Rattle.kept_buckets.specs.declared.both_margins.BothMargins.{BothMargins}
 use Rattle.class_margin.specs.names_delta.Values.{nets_in}
 use Rattle.class_margin.specs.volatility.Vega.{vega_value, IsVegaSized, volatility_place}
 use Rattle.class_margin.specs.volatility.Curvature.{curvature_value, IsCurvatureSized}
@@ -28,7 +33,7 @@ use Rattle.kept_buckets.specs.declared.value.KeptValue.TheVariants as value
 use Rattle.kept_buckets.specs.Kept.{Kept, value_at, margin_at}
 use Rattle.kept_buckets.specs.Touched.{has_key, lies_at, lies_in, is_of_class, Forgets, SameElsewhere}
 use Rattle.book_margin.specs.Classes.{class_factors}
-use Rattle.book_margin.specs.Right.{IsRightDelta, IsRightVolatility, IsMargin, AreRight}
+use Rattle.book_margin.specs.Right.{AreMargins, IsRightDelta, IsRightVolatility, AreRight}
 
 abbrev Factors : Type 0
 Factors = List (FactorKey × Holding)
@@ -85,6 +90,14 @@ module _ (p : Params) (at : BucketAt) (f g : Factors) where
     curvature_sized = curvature_size e m.curvature h.curvature_sized;
   }
 
+-- ---- the factors of a class, as a side sees them
+
+alike_on : (at : ClassAt) (f g : Factors) (side : MarginSide) → class_factors at f ≡ class_factors at g → class_factors at (side_factors side f) ≡ class_factors at (side_factors side g)
+alike_on at f g Collect e = e
+alike_on at f g Post e =
+    filter-map negated_factor (λ (h : FactorKey × Holding). is_of_class at h.0) f ∙ ap negated_factors e
+    ∙ sym (filter-map negated_factor (λ (h : FactorKey × Holding). is_of_class at h.0) g)
+
 -- ---- what is left of what was kept
 
 -- what is so of all that was kept, and moves where no row lies, is so of all that is left
@@ -107,12 +120,15 @@ module _ (p : Params) (rows : List CrifRow) (f g : Factors) (old new : Kept) (ri
     (vega_size : (at : BucketAt) → factors_at (volatility_place at) f ≡ factors_at (volatility_place at) g → (m : BucketMargin) → IsVegaSized p at f m → IsVegaSized p at g m)
     (same_curvature : (at : BucketAt) → factors_at (volatility_place at) f ≡ factors_at (volatility_place at) g → curvature_value p at f ≡ curvature_value p at g)
     (curvature_size : (at : BucketAt) → factors_at (volatility_place at) f ≡ factors_at (volatility_place at) g → (m : BucketMargin) → IsCurvatureSized p at f m → IsCurvatureSized p at g m)
-    (same_class_margin : (at : ClassAt) → class_factors at f ≡ class_factors at g → class_margin_of p (nets_in at.product f) at.class ≡ class_margin_of p (nets_in at.product g) at.class) where
+    (same_class_margin : (at : ClassAt) (h k : Factors) → class_factors at h ≡ class_factors at k → class_margin_of p (nets_in at.product h) at.class ≡ class_margin_of p (nets_in at.product k) at.class) where
   there_still : (place : Place) → lies_at place rows ≡ false → factors_at place f ≡ factors_at place g
   there_still place none = same.same (stands_at place) none
 
-  margin_moved : (at : ClassAt) → lies_in at rows ≡ false → (m : Cents) → IsMargin p f at m.0 → IsMargin p g at m.0
-  margin_moved at none m h = record { value = h.value ∙ same_class_margin at (same.same (is_of_class at) none); size = h.size }
+  margin_moved : (at : ClassAt) → lies_in at rows ≡ false → (m : BothMargins) → AreMargins p f at m → AreMargins p g at m
+  margin_moved at none m h side = record {
+    value = (h side).value ∙ same_class_margin at (side_factors side f) (side_factors side g) (alike_on at f g side (same.same (is_of_class at) none));
+    size = (h side).size;
+  }
 
   kept_in_class : (at : ClassAt) (place : Place) → place.product ≡ at.product → place.class ≡ at.class → lies_in at rows ≡ false → (factors_at place f ≢ [] → IsSome (value_at old place))
       → factors_at place g ≢ [] → IsSome (value_at new place)
@@ -126,7 +142,7 @@ module _ (p : Params) (rows : List CrifRow) (f g : Factors) (old new : Kept) (ri
         (λ none. delta_moved p at f g (same_delta at) (delta_size at) (there_still (delta_place at) none)) (right.deltas at);
     volatilities = λ at. left_right (IsRightVolatility p f at) (IsRightVolatility p g at) (lies_at (volatility_place at) rows) (value_at old (volatility_place at)) (value_at new (volatility_place at)) (forgets.values (volatility_place at))
         (λ none. volatility_moved p at f g (same_vega at) (vega_size at) (same_curvature at) (curvature_size at) (there_still (volatility_place at) none)) (right.volatilities at);
-    margins = λ at. left_right (λ m. IsMargin p f at m.0) (λ m. IsMargin p g at m.0) (lies_in at rows) (margin_at old at) (margin_at new at) (forgets.margins at) (margin_moved at) (right.margins at);
+    margins = λ at. left_right (AreMargins p f at) (AreMargins p g at) (lies_in at rows) (margin_at old at) (margin_at new at) (forgets.margins at) (margin_moved at) (right.margins at);
     whole = λ at some.
         let left = left_some (lies_in at rows) (margin_at old at) (margin_at new at) (forgets.margins at) some in
         let before = right.whole at left.1 in
@@ -145,6 +161,6 @@ pub none_right : (p : Params) (f : Factors) (kept : Kept) → ((place : Place) �
 none_right p f kept no_values no_margins = record {
   deltas = λ at. if_none (IsRightDelta p f at) (value_at kept (delta_place at)) (no_values (delta_place at));
   volatilities = λ at. if_none (IsRightVolatility p f at) (value_at kept (volatility_place at)) (no_values (volatility_place at));
-  margins = λ at. if_none (λ m. IsMargin p f at m.0) (margin_at kept at) (no_margins at);
+  margins = λ at. if_none (AreMargins p f at) (margin_at kept at) (no_margins at);
   whole = λ at some. absurd (let none : is_some (margin_at kept at) ≡ false = ap is_some (no_margins at) in cc);
 }

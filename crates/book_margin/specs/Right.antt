@@ -1,6 +1,7 @@
 -- What is kept of a book rightly: each value is that of its bucket, each margin that of its class.
-use Rattle.std.specs.Prelude.{◌≡◌, ◌≢◌, List, [], Option, Some, None, IsSome, IfSome, if◌then◌else◌, ℤ}
+use Rattle.std.specs.Prelude.{◌≡◌, ◌≢◌, List, [], Option, Some, None, IsSome, IfSome, option_map, if◌then◌else◌, ℤ}
 use Rattle.kept_buckets.specs.MhUnits.declared.quantities.Cents.{Cents}
+use Rattle.kept_buckets.specs.SimmKinds.declared.margin_side.MarginSide.{MarginSide}
 use Rattle.kept_buckets.specs.SimmKinds.declared.kinds.BucketId.{BucketId}
 use Rattle.kept_buckets.specs.SimmKinds.declared.kinds.Measure.{Measure}
 use Rattle.kept_buckets.specs.SimmKinds.declared.kinds.Measure.TheVariants as measure
@@ -13,16 +14,19 @@ use Rattle.kept_buckets.specs.FactorBook.declared.at.ClassAt.{ClassAt}
 use Rattle.kept_buckets.specs.FactorBook.declared.holding.Holding.{Holding}
 use Rattle.kept_buckets.specs.FactorBook.declared.place.Place.{Place}
 use Rattle.kept_buckets.specs.FactorBook.Places.{factors_at}
+use Rattle.class_margin.specs.NegatedBook.Sides.{side_factors}
 use Rattle.class_margin.specs.names_delta.Values.{nets_in}
 use Rattle.class_margin.specs.volatility.Vega.{vega_value, IsVegaSized, volatility_place}
 use Rattle.class_margin.specs.volatility.Curvature.{curvature_value, IsCurvatureSized}
 use Rattle.class_margin.specs.delta.Buckets.{delta_place, bucket_at}
 use Rattle.class_margin.specs.delta.Delta.{delta_at, IsSizedAt}
 use Rattle.class_combine.specs.Classes.{IsClassMargin}
+use Rattle.kept_buckets.specs.declared.both_margins.BothMargins.{BothMargins}
 use Rattle.kept_buckets.specs.declared.value.KeptValue.{KeptValue}
 use Rattle.kept_buckets.specs.declared.value.KeptValue.TheVariants as value
 use Rattle.kept_buckets.specs.declared.value.VolatilityMargins.{VolatilityMargins}
 use Rattle.kept_buckets.specs.Cached.{is_measured}
+use Rattle.kept_buckets.specs.Margins.{margin_on}
 use Rattle.kept_buckets.specs.Kept.{Kept, value_at, margin_at}
 
 -- ---- of a bucket
@@ -68,6 +72,10 @@ pub record IsMargin (p : Params) (factors : List (FactorKey × Holding)) (at : C
   pub value : margin ≡ class_margin_of p (nets_in at.product factors) at.class
   pub size : IsClassMargin margin
 
+-- that of each side
+abbrev pub AreMargins : Params → List (FactorKey × Holding) → ClassAt → BothMargins → Type 0
+AreMargins p factors at margins = (side : MarginSide) → IsMargin p (side_factors side factors) at (margin_on margins side).0
+
 -- each of its buckets that has a factor on a side is kept there
 abbrev pub AreDeltasKept : List (FactorKey × Holding) → Kept → ClassAt → Type 0
 AreDeltasKept factors kept at =
@@ -88,8 +96,12 @@ pub record IsWhole (factors : List (FactorKey × Holding)) (kept : Kept) (at : C
 pub record AreRight (p : Params) (factors : List (FactorKey × Holding)) (kept : Kept) : Type 0 where
   pub deltas : (at : BucketAt) → IfSome (value_at kept (delta_place at)) (IsRightDelta p factors at)
   pub volatilities : (at : BucketAt) → IfSome (value_at kept (volatility_place at)) (IsRightVolatility p factors at)
-  pub margins : (at : ClassAt) → IfSome (margin_at kept at) (λ m. IsMargin p factors at m.0)
+  pub margins : (at : ClassAt) → IfSome (margin_at kept at) (AreMargins p factors at)
   pub whole : (at : ClassAt) → IsSome (margin_at kept at) → IsWhole factors kept at
+
+-- what is kept of a class on a side
+abbrev pub side_margin : MarginSide → Kept → ClassAt → Option Cents
+side_margin side kept at = option_map (λ m. margin_on m side) (margin_at kept at)
 
 -- the margin of each class is kept
 abbrev pub AreMarginsKept : Kept → Type 0
@@ -104,4 +116,4 @@ pub record IsFresh (factors : List (FactorKey × Holding)) (kept : Kept) : Type 
 pub record Renews (p : Params) (factors : List (FactorKey × Holding)) (old new : Kept) : Type 0 where
   pub right : AreRight p factors new
   pub values : (place : Place) (v : KeptValue) → value_at old place ≡ Some v → value_at new place ≡ Some v
-  pub margins : (at : ClassAt) (m : Cents) → margin_at old at ≡ Some m → margin_at new at ≡ Some m
+  pub margins : (at : ClassAt) (m : BothMargins) → margin_at old at ≡ Some m → margin_at new at ≡ Some m

@@ -1,25 +1,21 @@
 //! The margin of one risk class in a product class.
 ghost use Rattle.std.specs.Prelude.{◌≡◌, ◌+◌, ◌≤◌, List, IsSome, IsOk, IfOk, OnOk};
 ghost use Rattle.kept_buckets.specs.SimmKinds.declared.key.FactorKey.{FactorKey};
-ghost use Rattle.kept_buckets.specs.SimmRules.Simm.{class_margin_of};
 ghost use Rattle.kept_buckets.specs.FactorBook.declared.holding.Holding.{Holding};
-ghost use Rattle.class_margin.specs.names_delta.Values.{nets_in};
-ghost use Rattle.class_combine.specs.Classes.{IsClassMargin};
 ghost use Rattle.class_margin.specs.BookRange.Bounded.{IsMarginable};
 ghost use Rattle.kept_buckets.specs.Kept.{margin_at};
 ghost use Rattle.book_margin.specs.Classes.{AreClassParts, AreBookParts};
-ghost use Rattle.book_margin.specs.Right.{AreRight, IsMargin, IsWhole, Renews};
+ghost use Rattle.book_margin.specs.Right.{AreRight, AreMargins, IsWhole, Renews};
 ghost use Rattle.book_margin.specs.Steps.{steps_due};
 
 use crate::buckets::{delta_parts, volatility_parts};
-use crate::measures::measures_from;
+use crate::measures::{measures_from, posted};
 use class_combine::simm_params::Params;
 use class_margin::pair_sum::Steps;
-use kept_buckets::KeptBuckets;
 use kept_buckets::factor_book::{ClassAt, Factors};
-use kept_buckets::mh_units::Cents;
 use kept_buckets::simm_kinds::BucketId;
 use kept_buckets::simm_rules::BucketMargin;
+use kept_buckets::{BothMargins, KeptBuckets};
 use std::alloc::{AllocError, Global};
 use std::sync::ledger::Ledger;
 
@@ -51,7 +47,7 @@ pub fn renew_class<L: Ledger>(
     }
 }
 
-// The margin of a class, in cents, by the values of its buckets, each of which is kept afterwards: delta, vega and curvature,
+// The margins of a class, on both sides, by the values of its buckets, each of which is kept afterwards: delta, vega and curvature,
 // and in credit that qualifies base correlation. Want of memory is the only error.
 fn renewed_margin<L: Ledger>(
     alloc: Global,
@@ -60,10 +56,10 @@ fn renewed_margin<L: Ledger>(
     kept: &mut KeptBuckets,
     at: ClassAt,
     steps: &mut Steps<L>,
-) -> Result<Cents, AllocError>
+) -> Result<BothMargins, AllocError>
     requires book { IsMarginable params.now factors.now }
     requires right { AreRight params.now factors.now kept.old }
-    ensures margin { IfOk result (λ m. IsMargin params.now factors.now at m.0) }
+    ensures margin { IfOk result (AreMargins params.now factors.now at) }
     ensures renewed { Renews params.now factors.now kept.old kept.new }
     ensures whole { OnOk result (IsWhole factors.now kept.new at) }
     ensures steps { OnOk result (steps.new + steps_due params.now kept.new factors.now
@@ -81,7 +77,7 @@ fn renewed_margin<L: Ledger>(
     )
 }
 
-// The margin of a class, in cents, over the values of its buckets, as `measures_from` takes them. Want of memory is the only error.
+// The margins of a class, on both sides, over the values of its buckets, as `measures_from` takes them. Want of memory is the only error.
 fn class_from(
     alloc: Global,
     params: &Params,
@@ -89,12 +85,15 @@ fn class_from(
     deltas: &[(BucketId, BucketMargin)],
     vegas: &[(BucketId, BucketMargin)],
     curvatures: &[(BucketId, BucketMargin)],
-) -> Result<Cents, AllocError>
+) -> Result<BothMargins, AllocError>
     requires { AreBookParts params.now at deltas.now vegas.now curvatures.now }
-    ensures value { (factors : List (FactorKey × Holding)) → IsMarginable params.now factors → AreClassParts params.now at factors deltas.now vegas.now curvatures.now
-        → IfOk result (λ m. m.0 ≡ class_margin_of params.now (nets_in at.product factors) at.class) }
-    ensures size { IfOk result (λ m. IsClassMargin m.0) }
+    ensures { (factors : List (FactorKey × Holding)) → IsMarginable params.now factors → AreClassParts params.now at factors deltas.now vegas.now curvatures.now
+        → IfOk result (AreMargins params.now factors at) }
 {
-    let measures = measures_from(alloc, params, at, deltas, vegas, curvatures)?;
-    Ok(measures.sum())
+    let collected = measures_from(alloc, params, at, deltas, vegas, curvatures)?;
+    let posted = posted(alloc, params, at, collected, curvatures)?;
+    Ok(BothMargins {
+        collect: collected.sum(),
+        post: posted.sum(),
+    })
 }

@@ -4,6 +4,7 @@
 //! (ISDA SIMM methodology, structure of the methodology.)
 #![tactic(auto)]
 
+mod both_breakdowns;
 mod bucket;
 mod buckets;
 mod class;
@@ -13,6 +14,7 @@ mod margin;
 mod measures;
 mod renewal;
 
+pub use both_breakdowns::BothBreakdowns;
 pub use kept_measures::measure_margins;
 pub use laws::{
     class_margin_hangs_on_its_factors, kept_values_are_from_scratch, nothing_is_right,

@@ -1,23 +1,28 @@
 //! The margin of a whole book, over what is kept of it or by itself.
 ghost use Rattle.std.specs.Prelude.{◌≡◌, ◌+◌, ◌<◌, ◌≤◌, List, IsOk, IfOk, OnOk};
+ghost use Rattle.kept_buckets.specs.SimmKinds.declared.margin_side.MarginSide.{MarginSide as Side};
 ghost use Rattle.kept_buckets.specs.SimmKinds.declared.row.CrifRow.{CrifRow as Row};
 ghost use Rattle.kept_buckets.specs.SimmRules.Simm.{simm};
 ghost use Rattle.kept_buckets.specs.FactorBook.Factors.{factors_of};
 ghost use Rattle.class_combine.specs.Sums.{AreOfBook, StandFor};
 ghost use Rattle.class_combine.specs.Whole.{IsTotal, HasProductMargins};
+ghost use Rattle.class_margin.specs.NegatedBook.Sides.{side_rows};
 ghost use Rattle.class_margin.specs.BookRange.Bounded.{IsMarginable};
+ghost use Rattle.book_margin.specs.Sides.{breakdown_on};
 ghost use Rattle.book_margin.specs.Right.{AreRight, AreMarginsKept, IsFresh, Renews};
 ghost use Rattle.book_margin.specs.Steps.{steps_due};
 
+use crate::both_breakdowns::BothBreakdowns;
 use crate::laws::nothing_is_right;
-use crate::renewal::renew;
+use crate::renewal::{kept_products, renew};
 use class_combine::simm_params::Params;
 use class_combine::{AddOnSums, add_ons, breakdown, product_margins};
+use class_margin::negated_book::{add_ons_stay, factors_are_negated};
 use class_margin::pair_sum::Steps;
 use class_margin::products_are_netted;
 use kept_buckets::KeptBuckets;
 use kept_buckets::factor_book::Factors;
-use kept_buckets::simm_kinds::CrifRow;
+use kept_buckets::simm_kinds::{CrifRow, MarginSide};
 use kept_buckets::simm_rules::Breakdown;
 use std::alloc::{AllocError, Global};
 use std::marker::Brand;
@@ -76,15 +81,18 @@ fn margin_counted<L: Ledger>(
     nothing_is_right();
     let mut kept = KeptBuckets::new(alloc);
     let mut steps = Steps::<L>::new(blank);
-    let margin = margin_over_kept(
+    let margins = margin_over_kept(
         alloc, params, factors, sums, parameters, &mut kept, &mut steps,
     )?;
-    Ok(KeptMargin { kept, margin })
+    Ok(KeptMargin {
+        kept,
+        margin: margins.collect,
+    })
 }
 
-/// The same over what is kept of the book, which is right: what is not kept is worked out and kept. The steps are at most those
-/// of the values that are not kept. For want of memory, the only error, what is kept is right still. Where the margin of each
-/// class is kept, no memory is taken and no step.
+/// The margins on both sides, the posted one as that of the negated book, over what is kept of the book, which is right: what is not
+/// kept is worked out and kept. The steps are at most those of the values that are not kept, for both sides together. For want of
+/// memory, the only error, what is kept is right still. Where the margin of each class is kept, no memory is taken and no step.
 pub fn margin_over_kept<L: Ledger>(
     alloc: Global,
     params: &Params,
@@ -93,22 +101,49 @@ pub fn margin_over_kept<L: Ledger>(
     parameters: &[CrifRow],
     kept: &mut KeptBuckets,
     steps: &mut Steps<L>,
-) -> Result<Breakdown, AllocError>
+) -> Result<BothBreakdowns, AllocError>
     requires book { IsMarginable params.now factors.now }
     requires add_ons { AreOfBook sums.now parameters.now }
     requires right { AreRight params.now factors.now kept.old }
-    ensures value { (held : List Row) → factors.now ≡ factors_of held → StandFor sums.now parameters.now held → IfOk result (λ b. b ≡ simm params.now held) }
-    ensures total { IfOk result (λ b. IsTotal b.total.0) }
-    ensures margins { IfOk result HasProductMargins }
+    ensures value { (held : List Row) (side : Side) → factors.now ≡ factors_of held → StandFor sums.now parameters.now held
+        → IfOk result (λ b. breakdown_on b side ≡ simm params.now (side_rows side held)) }
+    ensures total { (side : Side) → IfOk result (λ b. IsTotal (breakdown_on b side).total.0) }
+    ensures margins { (side : Side) → IfOk result (λ b. HasProductMargins (breakdown_on b side)) }
+
     ensures renewed { Renews params.now factors.now kept.old kept.new }
     ensures fresh { OnOk result (IsFresh factors.now kept.new) }
     ensures steps { OnOk result (steps.new + steps_due params.now kept.new factors.now
         ≤ steps.old + steps_due params.now kept.old factors.now) }
     ensures at_once { AreMarginsKept kept.old → IsOk result }
 {
+    renew(alloc, params, factors, kept, steps)?;
+    Ok(BothBreakdowns {
+        collect: margin_on(params, factors, sums, parameters, kept, MarginSide::Collect),
+        post: margin_on(params, factors, sums, parameters, kept, MarginSide::Post),
+    })
+}
+
+// That of a side, where the margin of each class is kept.
+fn margin_on(
+    params: &Params,
+    factors: &Factors,
+    sums: &AddOnSums,
+    parameters: &[CrifRow],
+    kept: &KeptBuckets,
+    side: MarginSide,
+) -> Breakdown
+    requires add_ons { AreOfBook sums.now parameters.now }
+    requires right { AreRight params.now factors.now kept.now }
+    requires kept { AreMarginsKept kept.now }
+    ensures value { (held : List Row) → factors.now ≡ factors_of held → StandFor sums.now parameters.now held → result ≡ simm params.now (side_rows side held) }
+    ensures total { IsTotal result.total.0 }
+    ensures margins { HasProductMargins result }
+{
     products_are_netted();
-    let classes = renew(alloc, params, factors, kept, steps)?;
+    factors_are_negated();
+    add_ons_stay();
+    let classes = kept_products(kept, side);
     let margins = product_margins(params, &classes);
     let added = add_ons(sums, parameters, &margins);
-    Ok(breakdown(&classes, &margins, &added))
+    breakdown(&classes, &margins, &added)
 }

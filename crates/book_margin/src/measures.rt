@@ -4,12 +4,17 @@ ghost use Rattle.kept_buckets.specs.SimmKinds.declared.key.FactorKey.{FactorKey}
 ghost use Rattle.kept_buckets.specs.FactorBook.declared.holding.Holding.{Holding};
 ghost use Rattle.class_margin.specs.names_delta.Values.{nets_in};
 ghost use Rattle.class_margin.specs.BookRange.Bounded.{IsMarginable};
+ghost use Rattle.class_margin.specs.NegatedBook.Negated.{negated_factors};
 ghost use Rattle.class_margin.specs.delta.Delta.{AreDeltaParts, AreBookDeltas};
+ghost use Rattle.class_margin.specs.volatility.Curvature.{AreCurvatureParts, AreBookCurvatures};
 ghost use Rattle.book_margin.specs.Classes.{base_of, AreClassParts, AreBookParts};
 ghost use Rattle.book_margin.specs.Measures.{AreMeasures, AreWithin, measure_in, measures_sum};
 
 use class_combine::simm_params::Params;
-use class_margin::{base_from, curvature_from, delta_from, vega_from};
+use class_margin::negated_book::base_correlation_is_even;
+use class_margin::{
+    base_from, curvature_from, curvature_post, delta_and_vega_are_even, delta_from, vega_from,
+};
 use kept_buckets::factor_book::ClassAt;
 use kept_buckets::mh_units::Cents;
 use kept_buckets::simm_kinds::{BucketId, Measure, RiskClass};
@@ -76,6 +81,30 @@ pub fn measures_from(
         vega,
         curvature,
         base,
+    })
+}
+
+/// Those of the negated book, from those of the book: curvature alone differs, over the same values of buckets. Want of memory is the
+/// only error.
+pub fn posted(
+    alloc: Global,
+    params: &Params,
+    at: ClassAt,
+    measures: MeasureMargins,
+    curvatures: &[(BucketId, BucketMargin)],
+) -> Result<MeasureMargins, AllocError>
+    requires parts { AreBookCurvatures params.now at curvatures.now }
+    requires within { AreWithin measures }
+    ensures measures { (factors : List (FactorKey × Holding)) → IsMarginable params.now factors → AreCurvatureParts params.now at factors curvatures.now
+        → AreMeasures params.now factors at measures → IfOk result (AreMeasures params.now (negated_factors factors) at) }
+    ensures within { IfOk result AreWithin }
+{
+    delta_and_vega_are_even();
+    base_correlation_is_even();
+    let curvature = curvature_post(alloc, params, at, curvatures)?;
+    Ok(MeasureMargins {
+        curvature,
+        ..measures
     })
 }
 

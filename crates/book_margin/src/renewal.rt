@@ -1,13 +1,17 @@
 //! The margins of the risk classes in each product class: what is kept of them, and what is not is worked out and kept.
-ghost use Rattle.std.specs.Prelude.{◌≡◌, ◌+◌, ◌≤◌, Some, IsSome, IsOk, IfOk, OnOk};
+ghost use Rattle.std.specs.Prelude.{◌≡◌, ◌+◌, ◌≤◌, List, Some, IsSome, IsOk, OnOk};
 ghost use Rattle.kept_buckets.specs.SimmKinds.declared.kinds.RiskClass.{RiskClass as Class};
+ghost use Rattle.kept_buckets.specs.SimmKinds.declared.key.FactorKey.{FactorKey};
+ghost use Rattle.kept_buckets.specs.SimmRules.Params.{Params as AnyParams};
 ghost use Rattle.kept_buckets.specs.FactorBook.declared.at.ClassAt.{ClassAt as At};
+ghost use Rattle.kept_buckets.specs.FactorBook.declared.holding.Holding.{Holding};
+ghost use Rattle.class_margin.specs.NegatedBook.Sides.{side_factors};
 ghost use Rattle.class_combine.specs.Classes.{class_in};
 ghost use Rattle.class_combine.specs.Whole.{classes_in, AreProductClasses};
 ghost use Rattle.class_margin.specs.BookRange.Bounded.{IsMarginable};
 ghost use Rattle.kept_buckets.specs.Kept.{margin_at};
 ghost use Rattle.book_margin.specs.Classes.{products_of};
-ghost use Rattle.book_margin.specs.Right.{AreRight, AreMarginsKept, IsFresh, Renews};
+ghost use Rattle.book_margin.specs.Right.{AreRight, AreMarginsKept, IsFresh, Renews, side_margin};
 ghost use Rattle.book_margin.specs.Steps.{steps_due};
 
 use crate::class::renew_class;
@@ -17,13 +21,13 @@ use class_margin::pair_sum::Steps;
 use kept_buckets::KeptBuckets;
 use kept_buckets::factor_book::{ClassAt, Factors};
 use kept_buckets::mh_units::Cents;
-use kept_buckets::simm_kinds::{ProductClass, RiskClass};
+use kept_buckets::simm_kinds::{MarginSide, ProductClass, RiskClass};
 use kept_buckets::simm_rules::ClassMargins;
 use std::alloc::{AllocError, Global};
 use std::sync::ledger::Ledger;
 
-/// The margins of the risk classes in each product class. What is kept of them is taken as it is; what is not is worked out,
-/// bucket by bucket where no value is kept, and kept: each place that has a factor, and each class. For want of memory, the only
+/// Sees that the margins of the risk classes in each product class are kept, on both sides. What is not is worked out, bucket by
+/// bucket where no value is kept, and kept: each place that has a factor, and each class. For want of memory, the only
 /// error, what is kept is right still. Where the margin of each class is kept, no memory is taken and no step.
 pub fn renew<L: Ledger>(
     alloc: Global,
@@ -31,11 +35,9 @@ pub fn renew<L: Ledger>(
     factors: &Factors,
     kept: &mut KeptBuckets,
     steps: &mut Steps<L>,
-) -> Result<ProductClasses, AllocError>
+) -> Result<(), AllocError>
     requires book { IsMarginable params.now factors.now }
     requires right { AreRight params.now factors.now kept.old }
-    ensures value { IfOk result (λ m. m ≡ products_of params.now factors.now) }
-    ensures margins { IfOk result AreProductClasses }
     ensures renewed { Renews params.now factors.now kept.old kept.new }
     ensures fresh { OnOk result (IsFresh factors.now kept.new) }
     ensures steps { OnOk result (steps.new + steps_due params.now kept.new factors.now
@@ -45,7 +47,7 @@ pub fn renew<L: Ledger>(
     for product in ProductClass::ALL {
         renew_product(alloc, params, factors, kept, product, steps)?;
     }
-    Ok(kept_products(kept))
+    Ok(())
 }
 
 // Sees that the margins of the risk classes in one product class are kept.
@@ -78,38 +80,45 @@ fn renew_product<L: Ledger>(
     Ok(())
 }
 
-// The margins of the risk classes in each product class, all of which are kept.
-fn kept_products(kept: &KeptBuckets) -> ProductClasses
+/// The margins of the risk classes in each product class on a side, all of which are kept.
+pub fn kept_products(kept: &KeptBuckets, side: MarginSide) -> ProductClasses
     requires { AreMarginsKept kept.now }
-    ensures { (at : At) → margin_at kept.now at ≡ Some (class_in (classes_in result at.product) at.class) }
+    ensures read { (at : At) → side_margin side kept.now at ≡ Some (class_in (classes_in result at.product) at.class) }
+    ensures value { (p : AnyParams) (factors : List (FactorKey × Holding)) → AreRight p factors kept.now → result ≡ products_of p (side_factors side factors) }
+    ensures margins { (p : AnyParams) (factors : List (FactorKey × Holding)) → AreRight p factors kept.now → AreProductClasses result }
 {
     ProductClasses {
-        rates_fx: kept_classes(kept, ProductClass::RatesFX),
-        credit: kept_classes(kept, ProductClass::Credit),
-        equity: kept_classes(kept, ProductClass::Equity),
-        commodity: kept_classes(kept, ProductClass::Commodity),
+        rates_fx: kept_classes(kept, side, ProductClass::RatesFX),
+        credit: kept_classes(kept, side, ProductClass::Credit),
+        equity: kept_classes(kept, side, ProductClass::Equity),
+        commodity: kept_classes(kept, side, ProductClass::Commodity),
     }
 }
 
 // Those in one product class.
-fn kept_classes(kept: &KeptBuckets, product: ProductClass) -> ClassMargins
+fn kept_classes(kept: &KeptBuckets, side: MarginSide, product: ProductClass) -> ClassMargins
     requires { AreMarginsKept kept.now }
-    ensures { (class : Class) → margin_at kept.now (record { product = product; class = class }) ≡ Some (class_in result class) }
+    ensures { (class : Class) → side_margin side kept.now (record { product = product; class = class }) ≡ Some (class_in result class) }
 {
     ClassMargins {
-        ir: kept_margin(kept, product, RiskClass::IR),
-        credit_q: kept_margin(kept, product, RiskClass::CreditQ),
-        credit_nonq: kept_margin(kept, product, RiskClass::CreditNonQ),
-        equity: kept_margin(kept, product, RiskClass::Equity),
-        commodity: kept_margin(kept, product, RiskClass::Commodity),
-        fx: kept_margin(kept, product, RiskClass::FX),
+        ir: kept_margin(kept, side, product, RiskClass::IR),
+        credit_q: kept_margin(kept, side, product, RiskClass::CreditQ),
+        credit_nonq: kept_margin(kept, side, product, RiskClass::CreditNonQ),
+        equity: kept_margin(kept, side, product, RiskClass::Equity),
+        commodity: kept_margin(kept, side, product, RiskClass::Commodity),
+        fx: kept_margin(kept, side, product, RiskClass::FX),
     }
 }
 
 // That of a class, in cents.
-fn kept_margin(kept: &KeptBuckets, product: ProductClass, class: RiskClass) -> Cents
+fn kept_margin(
+    kept: &KeptBuckets,
+    side: MarginSide,
+    product: ProductClass,
+    class: RiskClass,
+) -> Cents
     requires { AreMarginsKept kept.now }
-    ensures { margin_at kept.now (record { product = product; class = class }) ≡ Some result }
+    ensures { side_margin side kept.now (record { product = product; class = class }) ≡ Some result }
 {
-    kept.margin(ClassAt { product, class }).unwrap()
+    kept.margin(ClassAt { product, class }).unwrap().on(side)
 }

@@ -4,7 +4,6 @@ use Rattle.std.specs.List.{list_all, flat_map}
 use Rattle.book_margin.specs.SimmKinds.declared.row.CrifRow.{CrifRow}
 use Rattle.book_margin.specs.SimmKinds.declared.row.TradeRows.{TradeRows}
 use Rattle.book_margin.specs.SimmKinds.Batch.{rows_of, is_in_range, IsBatch}
-use Rattle.book_margin.specs.SimmRules.declared.values.Breakdown.{Breakdown}
 use Rattle.book_margin.specs.SimmRules.Params.{Params}
 use Rattle.book_margin.specs.SimmRules.AddOns.{multiplier, notional_factor}
 use Rattle.book_margin.specs.SimmRules.Range.{range}
@@ -12,6 +11,7 @@ use Rattle.book_margin.specs.FactorBook.Factors.{factors_of}
 use Rattle.book_margin.specs.ClassCombine.Sums.{AreOfBook, StandFor}
 use Rattle.book_margin.specs.BookRange.Bounded.{IsBounded, IsMarginable}
 use Rattle.book_margin.specs.KeptBuckets.Kept.{Kept}
+use Rattle.book_margin.specs.declared.both_breakdowns.BothBreakdowns.{BothBreakdowns}
 use Rattle.book_margin.specs.Right.{AreRight, Renews}
 use Rattle.bucket_cache.specs.declared.sums.Sums.{Sums}
 use Rattle.bucket_cache.specs.Entries.{trades_of}
@@ -47,7 +47,7 @@ live_of p es kept fresh = record { params = p; book = trades_of es; kept = kept;
 pub seen_still : (p : Params) (fresh : Bool) {es fs : Entries} {k l : Kept} → fs ≡ es → l ≡ k → live_of p fs l fresh ≡ live_of p es k fresh
 seen_still p fresh e g = λ i. live_of p (e i) (g i) fresh
 
-pub held_still : (p : Params) (last : Option Breakdown) {es fs : Entries} {s t : Sums} {k l : Kept} → fs ≡ es → t ≡ s → l ≡ k → IsHeld p (trades_of es) s k last → IsHeld p (trades_of fs) t l last
+pub held_still : (p : Params) (last : Option BothBreakdowns) {es fs : Entries} {s t : Sums} {k l : Kept} → fs ≡ es → t ≡ s → l ≡ k → IsHeld p (trades_of es) s k last → IsHeld p (trades_of fs) t l last
 held_still p last {es = es} {s = s} {t = t} {k = k} {l = l} e f g h =
     subst (λ (x : Entries). IsHeld p (trades_of x) t l last) (sym e) (subst (λ (x : Sums). IsHeld p (trades_of es) x l last) (sym f) (subst (λ (x : Kept). IsHeld p (trades_of es) s x last) (sym g) h))
 

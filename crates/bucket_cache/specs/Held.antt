@@ -1,12 +1,12 @@
 -- What a live margin keeps beside its trades.
 use Rattle.std.specs.Prelude.{◌≡◌, List, Option, None, IfSome, true, false}
 use Rattle.std.specs.List.{list_all, flat_map}
+use Rattle.book_margin.specs.SimmKinds.declared.margin_side.MarginSide.{MarginSide}
 use Rattle.book_margin.specs.SimmKinds.declared.row.CrifRow.{CrifRow}
 use Rattle.book_margin.specs.SimmKinds.declared.row.TradeRows.{TradeRows}
 use Rattle.book_margin.specs.SimmKinds.Batch.{rows_of, factor_names, is_in_range}
 use Rattle.book_margin.specs.SimmKinds.Order.{same_name}
 use Rattle.book_margin.specs.SimmKinds.Repeats.{repeats}
-use Rattle.book_margin.specs.SimmRules.declared.values.Breakdown.{Breakdown}
 use Rattle.book_margin.specs.SimmRules.Params.{Params}
 use Rattle.book_margin.specs.SimmRules.AddOns.{multiplier, notional_factor}
 use Rattle.book_margin.specs.SimmRules.Admits.{admits}
@@ -16,6 +16,9 @@ use Rattle.book_margin.specs.FactorBook.Factors.{factors_of}
 use Rattle.book_margin.specs.KeptBuckets.Kept.{Kept}
 use Rattle.book_margin.specs.KeptBuckets.Touched.{Forgets, SameElsewhere}
 use Rattle.book_margin.specs.ClassCombine.Whole.{IsTotal}
+use Rattle.book_margin.specs.NegatedBook.Sides.{side_rows}
+use Rattle.book_margin.specs.declared.both_breakdowns.BothBreakdowns.{BothBreakdowns}
+use Rattle.book_margin.specs.Sides.{breakdown_on}
 use Rattle.book_margin.specs.Right.{AreRight, IsFresh}
 use Rattle.bucket_cache.specs.declared.sums.Sums.{Sums}
 use Rattle.bucket_cache.specs.Live.{IsLive}
@@ -34,14 +37,14 @@ pub record IsMoved (p : Params) (before rows moved : List CrifRow) (had : Kept) 
   pub forgotten : Forgets moved had kept
   pub elsewhere : SameElsewhere moved (factors_of before) (factors_of rows)
 
--- the margin of the rows, of which all is kept
-pub record IsMargin (p : Params) (rows : List CrifRow) (kept : Kept) (margin : Breakdown) : Type 0 where
-  pub value : margin ≡ simm p rows
-  pub total : IsTotal margin.total.0
+-- the margins of the rows on both sides, of which all is kept
+pub record IsMargin (p : Params) (rows : List CrifRow) (kept : Kept) (margins : BothBreakdowns) : Type 0 where
+  pub value : (side : MarginSide) → breakdown_on margins side ≡ simm p (side_rows side rows)
+  pub total : (side : MarginSide) → IsTotal (breakdown_on margins side).total.0
   pub all : IsFresh (factors_of rows) kept
 
--- so, and the margin that is kept is the book's
-pub record IsHeld (p : Params) (trades : List TradeRows) (sums : Sums) (kept : Kept) (last : Option Breakdown) : Type 0 where
+-- so, and the margins that are kept are the book's
+pub record IsHeld (p : Params) (trades : List TradeRows) (sums : Sums) (kept : Kept) (last : Option BothBreakdowns) : Type 0 where
   pub summed : IsSummed p trades sums kept
   pub fresh : IfSome last (IsMargin p (rows_of trades) kept)
 

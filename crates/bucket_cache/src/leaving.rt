@@ -23,7 +23,7 @@ use indexmap::IndexMap;
 use std::alloc::{AllocError, Global};
 use std::sync::ledger::Ledger;
 
-/// The total of their margin without the trade of this name. Its rows go from the sums and come back, and of what is kept a copy is
+/// The total of their collected margin without the trade of this name. Its rows go from the sums and come back, and of what is kept a copy is
 /// worked on.
 ///
 /// # Errors
@@ -50,10 +50,10 @@ pub fn total_without<L: Ledger>(
     let mut left = kept.copy()?;
     take_out(alloc, params, current, sums, &mut left, &[name])?;
     let parameters = parameters_without(alloc, current, name);
-    let margin = margin_of(alloc, params, sums, parameters, &mut left, steps)?;
+    let margins = margin_of(alloc, params, sums, parameters, &mut left, steps)?;
     let rows = rows_in(current, name);
     sums.add_lent(alloc, params, &[LentRows { rows }])?;
-    Ok(margin.total)
+    Ok(margins.collect.total)
 }
 
 // The parameters of their add-ons without the trade of this name: the rows of the trade that has none.

@@ -13,6 +13,7 @@ ghost use Rattle.book_margin.specs.FactorBook.Factors.{factors_of};
 ghost use Rattle.book_margin.specs.KeptBuckets.Touched.{Forgets, SameElsewhere};
 ghost use Rattle.book_margin.specs.KeptBuckets.Cached.{cached_in};
 ghost use Rattle.book_margin.specs.KeptBuckets.Dirty.{dirty_in};
+ghost use Rattle.book_margin.specs.NegatedBook.Sides.{side_rows};
 ghost use Rattle.book_margin.specs.Right.{value_in, Renews};
 ghost use Rattle.book_margin.specs.Steps.{steps_due};
 ghost use Rattle.bucket_cache.specs.Cached.{IsCached};
@@ -30,10 +31,12 @@ use book_margin::book_range::{fewer_are_in_range, range_bounds};
 use book_margin::factor_book::BucketAt;
 use book_margin::kept_buckets::KeptBuckets;
 use book_margin::pair_sum::Steps;
-use book_margin::simm_kinds::{Batch, BucketId, CrifRow, Measure, Name, ProductClass, RiskClass};
+use book_margin::simm_kinds::{
+    Batch, BucketId, CrifRow, MarginSide, Measure, Name, ProductClass, RiskClass,
+};
 use book_margin::simm_params::Params;
 use book_margin::simm_rules::{Breakdown, BucketMargin};
-use book_margin::{kept_values_are_from_scratch, nothing_is_right};
+use book_margin::{BothBreakdowns, kept_values_are_from_scratch, nothing_is_right};
 use indexmap::IndexMap;
 use std::alloc::{AllocError, Global};
 use std::marker::{Brand, Model};
@@ -48,8 +51,8 @@ pub struct LiveMargin {
     trades: IndexMap<Name, HeldRows>,
     sums: Sums,
     kept: KeptBuckets,
-    // the margin of the book, where nothing has changed since it was worked out
-    last: Option<Breakdown>,
+    // the margins of the book, where nothing has changed since they were worked out
+    last: Option<BothBreakdowns>,
 }
 
 impl Model for LiveMargin {
@@ -165,9 +168,9 @@ impl LiveMargin {
         Ok(())
     }
 
-    /// The margin of the current trades, with all of its parts. Its total is at least 0 and below 10^21 cents. What of their
-    /// buckets and classes is not kept is worked out, and all is kept afterwards. Where the margin is known it is answered without
-    /// memory and without a step.
+    /// The margin of the current trades on a side, with all of its parts: what is posted is the margin of the negated book. Its
+    /// total is at least 0 and below 10^21 cents. What of their buckets and classes is not kept is worked out, for both sides, and
+    /// all is kept afterwards. Where the margin is known it is answered without memory and without a step.
     ///
     /// # Errors
     ///
@@ -175,9 +178,10 @@ impl LiveMargin {
     pub fn margin<L: Ledger>(
         &mut self,
         alloc: Global,
+        side: MarginSide,
         steps: &mut Steps<L>,
     ) -> Result<Breakdown, AllocError>
-        ensures value { IfOk result (λ b. b ≡ simm self.old.params (rows_of self.old.book)) }
+        ensures value { IfOk result (λ b. b ≡ simm self.old.params (side_rows side (rows_of self.old.book))) }
         ensures total_from { IfOk result (λ b. pos 0 ≤ℤ b.total.0) }
         ensures total_below { IfOk result (λ b. b.total.0 <ℤ pos (10 ^ 21)) }
         ensures params { self.new.params ≡ self.old.params }
@@ -192,12 +196,12 @@ impl LiveMargin {
         ensures as_it_was { self.old.is_fresh ≡ true → self.new ≡ self.old }
         ensures no_step { self.old.is_fresh ≡ true → steps.new ≡ steps.old }
     {
-        if let Some(margin) = self.last {
-            return Ok(margin);
+        if let Some(margins) = self.last {
+            return Ok(margins.on(side));
         }
         let nameless = Name::empty(alloc);
         let parameters = rows_in(&self.trades, &nameless);
-        let margin = margin_of(
+        let margins = margin_of(
             alloc,
             &self.params,
             &self.sums,
@@ -205,8 +209,8 @@ impl LiveMargin {
             &mut self.kept,
             steps,
         )?;
-        self.last = Some(margin);
-        Ok(margin)
+        self.last = Some(margins);
+        Ok(margins.on(side))
     }
 
     /// What is kept of a bucket in a measure: its value by the written rule over the book, or `None`; always `None` in a measure
@@ -282,7 +286,7 @@ impl LiveMargin {
         ensures fresh { OnOk result (self.new.is_fresh ≡ true) }
     {
         let mut steps = Steps::<L>::new(blank);
-        self.margin(alloc, &mut steps)?;
+        self.margin(alloc, MarginSide::Collect, &mut steps)?;
         Ok(())
     }
 

@@ -1,8 +1,11 @@
-//! The margin of a book from its sums and what is kept of its buckets.
+//! The margins of a book from its sums and what is kept of its buckets.
 ghost use Rattle.std.specs.Prelude.{◌≡◌, ◌+◌, ◌≤◌, List, IfOk, OnOk};
+ghost use Rattle.book_margin.specs.SimmKinds.declared.margin_side.MarginSide.{MarginSide as Side};
 ghost use Rattle.book_margin.specs.SimmKinds.declared.row.CrifRow.{CrifRow as Row};
 ghost use Rattle.book_margin.specs.SimmRules.Simm.{simm};
 ghost use Rattle.book_margin.specs.ClassCombine.Whole.{IsTotal};
+ghost use Rattle.book_margin.specs.NegatedBook.Sides.{side_rows};
+ghost use Rattle.book_margin.specs.Sides.{breakdown_on};
 ghost use Rattle.book_margin.specs.Right.{AreRight, IsFresh, Renews};
 ghost use Rattle.book_margin.specs.Steps.{steps_due};
 ghost use Rattle.bucket_cache.specs.Held.{IsMarginBook};
@@ -10,16 +13,15 @@ ghost use Rattle.bucket_cache.specs.Held.{IsMarginBook};
 use crate::sums::Sums;
 use book_margin::book_range::range_bounds;
 use book_margin::kept_buckets::KeptBuckets;
-use book_margin::margin_over_kept;
 use book_margin::pair_sum::Steps;
 use book_margin::simm_kinds::CrifRow;
 use book_margin::simm_params::Params;
-use book_margin::simm_rules::Breakdown;
+use book_margin::{BothBreakdowns, margin_over_kept};
 use std::alloc::{AllocError, Global};
 use std::sync::ledger::Ledger;
 
-/// The margin of a book in range, by the sums of its rows and its parameters, the rows of the trade without a name. What of its
-/// buckets and classes is not kept is worked out, and kept. Its total is from 0 to below 10^21 cents.
+/// The margins of a book in range on both sides, by the sums of its rows and its parameters, the rows of the trade without a name.
+/// What of its buckets and classes is not kept is worked out, and kept. Each total is from 0 to below 10^21 cents.
 ///
 /// # Errors
 ///
@@ -31,11 +33,12 @@ pub fn margin_of<L: Ledger>(
     parameters: &[CrifRow],
     kept: &mut KeptBuckets,
     steps: &mut Steps<L>,
-) -> Result<Breakdown, AllocError>
+) -> Result<BothBreakdowns, AllocError>
     requires book { (held : List Row) × IsMarginBook params.now sums.now parameters.now held }
     requires right { AreRight params.now sums.now.factors kept.old }
-    ensures value { (held : List Row) → IsMarginBook params.now sums.now parameters.now held → IfOk result (λ b. b ≡ simm params.now held) }
-    ensures total { IfOk result (λ b. IsTotal b.total.0) }
+    ensures value { (held : List Row) (side : Side) → IsMarginBook params.now sums.now parameters.now held
+        → IfOk result (λ b. breakdown_on b side ≡ simm params.now (side_rows side held)) }
+    ensures total { (side : Side) → IfOk result (λ b. IsTotal (breakdown_on b side).total.0) }
     ensures renewed { Renews params.now sums.now.factors kept.old kept.new }
     ensures fresh { OnOk result (IsFresh sums.now.factors kept.new) }
     ensures steps { OnOk result (steps.new + steps_due params.now kept.new sums.now.factors

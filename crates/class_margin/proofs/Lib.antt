@@ -13,3 +13,4 @@ pub use Rattle.class_credit.proofs as ClassCredit
 pub use Rattle.class_priced.proofs as ClassPriced
 pub use Rattle.class_exchange.proofs as ClassExchange
 pub use Rattle.book_range.proofs as BookRange
+pub use Rattle.negated_book.proofs as NegatedBook

@@ -18,3 +18,5 @@ pub mod CurvaturePairs
 pub mod CurvatureClasses
 pub mod CurvatureByBucket
 pub mod CurvatureMargined
+pub mod NegatedBooks
+pub mod NegatedCurvature

@@ -20,3 +20,4 @@ pub use Rattle.class_credit.specs as ClassCredit
 pub use Rattle.class_priced.specs as ClassPriced
 pub use Rattle.class_exchange.specs as ClassExchange
 pub use Rattle.book_range.specs as BookRange
+pub use Rattle.negated_book.specs as NegatedBook

@@ -10,6 +10,6 @@ mod vega;
 
 pub use bucket::{curvature_bucket, vega_bucket};
 pub use buckets::volatility_buckets;
-pub use curvature::curvature_from;
+pub use curvature::{curvature_from, curvature_post};
 pub use laws::{curvature_hangs_on_its_factors, vega_hangs_on_its_factors};
 pub use vega::vega_from;

@@ -12,9 +12,9 @@ ghost use Rattle.kept_buckets.specs.Touched.{Forgets, class_at};
 ghost use Rattle.kept_buckets.specs.Dirty.{dirty_in, dirty_at};
 ghost use Rattle.kept_buckets.specs.Cached.{cached_in, kept_delta, kept_volatility, is_base_bucket, is_measured, place_on};
 
+use crate::both_margins::BothMargins;
 use crate::margins::KeptMargins;
 use crate::value::{KeptValue, VolatilityMargins, measures_of};
-use factor_book::mh_units::Cents;
 use factor_book::simm_kinds::{BucketId, CrifRow, Measure, RiskClass};
 use factor_book::simm_rules::BucketMargin;
 use factor_book::{BookSide, BucketAt, ClassAt, Factors, Place};
@@ -67,8 +67,8 @@ impl KeptBuckets {
         self.values.get(place)
     }
 
-    /// The margin kept of a class, in cents. It takes no memory.
-    pub fn margin(&self, at: ClassAt) -> Option<Cents>
+    /// The margins kept of a class. It takes no memory.
+    pub fn margin(&self, at: ClassAt) -> Option<BothMargins>
         ensures { result ≡ margin_at self.now at }
     {
         self.margins.of(at)
@@ -94,8 +94,8 @@ impl KeptBuckets {
         self.keep(BookSide::Volatility, at, KeptValue::Volatility(values))
     }
 
-    /// Keeps the margin of a class, in cents. It takes no memory.
-    pub fn keep_margin(&mut self, at: ClassAt, margin: Cents)
+    /// Keeps the margins of a class. It takes no memory.
+    pub fn keep_margin(&mut self, at: ClassAt, margin: BothMargins)
         ensures { KeepsMargin self.old self.new at margin }
     {
         self.margins.set(at, Some(margin));

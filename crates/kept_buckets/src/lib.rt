@@ -3,11 +3,13 @@
 //! (ISDA SIMM methodology, structure: a bucket's value and a class's margin are of its own sensitivities alone.)
 #![tactic(auto)]
 
+mod both_margins;
 mod kept;
 mod laws;
 mod margins;
 mod value;
 
+pub use both_margins::BothMargins;
 pub use kept::KeptBuckets;
 pub use laws::{kept_values_save_steps, other_factors_stand, touches_add_up};
 pub use value::{KeptValue, VolatilityMargins};

@@ -1,29 +1,29 @@
-//! The margins kept of risk classes, each in cents; `None` of a class whose margin is not kept.
+//! The margins kept of risk classes, each on both sides; `None` of a class whose margins are not kept.
 ghost use Rattle.std.specs.Prelude.{◌≡◌, if◌then◌else◌};
 ghost use Rattle.factor_book.specs.SimmKinds.declared.kinds.RiskClass.{RiskClass as Class};
 ghost use Rattle.factor_book.specs.SimmKinds.Order.{same_class};
 ghost use Rattle.factor_book.specs.declared.at.ClassAt.{ClassAt as At};
 ghost use Rattle.kept_buckets.specs.Margins.{class_in, margin_in, is_class};
 
+use crate::both_margins::BothMargins;
 use factor_book::ClassAt;
-use factor_book::mh_units::Cents;
 use factor_book::simm_kinds::{ProductClass, RiskClass};
 
 /// Those of one product class.
 #[derive(Clone, Copy)]
 pub struct KeptClasses {
     /// That of interest rates.
-    pub ir: Option<Cents>,
+    pub ir: Option<BothMargins>,
     /// That of credit that qualifies.
-    pub credit_q: Option<Cents>,
+    pub credit_q: Option<BothMargins>,
     /// That of credit that does not qualify.
-    pub credit_nonq: Option<Cents>,
+    pub credit_nonq: Option<BothMargins>,
     /// That of equity.
-    pub equity: Option<Cents>,
+    pub equity: Option<BothMargins>,
     /// That of commodities.
-    pub commodity: Option<Cents>,
+    pub commodity: Option<BothMargins>,
     /// That of foreign exchange.
-    pub fx: Option<Cents>,
+    pub fx: Option<BothMargins>,
 }
 
 impl KeptClasses {
@@ -42,7 +42,7 @@ impl KeptClasses {
     }
 
     /// That of a class.
-    pub fn of(&self, class: RiskClass) -> Option<Cents>
+    pub fn of(&self, class: RiskClass) -> Option<BothMargins>
         ensures { result ≡ class_in self.now class }
     {
         match class {
@@ -56,7 +56,7 @@ impl KeptClasses {
     }
 
     /// Puts another for a class.
-    pub fn set(&mut self, class: RiskClass, margin: Option<Cents>)
+    pub fn set(&mut self, class: RiskClass, margin: Option<BothMargins>)
         ensures { (other : Class) → class_in self.new other ≡ (if same_class class other then margin else class_in self.old other) }
     {
         match class {
@@ -97,7 +97,7 @@ impl KeptMargins {
     }
 
     /// That of a risk class in a product class.
-    pub fn of(&self, at: ClassAt) -> Option<Cents>
+    pub fn of(&self, at: ClassAt) -> Option<BothMargins>
         ensures { result ≡ margin_in self.now at }
     {
         match at.product {
@@ -109,7 +109,7 @@ impl KeptMargins {
     }
 
     /// Puts another for a risk class in a product class.
-    pub fn set(&mut self, at: ClassAt, margin: Option<Cents>)
+    pub fn set(&mut self, at: ClassAt, margin: Option<BothMargins>)
         ensures { (other : At) → margin_in self.new other ≡ (if is_class at other then margin else margin_in self.old other) }
     {
         match at.product {

@@ -1,5 +1,5 @@
-//! What a candidate would make of a margin: three files are read, and the margins before and after are printed, and the total without
-//! each of some trades, or one fault line.
+//! What a candidate would make of a margin: three files are read, and the margins before and
+//! after are printed, and the total without each of some trades, or one fault line.
 #![tactic(auto)]
 
 mod asked;

@@ -11,7 +11,7 @@ use std::sync::ledger::{Blank, Ledger};
 use whatif::bucket_cache::LiveMargin;
 use whatif::bucket_cache::pair_sum::Steps;
 use whatif::bucket_cache::simm_params::Params;
-use whatif::bucket_cache::simm_rules::simm_kinds::Batch;
+use whatif::bucket_cache::simm_rules::simm_kinds::{Batch, MarginSide};
 
 /// A live margin of this batch, whose margin is known.
 pub(crate) fn live_of_batch<'a>(
@@ -41,7 +41,8 @@ fn batch_alone(batch: &Batch)
     let _trades = batch.trades();
 }
 
-// Asks the margin, whose steps are counted in a ledger of their own. Want of memory is the only error.
+// Asks the margin, whose steps are counted in a ledger of their own. Want of memory is the
+// only error.
 fn ask_once<L: Ledger>(alloc: Global, live: &mut LiveMargin, blank: Blank) -> Result<(), AllocError>
     requires name { blank.name ≡ L.name }
     requires parts { blank.parts ≡ L.parts }
@@ -50,6 +51,6 @@ fn ask_once<L: Ledger>(alloc: Global, live: &mut LiveMargin, blank: Blank) -> Re
     ensures book { live.new.book ≡ live.old.book }
 {
     let mut steps = Steps::<L>::new(blank);
-    live.margin(alloc, &mut steps)?;
+    live.margin(alloc, MarginSide::Collect, &mut steps)?;
     Ok(())
 }

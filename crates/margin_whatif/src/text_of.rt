@@ -25,7 +25,8 @@ pub(crate) fn text_of_files<'a, F: Folder>(
 ) -> Result<Text, Fault<'a>>
     requires names { list_all is_trade_word (words_in files.names.now) ≡ true }
     ensures counts { KeepsCounts (F.seen folder.old) (F.seen folder.new) }
-    ensures ends { TextEnds files.entry.params.now files.entry.crif.now files.entry.candidate.now (words_in files.entry.names.now)
+    ensures ends { TextEnds files.entry.params.now files.entry.crif.now
+        files.entry.candidate.now (words_in files.entry.names.now)
         (F.seen folder.old) (F.seen folder.new) result }
 {
     let input = read_both(alloc, files.params, files.crif, folder)?;

@@ -11,7 +11,7 @@ use crate::fault::WhatIfFault;
 use bucket_cache::kept_buckets::touches_add_up;
 use bucket_cache::pair_sum::Steps;
 use bucket_cache::simm_rules::Breakdown;
-use bucket_cache::simm_rules::simm_kinds::{Batch, Name};
+use bucket_cache::simm_rules::simm_kinds::{Batch, MarginSide, Name};
 use bucket_cache::{LiveMargin, touched_values_cost};
 use std::alloc::Global;
 use std::sync::ledger::Ledger;
@@ -25,12 +25,12 @@ pub struct WhatIf {
     pub after: Breakdown,
 }
 
-/// The margin of a live margin's book, and that of the book after: without the trades of these
-/// names, and then with the candidate, where there is one, taken in as a batch is. A name that
-/// stands twice counts once, and a trade of the candidate replaces one of its name. No row is
-/// copied. Beside one copy of the live margin it costs the rows that come or go, and the buckets
-/// that are worked out: for the first margin those of which nothing is kept, for the second also
-/// those in which one of these rows lies.
+/// The collected margin of a live margin's book, and that of the book after: without the trades
+/// of these names, and then with the candidate, where there is one, taken in as a batch is. A
+/// name that stands twice counts once, and a trade of the candidate replaces one of its name.
+/// No row is copied. Beside one copy of the live margin it costs the rows that come or go, and
+/// the buckets that are worked out: for the first margin those of which nothing is kept, for
+/// the second also those in which one of these rows lies.
 ///
 /// # Errors
 ///
@@ -59,10 +59,10 @@ pub fn what_if<L: Ledger>(
     touches_add_up();
     touched_values_cost();
     let mut copy = live.copy(alloc)?;
-    let before = copy.margin(alloc, steps)?;
+    let before = copy.margin(alloc, MarginSide::Collect, steps)?;
     copy.withdraw(alloc, leave)?;
     take_in(alloc, &mut copy, candidate)?;
-    let after = copy.margin(alloc, steps)?;
+    let after = copy.margin(alloc, MarginSide::Collect, steps)?;
     Ok(WhatIf { before, after })
 }
 

@@ -1,6 +1,6 @@
 -- The curvature margin of a risk class in a product class, and the values of its buckets.
 -- (ISDA SIMM methodology, curvature margin.)
-use Rattle.std.specs.Prelude.{List, ℤ}
+use Rattle.std.specs.Prelude.{◌*◌, ◌^◌, ◌<◌, List, map, ℤ, unsigned_abs}
 use Rattle.class_rates.specs.SimmKinds.declared.kinds.RiskClass.{RiskClass}
 use Rattle.class_rates.specs.SimmKinds.declared.kinds.RiskClass.TheVariants as class
 use Rattle.class_rates.specs.SimmKinds.declared.kinds.BucketId.{BucketId}
@@ -16,6 +16,7 @@ use Rattle.class_rates.specs.SimmRules.ForeignExchange.{fx_curvature}
 use Rattle.class_rates.specs.FactorBook.declared.at.ClassAt.{ClassAt}
 use Rattle.class_rates.specs.FactorBook.declared.holding.Holding.{Holding}
 use Rattle.book_range.specs.Bounded.{IsMarginable}
+use Rattle.negated_book.specs.Negated.{negated_value}
 use Rattle.class_margin.specs.delta.Values.{IsValuedBy, AreValuedBy}
 use Rattle.class_margin.specs.vega.Combine.{volatility_buckets}
 pub use Rattle.class_margin.specs.curvature.Curvature.{curvature_value, IsCurvatureSized}
@@ -43,3 +44,16 @@ pub record AreBookCurvatures (p : Params) (at : ClassAt) (parts : List (BucketId
   pub factors : List (FactorKey × Holding)
   pub book : IsMarginable p factors
   pub are : AreCurvatureParts p at factors parts
+
+-- ---- those of a book with all sensitivities negated
+
+abbrev pub negated_bucket : BucketId × BucketMargin → BucketId × BucketMargin
+negated_bucket part = (part.0, negated_value part.1)
+
+abbrev pub negated_buckets : List (BucketId × BucketMargin) → List (BucketId × BucketMargin)
+negated_buckets parts = map negated_bucket parts
+
+-- sums no greater than those of any bucket in range
+pub record CanBeNegated (value : BucketMargin) : Type 0 where
+  pub held : unsigned_abs value.s < 84 * 10 ^ 14
+  pub sum : unsigned_abs value.sum < 84 * 10 ^ 14

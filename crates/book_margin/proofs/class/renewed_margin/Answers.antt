@@ -1,4 +1,4 @@
-use Rattle.book_margin.proofs.Classes.{on_ok, margin_is}
+use Rattle.book_margin.proofs.Classes.{on_ok}
 use Rattle.book_margin.proofs.Gathered.{lent_parts}
 use Rattle.book_margin.proofs.Renewed.{renews_both, deltas_still, both_saved}
 use Rattle.book_margin.proofs.class.renewed_margin.Goals as goal
@@ -20,11 +20,9 @@ class_from-requires g c = record {
 
 pub returns-clause-margin : goal.returns-clause-margin
 returns-clause-margin g c =
-    margin_is c.args.params.now c.args.factors.now c.args.at c.class_from.result
-    (c.class_from.ensures.value c.args.factors.now c.requires.book
+    c.class_from.ensures c.args.factors.now c.requires.book
     (lent_parts c.args.params.now c.args.at c.args.factors.now c.in_ok-deltas.deltas.items c.in_ok-volatilities.volatilities.vegas.items c.in_ok-volatilities.volatilities.curvatures.items c.as_slice.result.now c.as_slice-2.result.now c.as_slice-3.result.now
-    c.as_slice.ensures.value c.as_slice-2.ensures.value c.as_slice-3.ensures.value c.in_ok-deltas.ensures.parts c.in_ok-volatilities.ensures.vegas c.in_ok-volatilities.ensures.curvatures))
-    c.class_from.ensures.size
+    c.as_slice.ensures.value c.as_slice-2.ensures.value c.as_slice-3.ensures.value c.in_ok-deltas.ensures.parts c.in_ok-volatilities.ensures.vegas c.in_ok-volatilities.ensures.curvatures)
 
 pub returns-clause-renewed : goal.returns-clause-renewed
 returns-clause-renewed g c =

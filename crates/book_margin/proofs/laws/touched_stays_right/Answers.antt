@@ -7,4 +7,4 @@ returns c = λ p rows f g old new right same forgets.
     (λ at. c.delta_hangs_on_its_factors.ensures.value p at f g) (λ at. c.delta_hangs_on_its_factors.ensures.sized p at f g)
     (λ at. c.vega_hangs_on_its_factors.ensures.value p at f g) (λ at. c.vega_hangs_on_its_factors.ensures.sized p at f g)
     (λ at. c.curvature_hangs_on_its_factors.ensures.value p at f g) (λ at. c.curvature_hangs_on_its_factors.ensures.sized p at f g)
-    (λ at. c.class_margin_hangs_on_its_factors.ensures p at f g)
+    (c.class_margin_hangs_on_its_factors.ensures p)

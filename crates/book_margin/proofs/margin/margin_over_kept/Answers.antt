@@ -1,14 +1,23 @@
-use Rattle.std.proofs.Common.{◌∙◌, ap}
-use Rattle.class_margin.specs.names_delta.Values.{nets_in}
-use Rattle.class_combine.specs.Multipliers.{multiplied_in}
-use Rattle.class_combine.specs.Whole.{breakdown_of, margins_of}
-use Rattle.book_margin.proofs.Whole.{whole_is}
+use Rattle.book_margin.proofs.Sides.{each_side}
+use Rattle.class_combine.specs.Whole.{IsTotal, HasProductMargins}
+use Rattle.kept_buckets.specs.SimmRules.Simm.{simm}
+use Rattle.class_margin.specs.NegatedBook.Sides.{side_rows}
+use Rattle.std.proofs.Common.{◌≡◌}
 use Rattle.book_margin.proofs.margin.margin_over_kept.Goals as goal
 
+pub margin_on-requires-clause-right : goal.margin_on-requires-clause-right
+margin_on-requires-clause-right g c = c.renew.ensures.renewed.right
+
+pub margin_on-requires-2-clause-right : goal.margin_on-requires-2-clause-right
+margin_on-requires-2-clause-right g c = c.renew.ensures.renewed.right
+
 pub returns-clause-value : goal.returns-clause-value
-returns-clause-value g c = λ held netted stand.
-    let p = c.args.params.now in
-    let margins = c.product_margins-margins.ensures.value ∙ ap (margins_of p) c.in_ok-classes.ensures.value in
-    c.breakdown.ensures.value ∙ (λ i. breakdown_of (c.in_ok-classes.ensures.value i) (margins i) c.add_ons-added.result)
-    ∙ whole_is p held c.args.factors.now c.add_ons-added.result (λ product. ap (nets_in product) netted ∙ c.products_are_netted.ensures held product)
-    (c.add_ons-added.ensures.fixed held stand) (c.add_ons-added.ensures.notional held stand) (c.add_ons-added.ensures.multiplier held stand ∙ ap (multiplied_in held) margins)
+returns-clause-value g c = λ held side netted stand.
+    each_side (λ s b. b ≡ simm c.args.params.now (side_rows s held)) (record { collect = c.margin_on.result; post = c.margin_on-2.result })
+    (c.margin_on.ensures.value held netted stand) (c.margin_on-2.ensures.value held netted stand) side
+
+pub returns-clause-total : goal.returns-clause-total
+returns-clause-total g c = each_side (λ s b. IsTotal b.total.0) (record { collect = c.margin_on.result; post = c.margin_on-2.result }) c.margin_on.ensures.total c.margin_on-2.ensures.total
+
+pub returns-clause-margins : goal.returns-clause-margins
+returns-clause-margins g c = each_side (λ s b. HasProductMargins b) (record { collect = c.margin_on.result; post = c.margin_on-2.result }) c.margin_on.ensures.margins c.margin_on-2.ensures.margins

@@ -3,7 +3,7 @@ use Rattle.std.specs.Prelude.{is_ok, IsOk}
 use Rattle.std.proofs.lemmas.List.{get_or_default}
 use Rattle.kept_buckets.specs.SimmKinds.declared.kinds.ProductClass.TheVariants.{RatesFX}
 use Rattle.kept_buckets.specs.SimmRules.Simm.{products}
-use Rattle.book_margin.proofs.Classes.{IsProductKept, class_of_product, all_margins, products_are, products_sized, fresh}
+use Rattle.book_margin.proofs.Classes.{IsProductKept, class_of_product, all_margins, fresh}
 use Rattle.book_margin.proofs.Gathering.{renewed_first, renewed_next, renewed_all}
 use Rattle.book_margin.proofs.Renewed.{renews_both, margin_still, margins_still}
 use Rattle.book_margin.proofs.renewal.renew.Goals as goal
@@ -28,17 +28,6 @@ loop-product-preserved g c =
     renewed_next c.args.params.now c.args.factors.now IsProductKept c.args.kept.now c.loop-product.kept c.renew_product.new.kept products c.loop-product.product-index _ c.args.steps.now c.loop-product.steps c.renew_product.new.steps
     c.loop-product-test.true (get_or_default products c.loop-product.product-index RatesFX _ c.loop-product-test.true) c.loop-product.invariant c.renew_product.ensures.renewed
     (λ a h k. margin_still c.loop-product.kept c.renew_product.new.kept c.renew_product.ensures.renewed (class_of_product a k) (h k)) c.in_ok-renew_product.ensures.kept c.in_ok-renew_product.ensures.steps
-
-pub kept_products-requires : goal.kept_products-requires
-kept_products-requires g c =
-    all_margins c.loop-product.kept
-    (renewed_all c.args.params.now c.args.factors.now IsProductKept c.args.kept.now c.loop-product.kept products c.loop-product.product-index c.args.steps.now c.loop-product.steps c.loop-product-test.false c.loop-product.invariant)
-
-pub returns-clause-value : goal.returns-clause-value
-returns-clause-value g c = products_are c.args.params.now c.args.factors.now c.loop-product.kept c.kept_products.result c.loop-product.invariant.renewed.right c.kept_products.ensures
-
-pub returns-clause-margins : goal.returns-clause-margins
-returns-clause-margins g c = products_sized c.args.params.now c.args.factors.now c.loop-product.kept c.kept_products.result c.loop-product.invariant.renewed.right c.kept_products.ensures
 
 pub returns-clause-renewed : goal.returns-clause-renewed
 returns-clause-renewed g c = c.loop-product.invariant.renewed

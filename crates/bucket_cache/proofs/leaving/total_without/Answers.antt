@@ -1,4 +1,5 @@
 use Rattle.std.proofs.Common.{◌≡◌, ◌∙◌, ◌+◌, ◌≤◌, [], ◌∷◌, List, sym, ap, subst, arith}
+use Rattle.book_margin.specs.SimmKinds.declared.margin_side.MarginSide.TheVariants.{Collect}
 use Rattle.book_margin.specs.SimmKinds.Batch.{rows_of}
 use Rattle.book_margin.specs.SimmRules.declared.values.Breakdown.{Breakdown}
 use Rattle.book_margin.specs.FactorBook.Factors.{factors_of}
@@ -39,7 +40,7 @@ pub returns-clause-total : goal.returns-clause-total
 returns-clause-total g c =
     let us = without (c.args.name.now ∷ []) (trades_of c.args.current.now.entries) in
     ap (λ (b : Breakdown). b.total)
-    (c.in_ok-margin.ensures.value (rows_of us)
+    (c.in_ok-margins.ensures.value (rows_of us) Collect
     (margin_book c.args.params.now us c.take_out.new.sums _ (live_without c.args.params.now (c.args.name.now ∷ []) (trades_of c.args.current.now.entries) c.fewer_are_in_range.ensures c.requires.live)
     c.in_ok-take_out.ensures.moved.summed c.parameters_without-parameters.ensures))
 
@@ -56,7 +57,7 @@ returns-clause-steps g c =
     let gone = rows_of (named (c.args.name.now ∷ []) us) in
     omega (
       arith,
-      c.in_ok-margin.ensures.steps,
+      c.in_ok-margins.ensures.steps,
       ap (λ (s : Sums). steps_due c.args.params.now c.take_out.new.kept s.factors) c.in_ok-take_out.ensures.moved.summed,
       steps_forgotten c.args.params.now gone c.in_ok-left.left c.take_out.new.kept factors c.in_ok-take_out.ensures.moved.forgotten,
       ap (λ (k : Kept). steps_over c.args.params.now gone k factors) c.in_ok-left.ensures,

@@ -9,5 +9,5 @@ pub margin_over_kept-requires-clause-add_ons : goal.margin_over_kept-requires-cl
 margin_over_kept-requires-clause-add_ons g c = of_book c.args.params.now c.args.sums.now c.args.parameters.now c.requires.book.0 c.requires.book.1
 
 pub returns-clause-value : goal.returns-clause-value
-returns-clause-value g c = λ held book.
-    c.margin_over_kept.ensures.value held (same_factors c.args.params.now c.args.sums.now c.args.parameters.now held book) (stands_for c.args.params.now c.args.sums.now c.args.parameters.now held book)
+returns-clause-value g c = λ held side book.
+    c.margin_over_kept.ensures.value held side (same_factors c.args.params.now c.args.sums.now c.args.parameters.now held book) (stands_for c.args.params.now c.args.sums.now c.args.parameters.now held book)

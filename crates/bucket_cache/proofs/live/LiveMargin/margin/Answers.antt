@@ -1,7 +1,9 @@
-use Rattle.std.proofs.Common.{◌∙◌, ◌+◌, ◌≤◌, is_some, ap, sym, subst, arith}
+use Rattle.std.proofs.Common.{◌∙◌, ◌+◌, ◌^◌, ◌≤◌, ◌≤ℤ◌, ◌<ℤ◌, pos, is_some, ap, sym, subst, arith}
 use Rattle.book_margin.specs.SimmKinds.Batch.{rows_of}
+use Rattle.book_margin.specs.SimmRules.declared.values.Breakdown.{Breakdown}
 use Rattle.book_margin.specs.SimmRules.Simm.{simm}
 use Rattle.book_margin.specs.FactorBook.Factors.{factors_of}
+use Rattle.book_margin.specs.NegatedBook.Sides.{side_rows}
 use Rattle.book_margin.specs.Steps.{steps_due}
 use Rattle.book_margin.specs.Right.{IsFresh, Renews}
 use Rattle.bucket_cache.specs.declared.sums.Sums.{Sums}
@@ -17,16 +19,16 @@ use Rattle.bucket_cache.proofs.live.LiveMargin.margin.Goals as goal
 
 pub returns-in-Some-clause-value : goal.returns-in-Some-clause-value
 returns-in-Some-clause-value g c =
-    (if_some c.self.inside.last c.in-Some.margin (IsMargin c.self.inside.params (rows_of (trades_of c.self.inside.trades.entries)) c.self.inside.kept) c.in-Some.is c.self.invariant.fresh).value
-    ∙ ap (λ (l : Live). simm l.params (rows_of l.book)) c.self.view_is
+    c.on.ensures ∙ (if_some c.self.inside.last c.in-Some.margins (IsMargin c.self.inside.params (rows_of (trades_of c.self.inside.trades.entries)) c.self.inside.kept) c.in-Some.is c.self.invariant.fresh).value c.args.side
+    ∙ ap (λ (l : Live). simm l.params (side_rows c.args.side (rows_of l.book))) c.self.view_is
 
 pub returns-in-Some-clause-total_from : goal.returns-in-Some-clause-total_from
 returns-in-Some-clause-total_from g c =
-    (if_some c.self.inside.last c.in-Some.margin (IsMargin c.self.inside.params (rows_of (trades_of c.self.inside.trades.entries)) c.self.inside.kept) c.in-Some.is c.self.invariant.fresh).total.low
+    subst (λ (b : Breakdown). pos 0 ≤ℤ b.total.0) (sym c.on.ensures) ((if_some c.self.inside.last c.in-Some.margins (IsMargin c.self.inside.params (rows_of (trades_of c.self.inside.trades.entries)) c.self.inside.kept) c.in-Some.is c.self.invariant.fresh).total c.args.side).low
 
 pub returns-in-Some-clause-total_below : goal.returns-in-Some-clause-total_below
 returns-in-Some-clause-total_below g c =
-    (if_some c.self.inside.last c.in-Some.margin (IsMargin c.self.inside.params (rows_of (trades_of c.self.inside.trades.entries)) c.self.inside.kept) c.in-Some.is c.self.invariant.fresh).total.below
+    subst (λ (b : Breakdown). b.total.0 <ℤ pos (10 ^ 21)) (sym c.on.ensures) ((if_some c.self.inside.last c.in-Some.margins (IsMargin c.self.inside.params (rows_of (trades_of c.self.inside.trades.entries)) c.self.inside.kept) c.in-Some.is c.self.invariant.fresh).total c.args.side).below
 
 pub returns-in-Some-clause-renewed : goal.returns-in-Some-clause-renewed
 returns-in-Some-clause-renewed g c =
@@ -36,7 +38,7 @@ pub returns-in-Some-clause-all : goal.returns-in-Some-clause-all
 returns-in-Some-clause-all g c = λ at measure.
     subst (IsCached at measure) c.self.view_is
     (fresh_cached c.self.inside.params (factors_of (rows_of (trades_of c.self.inside.trades.entries))) c.self.inside.kept c.self.invariant.summed.right at
-    (if_some c.self.inside.last c.in-Some.margin (IsMargin c.self.inside.params (rows_of (trades_of c.self.inside.trades.entries)) c.self.inside.kept) c.in-Some.is c.self.invariant.fresh).all measure)
+    (if_some c.self.inside.last c.in-Some.margins (IsMargin c.self.inside.params (rows_of (trades_of c.self.inside.trades.entries)) c.self.inside.kept) c.in-Some.is c.self.invariant.fresh).all measure)
 
 pub returns-in-Some-clause-fresh : goal.returns-in-Some-clause-fresh
 returns-in-Some-clause-fresh g c = sym (ap (λ (l : Live). l.is_fresh) c.self.view_is) ∙ ap is_some c.in-Some.is
@@ -69,19 +71,19 @@ invariant_of-self g c =
       fresh = tt;
     })
 
-pub returns-in_err-margin-clause-renewed : goal.returns-in_err-margin-clause-renewed
-returns-in_err-margin-clause-renewed g c =
+pub returns-in_err-margins-clause-renewed : goal.returns-in_err-margins-clause-renewed
+returns-in_err-margins-clause-renewed g c =
     subst (λ (l : Live). Renews l.params (factors_of (rows_of l.book)) l.kept c.margin_of.new.kept) c.self.view_is
     (renews_to c.self.inside.params (rows_of (trades_of c.self.inside.trades.entries)) c.self.inside.sums c.self.inside.kept c.margin_of.new.kept c.self.invariant.summed.summed c.margin_of.ensures.renewed)
 
-pub returns-in_err-margin-clause-at_once : goal.returns-in_err-margin-clause-at_once
-returns-in_err-margin-clause-at_once g c = λ fresh. absurd (not_fresh c.self.inside.last c.args.self.now.is_fresh c.in_default.is (ap (λ (l : Live). l.is_fresh) c.self.view_is) fresh)
+pub returns-in_err-margins-clause-at_once : goal.returns-in_err-margins-clause-at_once
+returns-in_err-margins-clause-at_once g c = λ fresh. absurd (not_fresh c.self.inside.last c.args.self.now.is_fresh c.in_default.is (ap (λ (l : Live). l.is_fresh) c.self.view_is) fresh)
 
-pub returns-in_err-margin-clause-as_it_was : goal.returns-in_err-margin-clause-as_it_was
-returns-in_err-margin-clause-as_it_was g c = λ fresh. absurd (not_fresh c.self.inside.last c.args.self.now.is_fresh c.in_default.is (ap (λ (l : Live). l.is_fresh) c.self.view_is) fresh)
+pub returns-in_err-margins-clause-as_it_was : goal.returns-in_err-margins-clause-as_it_was
+returns-in_err-margins-clause-as_it_was g c = λ fresh. absurd (not_fresh c.self.inside.last c.args.self.now.is_fresh c.in_default.is (ap (λ (l : Live). l.is_fresh) c.self.view_is) fresh)
 
-pub returns-in_err-margin-clause-no_step : goal.returns-in_err-margin-clause-no_step
-returns-in_err-margin-clause-no_step g c = λ fresh. absurd (not_fresh c.self.inside.last c.args.self.now.is_fresh c.in_default.is (ap (λ (l : Live). l.is_fresh) c.self.view_is) fresh)
+pub returns-in_err-margins-clause-no_step : goal.returns-in_err-margins-clause-no_step
+returns-in_err-margins-clause-no_step g c = λ fresh. absurd (not_fresh c.self.inside.last c.args.self.now.is_fresh c.in_default.is (ap (λ (l : Live). l.is_fresh) c.self.view_is) fresh)
 
 pub invariant_of-self-2 : goal.invariant_of-self-2
 invariant_of-self-2 g c =
@@ -95,24 +97,24 @@ invariant_of-self-2 g c =
         right = (renews_to p (rows_of us) c.self.inside.sums c.self.inside.kept c.margin_of.new.kept c.self.invariant.summed.summed c.margin_of.ensures.renewed).right;
       };
       fresh = record {
-        value = c.in_ok-margin.ensures.value (rows_of us) book;
-        total = c.in_ok-margin.ensures.total;
-        all = subst (λ factors. IsFresh factors c.margin_of.new.kept) (ap (λ (s : Sums). s.factors) c.self.invariant.summed.summed) c.in_ok-margin.ensures.fresh;
+        value = λ side. c.in_ok-margins.ensures.value (rows_of us) side book;
+        total = c.in_ok-margins.ensures.total;
+        all = subst (λ factors. IsFresh factors c.margin_of.new.kept) (ap (λ (s : Sums). s.factors) c.self.invariant.summed.summed) c.in_ok-margins.ensures.fresh;
       };
     }
 
 pub returns-clause-value : goal.returns-clause-value
 returns-clause-value g c =
     let us = trades_of c.self.inside.trades.entries in
-    c.in_ok-margin.ensures.value (rows_of us)
+    c.on-2.ensures ∙ c.in_ok-margins.ensures.value (rows_of us) c.args.side
     (margin_book c.self.inside.params us c.self.inside.sums _ c.self.invariant.summed.live c.self.invariant.summed.summed (c.rows_in-parameters.ensures ∙ ap (rows_in us) c.empty-nameless.ensures))
-    ∙ ap (λ (l : Live). simm l.params (rows_of l.book)) c.self.view_is
+    ∙ ap (λ (l : Live). simm l.params (side_rows c.args.side (rows_of l.book))) c.self.view_is
 
 pub returns-clause-total_from : goal.returns-clause-total_from
-returns-clause-total_from g c = c.in_ok-margin.ensures.total.low
+returns-clause-total_from g c = subst (λ (b : Breakdown). pos 0 ≤ℤ b.total.0) (sym c.on-2.ensures) (c.in_ok-margins.ensures.total c.args.side).low
 
 pub returns-clause-total_below : goal.returns-clause-total_below
-returns-clause-total_below g c = c.in_ok-margin.ensures.total.below
+returns-clause-total_below g c = subst (λ (b : Breakdown). b.total.0 <ℤ pos (10 ^ 21)) (sym c.on-2.ensures) (c.in_ok-margins.ensures.total c.args.side).below
 
 pub returns-clause-renewed : goal.returns-clause-renewed
 returns-clause-renewed g c =
@@ -124,12 +126,12 @@ returns-clause-all g c = λ at measure.
     let us = trades_of c.self.inside.trades.entries in
     fresh_cached c.self.inside.params (factors_of (rows_of us)) c.margin_of.new.kept
     (renews_to c.self.inside.params (rows_of us) c.self.inside.sums c.self.inside.kept c.margin_of.new.kept c.self.invariant.summed.summed c.margin_of.ensures.renewed).right at
-    (subst (λ factors. IsFresh factors c.margin_of.new.kept) (ap (λ (s : Sums). s.factors) c.self.invariant.summed.summed) c.in_ok-margin.ensures.fresh) measure
+    (subst (λ factors. IsFresh factors c.margin_of.new.kept) (ap (λ (s : Sums). s.factors) c.self.invariant.summed.summed) c.in_ok-margins.ensures.fresh) measure
 
 pub returns-clause-steps : goal.returns-clause-steps
 returns-clause-steps g c =
     subst (λ (l : Live). c.margin_of.new.steps + steps_due l.params c.margin_of.new.kept (factors_of (rows_of l.book)) ≤ c.args.steps.now + steps_due l.params l.kept (factors_of (rows_of l.book))) c.self.view_is
-    (subst (λ factors. c.margin_of.new.steps + steps_due c.self.inside.params c.margin_of.new.kept factors ≤ c.args.steps.now + steps_due c.self.inside.params c.self.inside.kept factors) (ap (λ (s : Sums). s.factors) c.self.invariant.summed.summed) c.in_ok-margin.ensures.steps)
+    (subst (λ factors. c.margin_of.new.steps + steps_due c.self.inside.params c.margin_of.new.kept factors ≤ c.args.steps.now + steps_due c.self.inside.params c.self.inside.kept factors) (ap (λ (s : Sums). s.factors) c.self.invariant.summed.summed) c.in_ok-margins.ensures.steps)
 
 pub returns-clause-as_it_was : goal.returns-clause-as_it_was
 returns-clause-as_it_was g c = λ fresh. absurd (not_fresh c.self.inside.last c.args.self.now.is_fresh c.in_default.is (ap (λ (l : Live). l.is_fresh) c.self.view_is) fresh)

@@ -1,0 +1,16 @@
+pub mod Numbers
+pub mod Lists
+pub mod Rows
+pub mod Netting
+pub mod Factors
+pub mod Weighed
+pub mod Buckets
+pub mod Across
+pub mod Tenors
+pub mod RateClass
+pub mod CreditClasses
+pub mod PricedClasses
+pub mod ExchangeClass
+pub mod BaseCorrelation
+pub mod AddOns
+pub mod Range
