@@ -11,7 +11,7 @@ use Rattle.simm_kinds.specs.declared.row.TradeRows.{TradeRows}
 use Rattle.crif_reader.specs.declared.fault.CrifFault.{CrifFault}
 use Rattle.crif_reader.specs.Grammar.{Crif, crif_of}
 use Rattle.csa_terms.specs.Grammar.{terms_of}
-use Rattle.csa_terms.specs.Terms.{Agreement}
+use Rattle.csa_terms.specs.Terms.{Agreements}
 use Rattle.fault_text.specs.CrifLine.{crif_fault}
 use Rattle.fault_text.specs.ParamsLine.{params_fault}
 use Rattle.fault_text.specs.TermsLine.{terms_fault}
@@ -72,5 +72,5 @@ trades_taken word bytes trades known line refused = at (crif_of bytes) known ref
     at (Err e) known refused = absurd known
 
 -- bytes that give terms are not refused
-pub terms_taken : (bytes : List ℕ) (agreements : List Agreement) → terms_of bytes ≡ Ok agreements → (line : List ℕ) → RefusesTerms bytes line → ⊥
+pub terms_taken : (bytes : List ℕ) (agreements : List Agreements) → terms_of bytes ≡ Ok agreements → (line : List ℕ) → RefusesTerms bytes line → ⊥
 terms_taken bytes agreements known line refused = subst (λ read. IsErrAnd read (λ e. line ≡ terms_fault e)) known refused

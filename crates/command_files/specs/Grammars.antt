@@ -5,7 +5,7 @@ use Rattle.simm_rules.specs.Params.{Params}
 use Rattle.params_file.specs.Grammar.{params_of, params_read}
 use Rattle.crif_reader.specs.Grammar.{crif_of}
 use Rattle.csa_terms.specs.Grammar.{terms_of}
-use Rattle.csa_terms.specs.Terms.{Agreement}
+use Rattle.csa_terms.specs.Terms.{Agreements}
 use Rattle.fault_text.specs.ParamsLine.{params_fault}
 use Rattle.fault_text.specs.TermsLine.{terms_fault}
 use Rattle.fault_text.specs.CrifLine.{crif_fault}
@@ -24,7 +24,7 @@ GivesTrades bytes trades = IsOkAnd (crif_of bytes) (λ crif. crif.trades ≡ tra
 abbrev pub RefusesTrades : List ℕ → List ℕ → List ℕ → Type 0
 RefusesTrades word bytes line = IsErrAnd (crif_of bytes) (λ e. line ≡ crif_fault word e)
 
-abbrev pub GivesTerms : List ℕ → List Agreement → Type 0
+abbrev pub GivesTerms : List ℕ → List Agreements → Type 0
 GivesTerms bytes agreements = terms_of bytes ≡ Ok agreements
 
 abbrev pub RefusesTerms : List ℕ → List ℕ → Type 0

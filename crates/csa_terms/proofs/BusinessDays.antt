@@ -1,5 +1,5 @@
 -- Business days after a day: their count rises by one at most, and two come within 820 weeks.
-use Rattle.std.proofs.Common.{◌≡◌, ℕ, zero, suc, ◌+◌, ◌-◌, ◌*◌, negsuc, neg_ℤ, ◌≤ℤ◌, int_lt, unsigned_abs, ◌%◌, ◌≤◌, ◌<◌, Bool, true, false, cond, not, ⊎_elim, le-leb, leb-true, ◌&&◌, ◌||◌, nat_lt, nat_le, List, [], ◌∷◌, length, ℤ, pos, ◌+ℤ◌, ◌<ℤ◌, refl, sym, ap, ◌∙◌, arith}
+use Rattle.std.proofs.Common.{◌≡◌, ℕ, zero, suc, ◌+◌, ◌-◌, ◌*◌, negsuc, ◌≤ℤ◌, int_lt, unsigned_abs, ◌%◌, ◌≤◌, ◌<◌, Bool, true, false, cond, not, ⊎_elim, le-leb, leb-true, ◌&&◌, ◌||◌, nat_lt, nat_le, List, [], ◌∷◌, length, ℤ, pos, ◌+ℤ◌, ◌<ℤ◌, refl, sym, ap, ◌∙◌, arith}
 use Rattle.std.specs.Ordering.{int_eq}
 use Rattle.std.proofs.lemmas.Int.{ints}
 use Rattle.std.proofs.lemmas.Bool.{false_from_ne_true}

@@ -1,12 +1,12 @@
 -- The days of the years 1 to 9000.
-use Rattle.std.proofs.Common.{rules, ◌≡◌, ◌↔◌, ◌⊎◌, ⊎_elim, inl, inr, ℕ, ◌≤◌, ◌<◌, ℤ, pos, negsuc, ◌≤ℤ◌, ◌<ℤ◌, arith}
+use Rattle.std.proofs.Common.{rules, ◌↔◌, ◌⊎◌, ⊎_elim, inl, inr, ℕ, ◌≤◌, ◌<◌, ℤ, pos, negsuc, ◌≤ℤ◌, ◌<ℤ◌, arith}
 use Rattle.std.proofs.lemmas.Bool.{cases_lt}
 use Rattle.std.proofs.lemmas.Int.{ints}
 use Rattle.jiff.specs.Words.{IsBetween}
 use Rattle.jiff_core.specs.Calendar.{days_from_civil, IsCivilDate}
 use Rattle.jiff_core.specs.declared.civil.date.Date.{Date}
 use Rattle.jiff_core.proofs.CalendarLemmas.{days_in_month_bounds}
-use Rattle.jiff_core.proofs.DateLemmas.{epoch_day_range, epoch_day-lt, epoch_day_same, cases_date}
+use Rattle.jiff_core.proofs.DateLemmas.{epoch_day-lt, epoch_day_same, cases_date}
 use Rattle.csa_terms.specs.Calendar.{IsCallingDay}
 use Rattle.iso_dates.proofs.DateDays.{first_day, first_date, calendar-from}
 use Rattle.csa_terms.proofs.BusinessDays.{last_day}

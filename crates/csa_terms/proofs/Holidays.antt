@@ -15,7 +15,8 @@ use Rattle.csa_terms.specs.Terms.{AreHolidays}
 use Rattle.toml_values.specs.Answers.{◌>>=◌, Unless}
 use Rattle.toml_values.proofs.Places.{Unless-from}
 use Rattle.csa_terms.specs.Values.{date_of}
-use Rattle.csa_terms.specs.Grammar.{holiday_path, holidays_from}
+use Rattle.csa_terms.specs.Paths.{holiday_path}
+use Rattle.csa_terms.specs.Grammar.{holidays_from}
 
 -- ---- a day more
 

@@ -1,7 +1,7 @@
 -- The grammar of the terms file: its tests in order, each with its path, its kind of value and its range; the first fault ends
--- them. Other keys are passed over.
+-- them. Other keys are passed over. What a set posts by stands in a table of its own, `post`, or is what it collects by.
 -- (ISDA 2016 Credit Support Annex for Initial Margin: the terms that its paragraph 13 fills in.)
-use Rattle.std.specs.Prelude.{ℕ, ◌+◌, List, [], ◌∷◌, ◌++◌, Bool, false, ◌||◌, nat_lt, if◌then◌else◌, Option, Some, None, is_some, ok_or, Result, Ok, Err, ℤ, pos, codes, decimal}
+use Rattle.std.specs.Prelude.{ℕ, ◌+◌, List, [], ◌∷◌, ◌++◌, Bool, false, ◌||◌, nat_lt, if◌then◌else◌, Option, Some, None, is_some, ok_or, Result, Ok, Err, ℤ, pos, codes}
 use Rattle.std.specs.BTreeSet.{insert_key}
 use Rattle.std.specs.List.{list_any}
 use Rattle.std.specs.Ordering.{int_cmp}
@@ -10,34 +10,19 @@ use Rattle.toml_values.specs.SimmKinds.Order.{same_name}
 use Rattle.toml_values.specs.declared.range.Range.{Range}
 use Rattle.toml_values.specs.declared.fault.ValueFault.{ValueFault}
 use Rattle.toml_values.specs.declared.fault.ValueFault.TheVariants.{Missing, OutOfRange}
-use Rattle.toml_values.specs.Paths.{joined}
 use Rattle.toml_values.specs.Answers.{◌>>=◌}
 use Rattle.toml_values.specs.Values.{members_count, items_count, array_of, table_of, money_of, rate_of}
 use Rattle.toml_values.specs.Places.{each_of}
 use Rattle.toml_values.specs.Document.{document_of}
 use Rattle.csa_terms.specs.declared.fault.TermsFault.{TermsFault}
 use Rattle.csa_terms.specs.declared.fault.TermsFault.TheVariants.{Toml, DuplicateSet, TooManySets}
-use Rattle.csa_terms.specs.Terms.{Haircut, Agreement}
+use Rattle.csa_terms.specs.declared.terms_path.TermsTable.{TermsTable}
+use Rattle.csa_terms.specs.declared.terms_path.TermsTable.TheVariants.{Own, Post}
+use Rattle.csa_terms.specs.Terms.{Haircut, Agreement, Agreements}
+use Rattle.csa_terms.specs.Paths.{sets_path, set_path, key_path, class_path, holiday_path}
 use Rattle.csa_terms.specs.Ranges.{amounts, units, shares}
 use Rattle.csa_terms.specs.Faults.{of_value}
 use Rattle.csa_terms.specs.Values.{set_name_of, name_of, minute_of, date_of}
-
--- ---- paths, in which sets and places count from 1
-
-unfoldable pub sets_path : List ℕ
-sets_path = joined (codes "set" ∷ [])
-
-unfoldable pub set_path : ℕ → List ℕ
-set_path set = joined (codes "set" ∷ decimal set ∷ [])
-
-unfoldable pub key_path : ℕ → List ℕ → List ℕ
-key_path set key = joined (codes "set" ∷ decimal set ∷ key ∷ [])
-
-unfoldable pub class_path : ℕ → List ℕ → List ℕ
-class_path set class = joined (codes "set" ∷ decimal set ∷ codes "haircuts" ∷ class ∷ [])
-
-unfoldable pub holiday_path : ℕ → ℕ → List ℕ
-holiday_path set place = joined (codes "set" ∷ decimal set ∷ codes "holidays" ∷ decimal place ∷ [])
 
 -- more than the most are out of range, with their count
 abbrev pub at_most : ℕ → List ℕ → ℕ → Result (Unit {0}) ValueFault
@@ -45,24 +30,24 @@ at_most most path count = if nat_lt most count then Err (OutOfRange path (pos co
 
 -- ---- haircuts, in the order of their classes: the class is tested before its rate
 
-unfoldable pub haircut_of_entry : ℕ → List ℕ → Data → Result Haircut TermsFault
-haircut_of_entry set class value = do
-  name ← name_of (class_path set class) class
-  rate ← of_value (rate_of (class_path set class) shares (Some value))
+unfoldable pub haircut_of_entry : TermsTable → List ℕ → Data → Result Haircut TermsFault
+haircut_of_entry at class value = do
+  name ← name_of (class_path at class) class
+  rate ← of_value (rate_of (class_path at class) shares (Some value))
   Ok (record { class = name; rate = rate })
 
-unfoldable pub haircuts_of : ℕ → Members → Result (List Haircut) TermsFault
-haircuts_of set no_members = Ok []
-haircuts_of set (member class value rest) = do
-  haircut ← haircut_of_entry set class value
-  others ← haircuts_of set rest
+unfoldable pub haircuts_of : TermsTable → Members → Result (List Haircut) TermsFault
+haircuts_of at no_members = Ok []
+haircuts_of at (member class value rest) = do
+  haircut ← haircut_of_entry at class value
+  others ← haircuts_of at rest
   Ok (haircut ∷ others)
 
-unfoldable pub haircut_table_of : ℕ → Members → Result (List Haircut) TermsFault
-haircut_table_of set table = do
-  entries ← of_value (table_of (key_path set (codes "haircuts")) (get_member (codes "haircuts") table))
-  few ← of_value (at_most 256 (key_path set (codes "haircuts")) (members_count entries))
-  haircuts_of set entries
+unfoldable pub haircut_table_of : TermsTable → Members → Result (List Haircut) TermsFault
+haircut_table_of at table = do
+  entries ← of_value (table_of (key_path at (codes "haircuts")) (get_member (codes "haircuts") table))
+  few ← of_value (at_most 256 (key_path at (codes "haircuts")) (members_count entries))
+  haircuts_of at entries
 
 -- ---- holidays, whose places count from 1: behind the days of the places before, each day once and in order
 
@@ -74,30 +59,34 @@ holidays_from set days place (item value rest) = do
 
 unfoldable pub holiday_list_of : ℕ → Members → Result (List ℤ) TermsFault
 holiday_list_of set table = do
-  places ← of_value (array_of (key_path set (codes "holidays")) (get_member (codes "holidays") table))
-  few ← of_value (at_most 4096 (key_path set (codes "holidays")) (items_count places))
+  places ← of_value (array_of (key_path (Own set) (codes "holidays")) (get_member (codes "holidays") table))
+  few ← of_value (at_most 4096 (key_path (Own set) (codes "holidays")) (items_count places))
   holidays_from set [] 1 places
 
 -- ---- a set
 
-abbrev pub money_at : ℕ → List ℕ → Members → Range → Result ℤ ValueFault
-money_at set key table range = money_of (key_path set key) range (get_member key table)
+abbrev pub money_at : TermsTable → List ℕ → Members → Range → Result ℤ ValueFault
+money_at at key table range = money_of (key_path at key) range (get_member key table)
 
-unfoldable pub amounts_of : ℕ → Members → Result (ℤ × ℤ × ℤ × ℤ) ValueFault
-amounts_of set table = do
-  threshold ← money_at set (codes "threshold") table amounts
-  mta_delivery ← money_at set (codes "mta_delivery") table amounts
-  mta_return ← money_at set (codes "mta_return") table amounts
-  rounding ← money_at set (codes "rounding") table units
+unfoldable pub amounts_of : TermsTable → Members → Result (ℤ × ℤ × ℤ × ℤ) ValueFault
+amounts_of at table = do
+  threshold ← money_at at (codes "threshold") table amounts
+  mta_delivery ← money_at at (codes "mta_delivery") table amounts
+  mta_return ← money_at at (codes "mta_return") table amounts
+  rounding ← money_at at (codes "rounding") table units
   Ok (threshold, mta_delivery, mta_return, rounding)
 
-unfoldable pub set_of : ℕ → Members → Result Agreement TermsFault
-set_of set table = do
-  name ← set_name_of (key_path set (codes "name")) (get_member (codes "name") table)
-  cents ← of_value (amounts_of set table)
-  notification ← minute_of (key_path set (codes "notification")) (get_member (codes "notification") table)
-  fx_haircut ← of_value (rate_of (key_path set (codes "fx_haircut")) shares (get_member (codes "fx_haircut") table))
-  haircuts ← haircut_table_of set table
+abbrev pub fx_haircut_of : TermsTable → Members → Result ℤ ValueFault
+fx_haircut_of at table = rate_of (key_path at (codes "fx_haircut")) shares (get_member (codes "fx_haircut") table)
+
+-- the terms by which it collects margin
+unfoldable pub collect_of : ℕ → Members → Result Agreement TermsFault
+collect_of set table = do
+  name ← set_name_of (key_path (Own set) (codes "name")) (get_member (codes "name") table)
+  cents ← of_value (amounts_of (Own set) table)
+  notification ← minute_of (key_path (Own set) (codes "notification")) (get_member (codes "notification") table)
+  fx_haircut ← of_value (fx_haircut_of (Own set) table)
+  haircuts ← haircut_table_of (Own set) table
   holidays ← holiday_list_of set table
   Ok (record {
     name = name;
@@ -111,14 +100,45 @@ set_of set table = do
     holidays = holidays;
   })
 
+-- the terms by which it posts, of its table of them; what is of neither side stays
+unfoldable pub posting_of : ℕ → Members → Agreement → Result Agreement TermsFault
+posting_of set table collect = do
+  cents ← of_value (amounts_of (Post set) table)
+  fx_haircut ← of_value (fx_haircut_of (Post set) table)
+  haircuts ← haircut_table_of (Post set) table
+  Ok (record {
+    name = collect.name;
+    threshold = cents.0;
+    mta_delivery = cents.1;
+    mta_return = cents.2;
+    rounding = cents.3;
+    notification = collect.notification;
+    fx_haircut = fx_haircut;
+    haircuts = haircuts;
+    holidays = collect.holidays;
+  })
+
+-- where there is no such table, they are those by which it collects
+unfoldable pub post_of : ℕ → Option Data → Agreement → Result Agreement TermsFault
+post_of set None collect = Ok collect
+post_of set (Some value) collect = do
+  table ← of_value (table_of (key_path (Own set) (codes "post")) (Some value))
+  posting_of set table collect
+
+unfoldable pub set_of : ℕ → Members → Result Agreements TermsFault
+set_of set table = do
+  collect ← collect_of set table
+  post ← post_of set (get_member (codes "post") table) collect
+  Ok (record { collect = collect; post = post })
+
 -- ---- the sets, counted from 1
 
-unfoldable pub set_of_place : ℕ → Data → Result Agreement TermsFault
+unfoldable pub set_of_place : ℕ → Data → Result Agreements TermsFault
 set_of_place number value = do
   table ← of_value (table_of (set_path number) (Some value))
   set_of number table
 
-abbrev pub set_at : ℕ → List Agreement → Data → Result Agreement TermsFault
+abbrev pub set_at : ℕ → List Agreements → Data → Result Agreements TermsFault
 set_at number before value = set_of_place number value
 
 -- a place has a table
@@ -133,10 +153,10 @@ abbrev pub few_sets : ℕ → Result (Unit {0}) TermsFault
 few_sets count = if nat_lt 16 count then Err (TooManySets count) else Ok tt
 
 -- the first name that stood before, in the order of the sets
-abbrev pub repeated : List (List ℕ) → List Agreement → Option (List ℕ)
+abbrev pub repeated : List (List ℕ) → List Agreements → Option (List ℕ)
 repeated before [] = None
 repeated before (set ∷ sets) =
-    if list_any (same_name set.name) before then Some set.name else repeated (before ++ set.name ∷ []) sets
+    if list_any (same_name set.collect.name) before then Some set.collect.name else repeated (before ++ set.collect.name ∷ []) sets
 
 abbrev pub once_each : Option (List ℕ) → Result (Unit {0}) TermsFault
 once_each None = Ok tt
@@ -144,7 +164,7 @@ once_each (Some name) = Err (DuplicateSet name)
 
 -- ---- the file
 
-unfoldable pub terms_of_table : Members → Result (List Agreement) TermsFault
+unfoldable pub terms_of_table : Members → Result (List Agreements) TermsFault
 terms_of_table root = do
   places ← of_value (array_of sets_path (get_member (codes "set") root))
   few ← few_sets (items_count places)
@@ -153,7 +173,7 @@ terms_of_table root = do
   different ← once_each (repeated [] sets)
   Ok sets
 
-unfoldable pub terms_of : List ℕ → Result (List Agreement) TermsFault
+unfoldable pub terms_of : List ℕ → Result (List Agreements) TermsFault
 terms_of bytes = do
   root ← ok_or (document_of bytes) Toml
   terms_of_table root

@@ -1,7 +1,7 @@
 -- The terms of an agreement for collateral, by which a netting set's calls are reckoned.
 -- (ISDA 2016 Credit Support Annex for Initial Margin: threshold, minimum transfer amount, rounding, notification time,
 -- valuation percentages, FX haircut percentage, local business days.)
-use Rattle.std.specs.Prelude.{◌<◌, ◌≤◌, ℕ, List, [], ◌∷◌, length, map, Bool, Option, Some, None, ℤ, if◌then◌else◌}
+use Rattle.std.specs.Prelude.{◌≡◌, ◌<◌, ◌≤◌, ℕ, List, [], ◌∷◌, length, map, Bool, Option, Some, None, ℤ, if◌then◌else◌}
 use Rattle.std.specs.Ordering.{int_eq}
 use Rattle.std.specs.List.{AllByRecursion, IsDistinct, list_any}
 use Rattle.toml_values.specs.SimmKinds.NameText.{IsName}
@@ -27,6 +27,17 @@ pub record Agreement : Type 0 where
   pub fx_haircut : ℤ
   pub haircuts : List Haircut
   pub holidays : List ℤ
+
+-- the terms by which a netting set collects margin, and those by which it posts
+pub record Agreements : Type 0 where
+  pub collect : Agreement
+  pub post : Agreement
+
+-- both are of one set: its name, its notification minute and its holidays are of neither side
+pub record IsOneSet (collect post : Agreement) : Type 0 where
+  pub name : post.name ≡ collect.name
+  pub notification : post.notification ≡ collect.notification
+  pub holidays : post.holidays ≡ collect.holidays
 
 -- ---- look-ups
 
@@ -86,7 +97,7 @@ pub record IsAgreement (agreement : Agreement) : Type 0 where
 -- ---- the sets of a file
 
 -- one to sixteen sets of different names
-pub record AreTerms (sets : List Agreement) : Type 0 where
+pub record AreTerms (sets : List Agreements) : Type 0 where
   pub some : 0 < length sets
   pub few : length sets ≤ 16
-  pub different : IsDistinct same_name (map (λ s. s.name) sets)
+  pub different : IsDistinct same_name (map (λ s. s.collect.name) sets)

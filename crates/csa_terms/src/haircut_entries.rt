@@ -6,18 +6,20 @@ ghost use Rattle.csa_terms.specs.Terms.{IsShare};
 ghost use Rattle.csa_terms.specs.Faults.{Gives};
 ghost use Rattle.csa_terms.specs.Ranges.{shares};
 ghost use Rattle.csa_terms.specs.Values.{name_of};
-ghost use Rattle.csa_terms.specs.Grammar.{class_path, haircut_of_entry, haircuts_of, haircut_table_of};
+ghost use Rattle.csa_terms.specs.Paths.{class_path};
+ghost use Rattle.csa_terms.specs.Grammar.{haircut_of_entry, haircuts_of, haircut_table_of};
 
 use crate::fault::TermsFault;
 use crate::haircut_table::HaircutTable;
 use crate::keyed::{at_most, table_at};
 use crate::range::SHARE;
+use crate::terms_path::{TermsTable, own_class, post_class};
 use crate::value::name;
 use std::alloc::Global;
 use toml::{Table, Value};
 use toml_values::mh_units::Rate4;
 use toml_values::simm_kinds::Name;
-use toml_values::{Part, ValueFault, entry_count, rate};
+use toml_values::{ValueFault, entry_count, rate};
 
 /// How many haircuts a set has at most.
 const MOST: usize = 256;
@@ -29,66 +31,76 @@ struct Entry {
     rate: Rate4,
 }
 
-#[tactic(auto, unfolding(crate::specs::Grammar::class_path))]
-fn class_of(alloc: Global, set: usize, class: &str) -> Result<Name, TermsFault>
-    ensures value { Gives (λ n. n) result (name_of (class_path set class.now) class.now) }
+fn class_of(alloc: Global, table: TermsTable, class: &str) -> Result<Name, TermsFault>
+    ensures value { Gives (λ n. n) result (name_of (class_path table class.now) class.now) }
     ensures same { IfOk result (λ n. n ≡ class.now) }
 {
-    let path = [
-        Part::Key("set"),
-        Part::Place(set),
-        Part::Key("haircuts"),
-        Part::Key(class),
-    ];
-    name(alloc, &path, class)
+    match table {
+        TermsTable::Own(set) => name(alloc, &own_class(set, class), class),
+        TermsTable::Post(set) => name(alloc, &post_class(set, class), class),
+    }
 }
 
-#[tactic(auto, unfolding(crate::specs::Grammar::class_path))]
-fn rate_of(alloc: Global, set: usize, class: &str, value: &Value) -> Result<Rate4, ValueFault>
-    ensures value { GivesValue (λ r. r.0) result (rate_of (class_path set class.now) shares (Some (view value.now))) }
+fn rate_of(
+    alloc: Global,
+    table: TermsTable,
+    class: &str,
+    value: &Value,
+) -> Result<Rate4, ValueFault>
+    ensures value { GivesValue (λ r. r.0) result (rate_of (class_path table class.now) shares (Some (view value.now))) }
     ensures share { IfOk result (λ r. IsShare r.0) }
 {
-    let path = [
-        Part::Key("set"),
-        Part::Place(set),
-        Part::Key("haircuts"),
-        Part::Key(class),
-    ];
-    rate(alloc, &path, Some(value), SHARE)
+    match table {
+        TermsTable::Own(set) => rate(alloc, &own_class(set, class), Some(value), SHARE),
+        TermsTable::Post(set) => rate(alloc, &post_class(set, class), Some(value), SHARE),
+    }
 }
 
 #[tactic(auto, unfolding(crate::specs::Grammar::haircut_of_entry))]
-fn read_entry(alloc: Global, set: usize, class: &str, value: &Value) -> Result<Entry, TermsFault>
-    ensures value { Gives (λ e. record { class = e.class; rate = e.rate.0 }) result (haircut_of_entry set class.now (view value.now)) }
+fn read_entry(
+    alloc: Global,
+    table: TermsTable,
+    class: &str,
+    value: &Value,
+) -> Result<Entry, TermsFault>
+    ensures value { Gives (λ e. record { class = e.class; rate = e.rate.0 }) result (haircut_of_entry table class.now (view value.now)) }
     ensures share { IfOk result (λ e. IsShare e.rate.0) }
     ensures same { IfOk result (λ e. e.class ≡ class.now) }
 {
-    let name = class_of(alloc, set, class)?;
-    let rate = rate_of(alloc, set, class, value)?;
+    let name = class_of(alloc, table, class)?;
+    let rate = rate_of(alloc, table, class, value)?;
     Ok(Entry { class: name, rate })
 }
 
 /// The haircuts of a table's entries.
-fn read_entries(alloc: Global, set: usize, entries: &Table) -> Result<HaircutTable, TermsFault>
+fn read_entries(
+    alloc: Global,
+    table: TermsTable,
+    entries: &Table,
+) -> Result<HaircutTable, TermsFault>
     requires { members_count (table_view entries.now) ≤ 256 }
-    ensures { Gives (λ t. t) result (haircuts_of set (table_view entries.now)) }
+    ensures { Gives (λ t. t) result (haircuts_of table (table_view entries.now)) }
 {
     // The classes ascend.
     let _count = entries.len();
-    let mut table = HaircutTable::new(alloc);
+    let mut haircuts = HaircutTable::new(alloc);
     for (class, value) in entries {
-        let entry = read_entry(alloc, set, class.as_str(), value)?;
-        table.put(entry.class, entry.rate)?;
+        let entry = read_entry(alloc, table, class.as_str(), value)?;
+        haircuts.put(entry.class, entry.rate)?;
     }
-    Ok(table)
+    Ok(haircuts)
 }
 
-/// The haircuts of a set.
+/// The haircuts of a table of a set's terms.
 #[tactic(auto, unfolding(crate::specs::Grammar::haircut_table_of))]
-pub fn read_haircuts(alloc: Global, set: usize, terms: &Table) -> Result<HaircutTable, TermsFault>
-    ensures { Gives (λ t. t) result (haircut_table_of set (table_view terms.now)) }
+pub fn read_haircuts(
+    alloc: Global,
+    table: TermsTable,
+    terms: &Table,
+) -> Result<HaircutTable, TermsFault>
+    ensures { Gives (λ t. t) result (haircut_table_of table (table_view terms.now)) }
 {
-    let entries = table_at(alloc, set, terms, "haircuts")?;
-    at_most(alloc, set, "haircuts", MOST, entry_count(entries))?;
-    read_entries(alloc, set, entries)
+    let entries = table_at(alloc, table, terms, "haircuts")?;
+    at_most(alloc, table, "haircuts", MOST, entry_count(entries))?;
+    read_entries(alloc, table, entries)
 }

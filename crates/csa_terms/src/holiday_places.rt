@@ -4,11 +4,13 @@ ghost use Rattle.toml_values.specs.Values.{items_count};
 ghost use Rattle.iso_dates.specs.Dates.{IsCalendarDay};
 ghost use Rattle.csa_terms.specs.Faults.{Gives};
 ghost use Rattle.csa_terms.specs.Values.{date_of};
-ghost use Rattle.csa_terms.specs.Grammar.{holiday_path, holidays_from, holiday_list_of};
+ghost use Rattle.csa_terms.specs.Paths.{holiday_path};
+ghost use Rattle.csa_terms.specs.Grammar.{holidays_from, holiday_list_of};
 
 use crate::fault::TermsFault;
 use crate::holiday_list::HolidayList;
 use crate::keyed::{array_at, at_most};
+use crate::terms_path::TermsTable;
 use crate::value::date;
 use std::alloc::Global;
 use toml::{Table, Value};
@@ -18,7 +20,7 @@ use toml_values::{Part, place_count};
 const MOST: usize = 4_096;
 
 /// The day of a place, counted from 1.
-#[tactic(auto, unfolding(crate::specs::Grammar::holiday_path))]
+#[tactic(auto, unfolding(crate::specs::Paths::holiday_path))]
 fn read_place(alloc: Global, set: usize, place: usize, value: &Value) -> Result<i32, TermsFault>
     ensures value { Gives (λ d. d) result (date_of (holiday_path set place) (Some (view value.now))) }
     ensures calendar { IfOk result IsCalendarDay }
@@ -50,6 +52,12 @@ pub fn read_holidays(alloc: Global, set: usize, terms: &Table) -> Result<Holiday
     ensures { Gives (λ l. l) result (holiday_list_of set (table_view terms.now)) }
 {
     let places = array_at(alloc, set, terms, "holidays")?;
-    at_most(alloc, set, "holidays", MOST, place_count(places))?;
+    at_most(
+        alloc,
+        TermsTable::Own(set),
+        "holidays",
+        MOST,
+        place_count(places),
+    )?;
     read_places(alloc, set, places)
 }

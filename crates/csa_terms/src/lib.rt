@@ -2,6 +2,7 @@
 //! day on which a call is due.
 #![tactic(auto)]
 
+mod both_terms;
 mod due;
 mod fault;
 mod flow;
@@ -20,8 +21,10 @@ mod set_reader;
 mod set_terms;
 mod sets;
 mod terms;
+mod terms_path;
 mod value;
 
+pub use both_terms::BothTerms;
 pub use due::{DayRange, due_day};
 pub use fault::TermsFault;
 pub use flow::Flow;

@@ -4,20 +4,20 @@ ghost use Rattle.toml_values.specs.SimmKinds.Order.{same_name};
 ghost use Rattle.csa_terms.specs.Faults.{Gives};
 ghost use Rattle.csa_terms.specs.Grammar.{once_each, repeated};
 
+use crate::both_terms::BothTerms;
 use crate::fault::TermsFault;
-use crate::set_terms::SetTerms;
 use std::alloc::Global;
 use toml_values::simm_kinds::Name;
 
-fn has_name(sets: &[SetTerms], name: &Name) -> bool
-    ensures { result ≡ list_any (λ s. same_name name.now s.name) sets.now }
+fn has_name(sets: &[BothTerms], name: &Name) -> bool
+    ensures { result ≡ list_any (λ s. same_name name.now s.collect.name) sets.now }
 {
     sets.iter()
         .any(|set| name.bytes().cmp(set.name().bytes()).is_eq())
 }
 
 /// The first name that stood before.
-fn first_repeated(sets: &[SetTerms]) -> Option<&Name>
+fn first_repeated(sets: &[BothTerms]) -> Option<&Name>
     ensures { option_map (λ n. n.now) result ≡ repeated [] sets.now }
 {
     for (index, set) in sets.iter().enumerate() {
@@ -29,9 +29,9 @@ fn first_repeated(sets: &[SetTerms]) -> Option<&Name>
 }
 
 /// Refuses a set that has the name of one before it.
-pub fn check_names(alloc: Global, sets: &[SetTerms]) -> Result<(), TermsFault>
+pub fn check_names(alloc: Global, sets: &[BothTerms]) -> Result<(), TermsFault>
     ensures value { Gives (λ u. u) result (once_each (repeated [] sets.now)) }
-    ensures different { OnOk result (IsDistinct same_name (map (λ s. s.name) sets.now)) }
+    ensures different { OnOk result (IsDistinct same_name (map (λ s. s.collect.name) sets.now)) }
 {
     match first_repeated(sets) {
         Some(name) => Err(TermsFault::DuplicateSet(name.copy(alloc)?)),

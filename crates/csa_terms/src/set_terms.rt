@@ -1,6 +1,7 @@
 ghost use Rattle.std.specs.Prelude.{◌≡◌, ◌<◌, length, option_map, IfOk};
-ghost use Rattle.csa_terms.specs.Terms.{IsAgreement, haircut_of, is_holiday};
+ghost use Rattle.csa_terms.specs.Terms.{IsAgreement, IsShare, haircut_of, is_holiday};
 ghost use Rattle.csa_terms.specs.Held.{IsBounded};
+ghost use Rattle.csa_terms.specs.SetView.{AreAmounts};
 
 use crate::haircut_table::HaircutTable;
 use crate::holiday_list::HolidayList;
@@ -90,6 +91,29 @@ impl SetTerms {
             notification: self.notification,
             fx_haircut: self.fx_haircut,
             haircuts: self.haircuts.copy(alloc)?,
+            holidays: self.holidays.copy(alloc)?,
+        })
+    }
+
+    /// The terms of the same set with other amounts and haircuts, each in its range: its name, its notification minute and its
+    /// holidays stay. The only error is want of memory.
+    pub fn with(
+        &self,
+        alloc: Global,
+        amounts: Amounts,
+        fx_haircut: Rate4,
+        haircuts: HaircutTable,
+    ) -> Result<SetTerms, AllocError>
+        requires amounts { AreAmounts amounts }
+        requires fx_haircut { IsShare fx_haircut.0 }
+        ensures { IfOk result (λ t. t ≡ set_view self.now.name amounts self.now.notification fx_haircut haircuts self.now.holidays) }
+    {
+        Ok(SetTerms {
+            name: self.name.copy(alloc)?,
+            amounts,
+            notification: self.notification,
+            fx_haircut,
+            haircuts,
             holidays: self.holidays.copy(alloc)?,
         })
     }

@@ -6,12 +6,13 @@ ghost use Rattle.toml_values.specs.Answers.{Gives as GivesValue};
 ghost use Rattle.toml_values.specs.Values.{items_count, array_of, table_of};
 ghost use Rattle.toml_values.specs.Places.{each_of};
 ghost use Rattle.csa_terms.specs.Faults.{Gives};
-ghost use Rattle.csa_terms.specs.Grammar.{sets_path, set_path, few_sets, some_table, set_of_place, set_at, terms_of_table};
+ghost use Rattle.csa_terms.specs.Paths.{sets_path, set_path};
+ghost use Rattle.csa_terms.specs.Grammar.{few_sets, some_table, set_of_place, set_at, terms_of_table};
 
+use crate::both_terms::BothTerms;
 use crate::fault::TermsFault;
 use crate::names::check_names;
 use crate::set_reader::read_set;
-use crate::set_terms::SetTerms;
 use crate::terms::Terms;
 use std::alloc::Global;
 use toml::{Table, Value};
@@ -20,7 +21,7 @@ use toml_values::{Part, ValueFault, array, member, path_text, place_count, table
 /// How many sets a file has at most.
 const MOST: usize = 16;
 
-#[tactic(auto, unfolding(crate::specs::Grammar::sets_path))]
+#[tactic(auto, unfolding(crate::specs::Paths::sets_path))]
 fn set_places(alloc: Global, root: &Table) -> Result<&[Value], ValueFault>
     ensures { GivesValue (λ a. items_view a.now) result (array_of sets_path (get_member (codes "set") (table_view root.now))) }
 {
@@ -44,7 +45,7 @@ fn has_table(places: &[Value]) -> bool
     places.iter().any(|value| value.as_table().is_some())
 }
 
-#[tactic(auto, unfolding(crate::specs::Grammar::sets_path))]
+#[tactic(auto, unfolding(crate::specs::Paths::sets_path))]
 fn check_tables(alloc: Global, places: &[Value]) -> Result<(), ValueFault>
     ensures value { GivesValue (λ u. u) result (some_table (items_view places.now)) }
     ensures some { OnOk result (0 < items_count (items_view places.now)) }
@@ -55,7 +56,7 @@ fn check_tables(alloc: Global, places: &[Value]) -> Result<(), ValueFault>
     Ok(())
 }
 
-#[tactic(auto, unfolding(crate::specs::Grammar::set_path))]
+#[tactic(auto, unfolding(crate::specs::Paths::set_path))]
 fn set_table<'a>(alloc: Global, number: usize, value: &'a Value) -> Result<&'a Table, ValueFault>
     ensures { GivesValue (λ t. table_view t.now) result (table_of (set_path number) (Some (view value.now))) }
 {
@@ -64,7 +65,7 @@ fn set_table<'a>(alloc: Global, number: usize, value: &'a Value) -> Result<&'a T
 }
 
 #[tactic(auto, unfolding(crate::specs::Grammar::set_of_place))]
-fn read_place(alloc: Global, number: usize, value: &Value) -> Result<SetTerms, TermsFault>
+fn read_place(alloc: Global, number: usize, value: &Value) -> Result<BothTerms, TermsFault>
     ensures { Gives (λ t. t) result (set_of_place number (view value.now)) }
 {
     let terms = set_table(alloc, number, value)?;
@@ -72,7 +73,7 @@ fn read_place(alloc: Global, number: usize, value: &Value) -> Result<SetTerms, T
 }
 
 /// The terms of the sets in their tables.
-fn read_places(alloc: Global, places: &[Value]) -> Result<Vec<SetTerms>, TermsFault>
+fn read_places(alloc: Global, places: &[Value]) -> Result<Vec<BothTerms>, TermsFault>
     ensures value { Gives (λ v. v.items) result (each_of set_at 1 [] (items_view places.now)) }
     ensures len { IfOk result (λ v. length v.items ≡ items_count (items_view places.now)) }
 {

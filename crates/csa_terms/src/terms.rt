@@ -1,21 +1,21 @@
 ghost use Rattle.std.specs.Prelude.{◌≡◌};
 ghost use Rattle.csa_terms.specs.Terms.{AreTerms};
 
-use crate::set_terms::SetTerms;
+use crate::both_terms::BothTerms;
 use std::marker::Model;
 
 /// The terms of netting sets, in the order of their file: one to sixteen, of different names. Contracts see just their
 /// list.
 #[derive(Drop)]
 pub struct Terms {
-    sets: Vec<SetTerms>,
+    sets: Vec<BothTerms>,
 }
 
 impl Model for Terms {
     ghost use Rattle.std.specs.Prelude.{List};
-    ghost use Rattle.csa_terms.specs.Terms.{Agreement, AreTerms};
+    ghost use Rattle.csa_terms.specs.Terms.{Agreements, AreTerms};
 
-    ghost Value = { List Agreement };
+    ghost Value = { List Agreements };
 
     ghost view = { λ t. t.sets.items };
 
@@ -24,7 +24,7 @@ impl Model for Terms {
 
 impl Terms {
     /// The terms of these sets.
-    pub fn from_sets(sets: Vec<SetTerms>) -> Terms
+    pub fn from_sets(sets: Vec<BothTerms>) -> Terms
         requires { AreTerms sets.items }
         ensures { result ≡ sets.items }
     {
@@ -32,7 +32,7 @@ impl Terms {
     }
 
     /// Lends the terms of the sets. It takes no memory.
-    pub fn sets(&self) -> &[SetTerms]
+    pub fn sets(&self) -> &[BothTerms]
         ensures value { result.now ≡ self.now }
         ensures facts { AreTerms self.now }
     {

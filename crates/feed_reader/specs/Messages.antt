@@ -11,7 +11,7 @@ use Rattle.feed_reader.specs.declared.words.Word.{Word}
 use Rattle.feed_reader.specs.declared.words.Word.TheVariants as word
 use Rattle.feed_reader.specs.Fields.{◌>>=◌, first, no_more}
 use Rattle.feed_reader.specs.Values.{full_name, full_names}
-use Rattle.feed_reader.specs.Sides.{by_side_word}
+use Rattle.feed_reader.specs.Sides.{by_side_word, last_side}
 
 -- the set, whose block of this kind begins
 unfoldable pub opening : BlockKind → List (List ℕ) → Option Meaning
@@ -32,13 +32,13 @@ withdrawal fields = do
   names ← full_names set.1
   Some (Tells (message.Withdraw set.0 names))
 
--- the set, and the event
+-- the set, the event, and the side
 unfoldable pub on_side : SideWord → List (List ℕ) → Option Meaning
 on_side word fields = do
   set ← first full_name fields
   event ← by_side_word word set.1
-  end ← no_more event.1
-  Some (Tells (message.OnSide set.0 event.0))
+  side ← last_side event.1
+  Some (Tells (message.OnSide set.0 side event.0))
 
 -- the fields behind each word
 abbrev pub by_word : Word → List (List ℕ) → Option Meaning

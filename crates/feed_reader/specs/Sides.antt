@@ -1,13 +1,15 @@
 -- Feed grammar: the fields behind the set of each word that asks for an event beside the trades, in their order, with those
--- behind them.
-use Rattle.std.specs.Prelude.{ℕ, List, Option, Some}
+-- behind them; and the side of the margin, which the last field names.
+use Rattle.std.specs.Prelude.{ℕ, List, Option, Some, if◌then◌else◌}
+use Rattle.side_events.specs.CsaTerms.SimmKinds.declared.margin_side.MarginSide.{MarginSide}
+use Rattle.side_events.specs.CsaTerms.SimmKinds.declared.margin_side.MarginSide.TheVariants.{Collect}
 use Rattle.side_events.specs.CsaTerms.Moments.{moment_of}
 use Rattle.side_events.specs.declared.side_event.SideEvent.{SideEvent}
 use Rattle.side_events.specs.declared.side_event.SideEvent.TheVariants as side
 use Rattle.feed_reader.specs.declared.words.SideWord.{SideWord}
 use Rattle.feed_reader.specs.declared.words.SideWord.TheVariants as word
-use Rattle.feed_reader.specs.Fields.{◌>>=◌, first}
-use Rattle.feed_reader.specs.Values.{full_name, amount, number, lot_currency}
+use Rattle.feed_reader.specs.Fields.{◌>>=◌, first, is_nil, no_more}
+use Rattle.feed_reader.specs.Values.{full_name, amount, number, lot_currency, margin_side}
 
 -- PUT: the lot, its class, its value and its currency
 unfoldable pub putting : List (List ℕ) → Option (SideEvent × List (List ℕ))
@@ -54,3 +56,12 @@ by_side_word word.Mark = marking
 by_side_word word.Close = closing
 by_side_word word.Ask = question
 by_side_word word.Call = demand
+
+-- the field after all others names the side; without such a field it is what is collected
+unfoldable pub last_side : List (List ℕ) → Option MarginSide
+last_side fields =
+    if is_nil fields then Some Collect
+    else (do
+      named ← first margin_side fields
+      end ← no_more named.1
+      Some named.0)

@@ -6,6 +6,8 @@ use Rattle.std.specs.Str.{bytes_eq, all_ascii_digits}
 use Rattle.std.specs.Str.Parse.{digits_value}
 use Rattle.mh_io.specs.MhUnits.Numeral.{cents_of}
 use Rattle.side_events.specs.CsaTerms.SimmKinds.NameText.{is_full_name}
+use Rattle.side_events.specs.CsaTerms.SimmKinds.declared.margin_side.MarginSide.{MarginSide}
+use Rattle.side_events.specs.CsaTerms.SimmKinds.declared.margin_side.MarginSide.TheVariants.{Post}
 use Rattle.side_events.specs.CsaTerms.declared.lot_currency.LotCurrency.{LotCurrency}
 use Rattle.side_events.specs.CsaTerms.declared.lot_currency.LotCurrency.TheVariants.{Same, Other}
 use Rattle.feed_reader.specs.Fields.{is_nil}
@@ -37,3 +39,7 @@ lot_currency field =
     if bytes_eq field (codes "same") then Some Same
     else if bytes_eq field (codes "other") then Some Other
     else None
+
+-- the side of the margin that is named: what is posted
+abbrev pub margin_side : List ℕ → Option MarginSide
+margin_side field = if bytes_eq field (codes "post") then Some Post else None

@@ -3,14 +3,15 @@ ghost use Rattle.std.specs.Prelude.{◌≡◌, ◌∷◌, [], not, MatchResult};
 ghost use Rattle.side_events.specs.CsaTerms.Moments.{moment_of};
 ghost use Rattle.feed_reader.specs.declared.unread.Unread.TheVariants as unread;
 ghost use Rattle.feed_reader.specs.Fields.{fields_of, fields_left, first, is_nil, no_more, Gives};
-ghost use Rattle.feed_reader.specs.Values.{full_name, full_names, amount, number, lot_currency};
+ghost use Rattle.feed_reader.specs.Values.{full_name, full_names, amount, number, lot_currency, margin_side};
+ghost use Rattle.feed_reader.specs.Sides.{last_side};
 ghost use Rattle.feed_reader.specs.Words.{word_of};
 
 use crate::unread::Unread;
-use crate::values::{cents_in, currency_in, number_in};
+use crate::values::{cents_in, currency_in, number_in, side_in};
 use crate::words::Word;
 use mh_io::mh_units::cut_at;
-use side_events::csa_terms::simm_kinds::{Listed, Name};
+use side_events::csa_terms::simm_kinds::{Listed, MarginSide, Name};
 use side_events::csa_terms::{LotCurrency, Moment};
 use std::alloc::Global;
 
@@ -129,5 +130,26 @@ impl<'a> Fields<'a> {
     {
         let field = self.next()?;
         Moment::read(field).ok_or(Unread::Bad)
+    }
+
+    /// The side of the margin that the next field names.
+    fn named_side(&mut self) -> Result<MarginSide, Unread>
+        ensures { Gives (λ side. (side, fields_left self.new)) result (first margin_side (fields_left self.old)) }
+    {
+        let field = self.next()?;
+        side_in(field).ok_or(Unread::Bad)
+    }
+
+    /// The side of the margin, which the last field names; what is collected where no field is left.
+    #[tactic(auto, unfolding(crate::specs::Sides::last_side))]
+    pub fn side(&mut self) -> Result<MarginSide, Unread>
+        ensures { Gives (λ side. side) result (last_side (fields_left self.old)) }
+    {
+        if !self.has_more() {
+            return Ok(MarginSide::Collect);
+        }
+        let side = self.named_side()?;
+        self.end()?;
+        Ok(side)
     }
 }

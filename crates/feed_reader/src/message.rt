@@ -1,20 +1,34 @@
 use mh_io::mh_units::Bytes;
 use side_events::SideEvent;
-use side_events::csa_terms::simm_kinds::{Listed, Name};
+use side_events::csa_terms::simm_kinds::{Listed, MarginSide, Name};
 
 /// A message of a feed. Names are not empty, amounts are in cents. Its fields stand in a line with tabs between.
 #[derive(Drop)]
 pub enum Message {
     /// `CRIF` and the set, then lines, then `END`: `block` has the lines between, each with LF.
-    Crif { set: Name, block: Bytes },
+    Crif {
+        set: Name,
+        block: Bytes,
+    },
     /// `TABLES` and the set, then lines, then `END`: `block` has the lines between, each with LF.
-    Tables { set: Name, block: Bytes },
+    Tables {
+        set: Name,
+        block: Bytes,
+    },
     /// `WITHDRAW`, the set and at least one trade.
-    Withdraw { set: Name, names: Listed<Name> },
+    Withdraw {
+        set: Name,
+        names: Listed<Name>,
+    },
     /// A word, the set, and what the word has beside: `PUT` a lot of collateral, its class, its value, and `same` or `other` for
     /// its currency; `TAKE` a lot; `MARK` a lot and the value that it has from then on; `CLOSE` the number of a call, from 1;
-    /// `ASK` nothing; `CALL` the local time of a demand, `YYYY-MM-DDTHH:MM`.
-    OnSide { set: Name, event: SideEvent },
+    /// `ASK` nothing; `CALL` the local time of a demand, `YYYY-MM-DDTHH:MM`. Behind all of it may stand `post`, where the set's
+    /// posted side is meant; without it the side that is collected is.
+    OnSide {
+        set: Name,
+        side: MarginSide,
+        event: SideEvent,
+    },
 }
 
 /// A message, with the number of its first line.

@@ -35,8 +35,8 @@ fn read_on_side(alloc: Global, word: SideWord, fields: &mut Fields<'_>) -> Resul
 {
     let set = fields.name(alloc)?;
     let event = read_side(alloc, word, fields)?;
-    fields.end()?;
-    let message = Message::OnSide { set, event };
+    let side = fields.side()?;
+    let message = Message::OnSide { set, side, event };
     Ok(Meaning::Tells { message })
 }
 

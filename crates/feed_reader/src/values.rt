@@ -1,10 +1,11 @@
 //! The values that single fields are.
 ghost use Rattle.std.specs.Prelude.{◌≡◌, ◌≤◌, ◌^◌, unsigned_abs, IfSome};
-ghost use Rattle.feed_reader.specs.Values.{amount, number, lot_currency};
+ghost use Rattle.feed_reader.specs.Values.{amount, number, lot_currency, margin_side};
 
 use crate::words::is_word;
 use mh_io::mh_units::read_cents;
 use side_events::csa_terms::LotCurrency;
+use side_events::csa_terms::simm_kinds::MarginSide;
 
 /// The cents of a numeral, at most 10^15 in size; `None` of another text. It takes no memory.
 pub fn cents_in(field: &[u8]) -> Option<i64>
@@ -38,6 +39,17 @@ pub(crate) fn currency_in(field: &[u8]) -> Option<LotCurrency>
         Some(LotCurrency::Same)
     } else if is_word(field, "other") {
         Some(LotCurrency::Other)
+    } else {
+        None
+    }
+}
+
+/// The side of the margin that a field names: what is posted.
+pub(crate) fn side_in(field: &[u8]) -> Option<MarginSide>
+    ensures { result ≡ margin_side field.now }
+{
+    if is_word(field, "post") {
+        Some(MarginSide::Post)
     } else {
         None
     }

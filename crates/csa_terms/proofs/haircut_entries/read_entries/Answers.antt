@@ -13,7 +13,7 @@ loop-class-init c =
     let same = members_count-view c.args.entries.now.entries in
     let few = c.requires in
     let short : length c.args.entries.now.entries ≤ 256 = omega arith in
-    rw (c.new-table.ensures, start) (entries_begin c.args.set c.args.entries.now.entries short c.len-count.ensures.ordered)
+    rw (c.new-haircuts.ensures, start) (entries_begin c.args.table c.args.entries.now.entries short c.len-count.ensures.ordered)
 
 pub returns-in_err-entry : goal.returns-in_err-entry
 returns-in_err-entry c =
@@ -21,13 +21,13 @@ returns-in_err-entry c =
     let way = rw next at c.loop-class.invariant in
     let fails = rw c.as_str.ensures.value at c.in_err-entry.ensures.value in
     let p = err_from_is_err_and c.from_residual.result c.from_residual.ensures.1 in
-    rw (p.1, p.2) (entry_ends c.args.set c.loop-class.table c.in-Some.class.now c.in-Some.value.now c.next.new.self _ way (is_memory c.in_err-entry.field-0.0) c.in_err-entry.field-0.0 fails)
+    rw (p.1, p.2) (entry_ends c.args.table c.loop-class.haircuts c.in-Some.class.now c.in-Some.value.now c.next.new.self _ way (is_memory c.in_err-entry.field-0.0) c.in_err-entry.field-0.0 fails)
 
 pub put-requires-clause-few : goal.put-requires-clause-few
 put-requires-clause-few c =
     let next = rest_more deref_pair c.loop-class.class-iterator c.next.new.self c.next.result (c.in-Some.class, c.in-Some.value) c.in-Some.is c.next.ensures.steps in
     let way = rw next at c.loop-class.invariant in
-    has_room c.args.set c.loop-class.table c.in-Some.class.now c.in-Some.value.now c.next.new.self _ way
+    has_room c.args.table c.loop-class.haircuts c.in-Some.class.now c.in-Some.value.now c.next.new.self _ way
 
 pub loop-class-preserved : goal.loop-class-preserved
 loop-class-preserved c =
@@ -35,10 +35,10 @@ loop-class-preserved c =
     let way = rw next at c.loop-class.invariant in
     let read = rw c.as_str.ensures.value at c.in_ok-entry.ensures.value in
     let same = rw c.as_str.ensures.value at c.in_ok-entry.ensures.same in
-    entry_goes_on c.args.set c.loop-class.table c.in-Some.class.now c.in-Some.value.now c.next.new.self _ way
+    entry_goes_on c.args.table c.loop-class.haircuts c.in-Some.class.now c.in-Some.value.now c.next.new.self _ way
     (record { class = c.in_ok-entry.entry.class; rate = c.in_ok-entry.entry.rate.0 }) c.put.new.self read same c.in_ok-put.ensures.ok
 
 pub returns : goal.returns
 returns c =
     let none = rest_all deref_pair c.loop-class.class-iterator c.next.new.self c.next.result c.in-None.is c.next.ensures.steps in
-    entries_done c.args.set c.loop-class.table c.loop-class.class-iterator _ none c.loop-class.invariant
+    entries_done c.args.table c.loop-class.haircuts c.loop-class.class-iterator _ none c.loop-class.invariant

@@ -1,6 +1,6 @@
 use Rattle.std.proofs.Common.{◌∙◌, sym, refl}
 use Rattle.csa_terms.proofs.Loops.{has_table-view, has_table-some}
-use Rattle.csa_terms.specs.Grammar.{sets_path}
+use Rattle.csa_terms.specs.Paths.{sets_path}
 use Rattle.csa_terms.proofs.sets.check_tables.Goals as goal
 
 pub returns-then-not-has_table-clause-value : goal.returns-then-not-has_table-clause-value
