@@ -1,19 +1,19 @@
 -- The reply to a change of the book, or of its tables: it is the answer, and says what the change left.
-use Rattle.std.proofs.Common.{◌≡◌, ℕ, List, Option, None, Some, Result, Ok, Err, OnOk, OnErr, IsErr, refl, sym, ap, ◌∙◌, subst}
+use Rattle.std.proofs.Common.{◌≡◌, ℕ, Option, None, Some, Result, Ok, Err, OnOk, OnErr, IsErr, refl, sym, ap, ◌∙◌, subst}
 use Rattle.std.proofs.lemmas.Bool.{true≢false}
 use Rattle.bucket_cache.specs.SimmRules.declared.values.RangeFault.{RangeFault}
 use Rattle.bucket_cache.specs.declared.fault.BookFault.{BookFault}
 use Rattle.bucket_cache.specs.declared.fault.BookFault.TheVariants as fault
 use Rattle.bucket_cache.specs.declared.place.RowPlace.{RowPlace}
 use Rattle.bucket_cache.specs.Live.{Live}
-use Rattle.collateral_ledger.specs.Holdings.{Holdings}
 use Rattle.set_core.specs.declared.event.Event.{Event}
+use Rattle.set_core.specs.declared.ledgers.Ledgers.{Ledgers}
 use Rattle.set_core.specs.declared.reply.Reply.{Reply}
 use Rattle.set_core.specs.declared.reply.Reply.TheVariants as reply
 use Rattle.set_core.specs.declared.refusal.Refusal.{Refusal}
 use Rattle.set_core.specs.declared.refusal.Refusal.TheVariants as refusal
 use Rattle.set_core.specs.Answer.{if_in_range, if_admitted}
-use Rattle.set_core.specs.Ledger.{holdings_after}
+use Rattle.set_core.specs.Ledger.{ledgers_after}
 use Rattle.set_core.specs.Live.{Traded, traded, live_reply, live_book, live_params, BookReplies, Does, Caches}
 use Rattle.set_core.proofs.Caching.{caches_refused}
 
@@ -38,18 +38,18 @@ reply_is at range (Err fault.Memory) for r h = absurd h
 abbrev pub left_by : Live → Event → Reply → Traded
 left_by old e r = record { params = live_params old.params e r; book = live_book old.book e r }
 
--- an event that leaves the ledger, and where it is refused the trades
-pub record LeavesLedger (old : Live) (h : Holdings) (e : Event) : Type 0 where
-  pub made : h ≡ holdings_after h e reply.Accepted
-  pub refused : (why : Refusal) → h ≡ holdings_after h e (reply.Refused why)
+-- an event that leaves the ledgers, and where it is refused the trades
+pub record LeavesLedgers (old : Live) (h : Ledgers) (e : Event) : Type 0 where
+  pub made : h ≡ ledgers_after h e reply.Accepted
+  pub refused : (why : Refusal) → h ≡ ledgers_after h e (reply.Refused why)
   pub trades : (why : Refusal) → traded old ≡ left_by old e (reply.Refused why)
 
-module _ (old new : Live) (e : Event) (h : Holdings) (leaves : LeavesLedger old h e) where
+module _ (old new : Live) (e : Event) (h : Ledgers) (leaves : LeavesLedgers old h e) where
   by_refusal : (why : Refusal) (r : Reply) → r ≡ live_reply (traded old) h e → new ≡ old → r ≡ reply.Refused why → Does (traded old) (traded new) h h e r
   by_refusal why r value same is = record {
     value = value;
     live = ap traded same ∙ leaves.trades why ∙ ap (left_by old e) (sym is);
-    ledger = leaves.refused why ∙ ap (holdings_after h e) (sym is);
+    ledger = leaves.refused why ∙ ap (ledgers_after h e) (sym is);
   }
 
   pub change_does : (at : Option RowPlace) (range : Option RangeFault) (change : Change) → IsRefusedFor at range change → live_reply (traded old) h e ≡ if_admitted at range
@@ -57,7 +57,7 @@ module _ (old new : Live) (e : Event) (h : Holdings) (leaves : LeavesLedger old 
   change_does at range (Ok x) for asked made same r is = record {
     value = reply_is at range (Ok x) for r is ∙ sym asked;
     live = made ∙ ap (left_by old e) (sym is);
-    ledger = leaves.made ∙ ap (holdings_after h e) (sym is);
+    ledger = leaves.made ∙ ap (ledgers_after h e) (sym is);
   }
   change_does at range (Err (fault.BucketUnknown trade row)) for asked made same r is =
       by_refusal (refusal.BucketUnknown trade row) r (reply_is at range (Err (fault.BucketUnknown trade row)) for r is ∙ sym asked) same is

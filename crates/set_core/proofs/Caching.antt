@@ -3,12 +3,13 @@ use Rattle.std.proofs.Common.{◌≡◌, ℕ, List, [], ◌∷◌, ◌++◌, Boo
 use Rattle.std.proofs.lemmas.Bool.{and_parts, false≢true, true≢false}
 use Rattle.std.specs.declared.alloc.AllocError.{AllocError}
 use Rattle.collateral_ledger.specs.SimmKinds.declared.kinds.Measure.{Measure}
+use Rattle.collateral_ledger.specs.SimmKinds.declared.margin_side.MarginSide.{MarginSide}
 use Rattle.collateral_ledger.specs.SimmKinds.declared.row.CrifRow.{CrifRow}
 use Rattle.collateral_ledger.specs.SimmKinds.declared.row.TradeRows.{TradeRows}
 use Rattle.collateral_ledger.specs.SimmKinds.Batch.{rows_of}
 use Rattle.bucket_cache.specs.SimmRules.declared.values.Breakdown.{Breakdown}
 use Rattle.bucket_cache.specs.SimmRules.Params.{Params}
-use Rattle.collateral_ledger.specs.CsaTerms.Terms.{Agreement}
+use Rattle.collateral_ledger.specs.CsaTerms.Terms.{Agreements}
 use Rattle.bucket_cache.specs.FactorBook.Factors.{factors_of}
 use Rattle.bucket_cache.specs.FactorBook.Places.{factors_at}
 use Rattle.bucket_cache.specs.FactorBook.declared.at.BucketAt.{BucketAt}
@@ -24,6 +25,7 @@ use Rattle.collateral_ledger.specs.Holdings.{Holdings}
 use Rattle.held_cell.specs.declared.entry.Entry.{Entry}
 use Rattle.held_cell.specs.Entries.{entry}
 use Rattle.params_file.specs.Texts.{ParamText}
+use Rattle.side_events.specs.declared.side_event.SideEvent.{SideEvent}
 use Rattle.set_core.specs.declared.event.Event.{Event}
 use Rattle.set_core.specs.declared.event.Event.TheVariants as event
 use Rattle.set_core.specs.declared.reply.Reply.{Reply}
@@ -33,7 +35,7 @@ use Rattle.set_core.specs.Book.{book}
 use Rattle.set_core.specs.Set.{Set, KeepsMore}
 use Rattle.set_core.specs.Cached.{touched_by, touches_margin, is_kept, is_known, known_after, is_margin_known, is_value_known, AreCached}
 use Rattle.set_core.specs.Ledger.{refusal_of, if_allowed, ledger_reply}
-use Rattle.set_core.specs.Live.{Traded, traded, live_reply, Does, IsWorkedOut, StaysKept, Carries, IfAsked, Caches}
+use Rattle.set_core.specs.Live.{Traded, traded, side_reply, DoesOn, IsWorkedOut, StaysKept, Carries, IfAsked, Caches}
 use Rattle.set_core.proofs.Applies.{is_settled}
 use Rattle.set_core.proofs.Words.{Log}
 
@@ -147,17 +149,16 @@ pub ledger_settled : (fault : Option LedgerFault) → is_settled (ledger_reply f
 ledger_settled None = refl
 ledger_settled (Some f) = allowed_settled (refusal_of f)
 
--- an event beside the trades
-pub caches_beside : (old new : Holdings) (live : Live) (e : Event) (result : Result Reply AllocError) → touches_margin e ≡ false → ((at : BucketAt) (measure : Measure) → touched_by at measure live.book e ≡ false)
-    → is_settled (live_reply (traded live) old e) ≡ true → IfOk result (λ r. (m : Traded) → Does m m old new e r) → IfOk result (Caches live live e)
-caches_beside old new live e (Err _) idle none settled is = tt
-caches_beside old new live e (Ok r) idle none settled is =
-    let so : is_settled r ≡ true = ap is_settled (is (traded live)).value ∙ settled in
+-- an event of a side
+pub caches_beside : (on : MarginSide) (old new : Holdings) (live : Live) (e : SideEvent) (result : Result Reply AllocError)
+    → is_settled (side_reply (traded live) old on e) ≡ true → IfOk result (λ r. (on : MarginSide) (m : Traded) → DoesOn on m m old new e r) → IfOk result (Caches live live (event.OnSide on e))
+caches_beside on old new live e (Err _) settled is = tt
+caches_beside on old new live e (Ok r) settled is =
+    let so : is_settled r ≡ true = ap is_settled (is on (traded live)).value ∙ settled in
     record {
-      fresh = left live.is_fresh (touches_margin e) true r so idle;
-      cached = λ at measure.
-          left (is_cached live.kept.values at measure) (touched_by at measure live.book e) (touches at measure (rows_of live.book)) r so (none at measure);
-      kept = λ at measure. carries (IsCached at measure) (touched_by at measure live.book e) live r so;
+      fresh = left live.is_fresh false true r so refl;
+      cached = λ at measure. left (is_cached live.kept.values at measure) false (touches at measure (rows_of live.book)) r so refl;
+      kept = λ at measure. carries (IsCached at measure) false live r so;
       asked = unless_asked r (StaysKept live live) so;
     }
 
@@ -217,10 +218,10 @@ cached_none live none fresh = record {
 
 -- ---- a set
 
-abbrev pub seen : Params → Live → Agreement → Log → ℕ → Set
+abbrev pub seen : Params → Live → Agreements → Log → ℕ → Set
 seen p live t log spare = record { params = p; terms = t; journal = log; is_fresh = live.is_fresh; kept = live.kept.values; spare = spare }
 
-pub keeps_more : (old : Set) (p : Params) (was new : Live) (t u : Agreement) (log longer : Log) (spare : ℕ) → seen p was t log spare ≡ old → u ≡ t → longer ≡ log → StaysKept was new → KeepsMore old (seen p new u longer spare)
+pub keeps_more : (old : Set) (p : Params) (was new : Live) (t u : Agreements) (log longer : Log) (spare : ℕ) → seen p was t log spare ≡ old → u ≡ t → longer ≡ log → StaysKept was new → KeepsMore old (seen p new u longer spare)
 keeps_more old p was new t u log longer spare is terms journal stays =
     subst (λ (s : Set). KeepsMore s (seen p new u longer spare)) is (record {
       stands = λ i. record { params = p; terms = terms i; journal = journal i; is_fresh = new.is_fresh; kept = new.kept.values; spare = spare };

@@ -2,6 +2,7 @@
 use Rattle.std.proofs.Common.{◌≡◌, ℕ, ◌+◌, ◌≤◌, arith, List, [], ◌∷◌, ◌++◌, length, Bool, true, false, ◌==◌, ◌&&◌, ◌||◌, not, cond, refl, sym, ap, ◌∙◌, append_assoc, append-nil}
 use Rattle.std.specs.List.{list_any}
 use Rattle.std.proofs.lemmas.List.Folds.{list_any-append}
+use Rattle.collateral_ledger.specs.SimmKinds.declared.margin_side.MarginSide.{MarginSide}
 use Rattle.held_cell.specs.declared.entry.Entry.{Entry}
 use Rattle.set_core.specs.declared.event.Event.{Event}
 use Rattle.side_events.specs.declared.side_event.SideEvent.TheVariants as side
@@ -93,10 +94,10 @@ others_open e still true (call ∷ cs) =
     ap (λ now. cond (now || false) (closed true e cs) (call ∷ closed true e cs)) (still call.number) ∙ ap (λ rest. call ∷ rest) (others_open e still true cs)
 
 -- a call that is closed
-pub closed_without : (number : ℕ) (cs : List Call) → closed true (event.OnSide (side.CloseCall number)) cs ≡ without_call number cs
-closed_without number [] = refl
-closed_without number (call ∷ cs) = at (number == call.number) (closed_without number cs)
+pub closed_without : (on : MarginSide) (number : ℕ) (cs : List Call) → closed true (event.OnSide on (side.CloseCall number)) cs ≡ without_call number cs
+closed_without on number [] = refl
+closed_without on number (call ∷ cs) = at (number == call.number) (closed_without on number cs)
   where
-    at : (now : Bool) → closed true (event.OnSide (side.CloseCall number)) cs ≡ without_call number cs → cond (now || false) (closed true (event.OnSide (side.CloseCall number)) cs) (call ∷ closed true (event.OnSide (side.CloseCall number)) cs) ≡ cond (not now) (call ∷ without_call number cs) (without_call number cs)
+    at : (now : Bool) → closed true (event.OnSide on (side.CloseCall number)) cs ≡ without_call number cs → cond (now || false) (closed true (event.OnSide on (side.CloseCall number)) cs) (call ∷ closed true (event.OnSide on (side.CloseCall number)) cs) ≡ cond (not now) (call ∷ without_call number cs) (without_call number cs)
     at true h = h
     at false h = ap (λ rest. call ∷ rest) h

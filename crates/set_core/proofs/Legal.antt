@@ -2,7 +2,7 @@
 use Rattle.std.proofs.Common.{◌≡◌, List, [], ◌∷◌, ◌++◌, Bool, true, false, refl, sym, ap, ◌∙◌, subst}
 use Rattle.std.proofs.lemmas.Bool.{true≢false}
 use Rattle.bucket_cache.specs.SimmRules.Params.{Params}
-use Rattle.collateral_ledger.specs.CsaTerms.Terms.{Agreement}
+use Rattle.collateral_ledger.specs.CsaTerms.Terms.{Agreements}
 use Rattle.held_cell.specs.declared.entry.Entry.{Entry}
 use Rattle.set_core.specs.declared.event.Event.{Event}
 use Rattle.set_core.specs.declared.reply.Reply.{Reply}
@@ -42,7 +42,7 @@ stands (l ∷ log) (b ∷ before) after e x h = deeper (stands log before after 
     deeper (Last g i) = Last (ap (λ y. y ∷ log) (ap (head_or l) h) ∙ ap (λ ys. b ∷ ys) g) i
     deeper (Within rest g) = Within rest (ap (λ y. y ∷ log) (ap (head_or l) h) ∙ ap (λ ys. b ∷ ys) g)
 
-pub legal-push : (p : Params) (t : Agreement) (log : Log) (e : Entry Event Reply) → IsLegal p t log → e.reply ≡ answer p t log e.event → IsLegal p t (log ++ e ∷ [])
+pub legal-push : (p : Params) (t : Agreements) (log : Log) (e : Entry Event Reply) → IsLegal p t log → e.reply ≡ answer p t log e.event → IsLegal p t (log ++ e ∷ [])
 legal-push p t log e legal right before after x h = at (stands log before after e x h)
   where
     at : Stands log before after e x → x.reply ≡ answer p t before x.event

@@ -6,7 +6,8 @@ pub mod Tables
 pub mod Puts
 pub mod Lots
 pub mod Calls
-pub mod Ledgers
+pub mod Held
+pub mod Sides
 pub mod Books
 pub mod Batches
 pub mod Legal

@@ -4,6 +4,7 @@ use Rattle.std.specs.List.{list_any}
 use Rattle.std.proofs.lemmas.Bool.{or_parts}
 use Rattle.std.proofs.lemmas.List.Folds.{list_any-append}
 use Rattle.collateral_ledger.specs.SimmKinds.Order.{same_name}
+use Rattle.collateral_ledger.specs.SimmKinds.declared.margin_side.MarginSide.{MarginSide}
 use Rattle.held_cell.specs.declared.entry.Entry.{Entry}
 use Rattle.collateral_ledger.specs.CsaTerms.declared.lot_currency.LotCurrency.{LotCurrency}
 use Rattle.set_core.specs.declared.event.Event.{Event}
@@ -89,9 +90,9 @@ others_same e still stays true (lot ∷ ls) =
     ∙ ap (λ others. lot ∷ others) (others_same e still stays true ls)
 
 -- a lot that is new
-pub put_same : (name class : List ℕ) (value : ℤ) (currency : LotCurrency) (ls : List Lot) → list_any (λ (lot : Lot). same_name name lot.name) ls ≡ false → changed true (event.OnSide (side.PutLot name class value currency)) ls ≡ ls
-put_same name class value currency [] h = refl
-put_same name class value currency (lot ∷ ls) h =
+pub put_same : (on : MarginSide) (name class : List ℕ) (value : ℤ) (currency : LotCurrency) (ls : List Lot) → list_any (λ (lot : Lot). same_name name lot.name) ls ≡ false → changed true (event.OnSide on (side.PutLot name class value currency)) ls ≡ ls
+put_same on name class value currency [] h = refl
+put_same on name class value currency (lot ∷ ls) h =
     let parts = or_parts (same_name name lot.name) (list_any (λ (other : Lot). same_name name other.name) ls) h in
-    ap (λ same. cond (same || false) (changed true (event.OnSide (side.PutLot name class value currency)) ls) (record lot { value = cond same value lot.value } ∷ changed true (event.OnSide (side.PutLot name class value currency)) ls)) parts.0
-    ∙ ap (λ others. lot ∷ others) (put_same name class value currency ls parts.1)
+    ap (λ same. cond (same || false) (changed true (event.OnSide on (side.PutLot name class value currency)) ls) (record lot { value = cond same value lot.value } ∷ changed true (event.OnSide on (side.PutLot name class value currency)) ls)) parts.0
+    ∙ ap (λ others. lot ∷ others) (put_same on name class value currency ls parts.1)

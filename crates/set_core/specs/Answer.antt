@@ -1,6 +1,7 @@
 -- The answer to an event after a journal, by the written rule, and the journals that hold nothing else.
 use Rattle.std.specs.Prelude.{ℕ, ◌+◌, ◌*◌, ◌^◌, ◌≡◌, List, [], ◌∷◌, ◌++◌, length, Bool, true, false, ◌&&◌, not, if◌then◌else◌, nat_le, Option, Some, None, is_some, option_map, position, ℤ, pos, int_le, unsigned_abs}
 use Rattle.jiff_core.specs.Calendar.{days_from_civil}
+use Rattle.collateral_ledger.specs.SimmKinds.declared.margin_side.MarginSide.{MarginSide}
 use Rattle.collateral_ledger.specs.SimmKinds.declared.row.TradeRows.{TradeRows}
 use Rattle.collateral_ledger.specs.SimmKinds.Batch.{rows_of}
 use Rattle.bucket_cache.specs.SimmRules.declared.values.RangeFault.{RangeFault}
@@ -8,12 +9,13 @@ use Rattle.bucket_cache.specs.SimmRules.Params.{Params}
 use Rattle.bucket_cache.specs.SimmRules.Simm.{simm}
 use Rattle.bucket_cache.specs.SimmRules.Range.{range}
 use Rattle.collateral_ledger.specs.CsaTerms.declared.flow.Flow.TheVariants as flow
-use Rattle.collateral_ledger.specs.CsaTerms.Terms.{Agreement, haircut_of}
+use Rattle.collateral_ledger.specs.CsaTerms.Terms.{Agreement, Agreements, haircut_of}
 use Rattle.collateral_ledger.specs.CsaTerms.Calendar.{Moment, due_day}
 use Rattle.csa_calls.specs.declared.CallAmount.{CallAmount}
 use Rattle.csa_calls.specs.declared.CallAmount.TheVariants as amount
 use Rattle.csa_calls.specs.CallRule.{call_of, excess}
 use Rattle.bucket_cache.specs.declared.place.RowPlace.{RowPlace}
+use Rattle.bucket_cache.specs.BookMargin.NegatedBook.Sides.{side_rows}
 use Rattle.bucket_cache.specs.Live.{first_unadmitted}
 use Rattle.collateral_ledger.specs.Refusals.{is_lot_value}
 use Rattle.side_events.specs.declared.side_event.SideEvent.{SideEvent}
@@ -26,6 +28,7 @@ use Rattle.set_core.specs.declared.reply.Reply.{Reply}
 use Rattle.set_core.specs.declared.reply.Reply.TheVariants as reply
 use Rattle.set_core.specs.declared.refusal.Refusal.TheVariants as refusal
 use Rattle.set_core.specs.Book.{is_current, book}
+use Rattle.set_core.specs.Sides.{terms_on, entries_of}
 use Rattle.set_core.specs.Tables.{tables}
 use Rattle.set_core.specs.Lots.{lots, is_there}
 use Rattle.set_core.specs.Calls.{made, is_outstanding, booked}
@@ -104,30 +107,31 @@ if_calling_day t made margin booked moment =
 
 -- ---- all events
 
--- lots and calls as above; a margin is that of the written rule by the tables q, and a call is made of it and of what is booked
-abbrev pub answer_side : Params → Agreement → List (Entry Event Reply) → SideEvent → Reply
-answer_side q t log (side.PutLot lot class value currency) = if_put t log lot class value
-answer_side q t log (side.TakeLot lot) = if_taken (is_there log lot)
-answer_side q t log (side.MarkLot lot value) = if_marked (is_there log lot) value
-answer_side q t log (side.CloseCall number) = if_closed (is_outstanding log number)
-answer_side q t log side.AskMargin = reply.Margin (simm q (rows_of (book log)))
-answer_side q t log (side.AskCall moment) =
-    if_calling_day t (made log) (simm q (rows_of (book log))).total.0 (booked t log) moment
+-- On a side, by its terms t and its own entries of the journal: lots and calls as above; a margin is that of the written rule by the
+-- tables q over the book as the side sees it, and a call is made of it and of what is booked
+abbrev pub answer_side : Params → Agreement → MarginSide → List (Entry Event Reply) → List (Entry Event Reply) → SideEvent → Reply
+answer_side q t on log own (side.PutLot lot class value currency) = if_put t own lot class value
+answer_side q t on log own (side.TakeLot lot) = if_taken (is_there own lot)
+answer_side q t on log own (side.MarkLot lot value) = if_marked (is_there own lot) value
+answer_side q t on log own (side.CloseCall number) = if_closed (is_outstanding own number)
+answer_side q t on log own side.AskMargin = reply.Margin (simm q (side_rows on (rows_of (book log))))
+answer_side q t on log own (side.AskCall moment) =
+    if_calling_day t (made own) (simm q (side_rows on (rows_of (book log)))).total.0 (booked t own) moment
 
 -- By the tables q: a submit is refused where a row isn't admitted, and then where the book with it is out of range; a withdrawal where a
 -- name isn't current. Other tables are refused by the same two tests of the book, by themselves.
-abbrev pub answer_by : Params → Agreement → List (Entry Event Reply) → Event → Reply
-answer_by q t log (event.Submit trades) =
+abbrev pub answer_by : Params → Agreements → List (Entry Event Reply) → Event → Reply
+answer_by q both log (event.Submit trades) =
     if_admitted (first_unadmitted q trades) (range q (rows_of (book_with log (event.Submit trades))))
-answer_by q t log (event.Withdraw names) = if_known (first_unknown log names)
-answer_by q t log (event.Tables text) =
+answer_by q both log (event.Withdraw names) = if_known (first_unknown log names)
+answer_by q both log (event.Tables text) =
     if_admitted (first_unadmitted text.params (book log)) (range text.params (rows_of (book log)))
-answer_by q t log (event.OnSide e) = answer_side q t log e
+answer_by q both log (event.OnSide on e) = answer_side q (terms_on on both) on log (entries_of on log) e
 
 -- by the tables that the journal leaves, which opened with p
-abbrev pub answer : Params → Agreement → List (Entry Event Reply) → Event → Reply
-answer p t log e = answer_by (tables p log) t log e
+abbrev pub answer : Params → Agreements → List (Entry Event Reply) → Event → Reply
+answer p both log e = answer_by (tables p log) both log e
 
 -- each entry's reply is the answer to its event after the entries before it
-abbrev pub IsLegal : Params → Agreement → List (Entry Event Reply) → Type 0
-IsLegal p t log = (before after : List (Entry Event Reply)) (e : Entry Event Reply) → log ≡ before ++ e ∷ after → e.reply ≡ answer p t before e.event
+abbrev pub IsLegal : Params → Agreements → List (Entry Event Reply) → Type 0
+IsLegal p both log = (before after : List (Entry Event Reply)) (e : Entry Event Reply) → log ≡ before ++ e ∷ after → e.reply ≡ answer p both before e.event

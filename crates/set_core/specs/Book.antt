@@ -28,7 +28,7 @@ abbrev pub word_of_event : List ℕ → Event → Word
 word_of_event name (event.Submit trades) = word_of_batch name trades
 word_of_event name (event.Withdraw names) = if is_named names name then Taken else Silent
 word_of_event name (event.Tables text) = Silent
-word_of_event name (event.OnSide e) = Silent
+word_of_event name (event.OnSide on e) = Silent
 
 -- an entry is accepted where its reply is no refusal; a question that is answered is accepted too
 abbrev pub is_accepted : Reply → Bool
@@ -72,7 +72,7 @@ abbrev pub trades_of_event : Event → List TradeRows
 trades_of_event (event.Submit trades) = trades
 trades_of_event (event.Withdraw names) = []
 trades_of_event (event.Tables text) = []
-trades_of_event (event.OnSide e) = []
+trades_of_event (event.OnSide on e) = []
 
 abbrev pub accepted_trades : Entry Event Reply → List TradeRows
 accepted_trades e = if is_accepted e.reply then trades_of_event e.event else []

@@ -20,14 +20,14 @@ abbrev pub touched_by : BucketAt → Measure → List TradeRows → Event → Bo
 touched_by at measure trades (event.Submit batch) = touches at measure (rows_moved batch trades)
 touched_by at measure trades (event.Withdraw names) = touches at measure (rows_of (named names trades))
 touched_by at measure trades (event.Tables text) = true
-touched_by at measure trades (event.OnSide e) = false
+touched_by at measure trades (event.OnSide on e) = false
 
 -- whether it changes what the margin is of: trades, or the tables
 abbrev pub touches_margin : Event → Bool
 touches_margin (event.Submit batch) = true
 touches_margin (event.Withdraw names) = true
 touches_margin (event.Tables text) = true
-touches_margin (event.OnSide e) = false
+touches_margin (event.OnSide on e) = false
 
 -- Whether what may be kept is kept after a reply: an accepted event leaves it where it doesn't touch it, a refused one leaves it, and a
 -- question that is answered keeps it where there is something to keep.

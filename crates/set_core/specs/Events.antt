@@ -8,11 +8,11 @@ abbrev pub IsEvent : Event → Type 0
 IsEvent (event.Submit trades) = IsBatch trades
 IsEvent (event.Withdraw names) = Unit {0}
 IsEvent (event.Tables text) = Unit {0}
-IsEvent (event.OnSide e) = Unit {0}
+IsEvent (event.OnSide on e) = Unit {0}
 
 -- what is said of an event beside the trades, or else of every other
 abbrev pub if_side : {A : Type 0} → (SideEvent → A) → A → Event → A
 if_side said other (event.Submit trades) = other
 if_side said other (event.Withdraw names) = other
 if_side said other (event.Tables text) = other
-if_side said other (event.OnSide e) = said e
+if_side said other (event.OnSide on e) = said e

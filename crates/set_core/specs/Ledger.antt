@@ -1,6 +1,8 @@
--- The ledger of a netting set: what it holds after a journal, and what it makes of an event.
+-- The ledgers of a netting set, one of each side: what they hold after a journal, and what they make of an event.
 use Rattle.std.specs.Prelude.{◌≡◌, ℕ, ◌+◌, List, [], ◌∷◌, ◌++◌, map, if◌then◌else◌, Option, None, Some, Result, Ok, Err}
-use Rattle.collateral_ledger.specs.CsaTerms.Terms.{Agreement}
+use Rattle.collateral_ledger.specs.SimmKinds.declared.margin_side.MarginSide.{MarginSide}
+use Rattle.collateral_ledger.specs.SimmKinds.declared.margin_side.MarginSide.TheVariants.{Collect, Post}
+use Rattle.collateral_ledger.specs.CsaTerms.Terms.{Agreement, Agreements}
 use Rattle.collateral_ledger.specs.declared.fault.LedgerFault.{LedgerFault}
 use Rattle.collateral_ledger.specs.declared.fault.LedgerFault.TheVariants as fault
 use Rattle.collateral_ledger.specs.Holdings.{Lot as Held, Call, Holdings}
@@ -10,14 +12,16 @@ use Rattle.side_events.specs.declared.side_event.SideEvent.{SideEvent}
 use Rattle.side_events.specs.declared.side_event.SideEvent.TheVariants as side
 use Rattle.held_cell.specs.declared.entry.Entry.{Entry}
 use Rattle.set_core.specs.declared.event.Event.{Event}
+use Rattle.set_core.specs.declared.ledgers.Ledgers.{Ledgers}
+use Rattle.set_core.specs.declared.event.Event.TheVariants as event
 use Rattle.set_core.specs.declared.reply.Reply.{Reply}
 use Rattle.set_core.specs.declared.reply.Reply.TheVariants as reply
 use Rattle.set_core.specs.declared.refusal.Refusal.{Refusal}
 use Rattle.set_core.specs.declared.refusal.Refusal.TheVariants as refusal
-use Rattle.set_core.specs.Events.{if_side}
 use Rattle.set_core.specs.Book.{is_accepted}
 use Rattle.set_core.specs.Lots.{Lot, lots}
 use Rattle.set_core.specs.Calls.{made, outstanding}
+use Rattle.set_core.specs.Sides.{entries_of}
 
 -- a lot with what counts of each dollar of it, looked up
 abbrev pub held_lot : Agreement → Lot → Held
@@ -26,6 +30,22 @@ held_lot t lot = record { name = lot.name; value = lot.value; rate = rate_of t l
 -- the lots and the outstanding calls of a journal, and how many calls were made
 abbrev pub holdings : Agreement → List (Entry Event Reply) → Holdings
 holdings t log = record { terms = t; lots = map (held_lot t) (lots log); calls = outstanding log; added = made log }
+
+abbrev pub ledger_on : MarginSide → Ledgers → Holdings
+ledger_on Collect held = held.collect
+ledger_on Post held = held.post
+
+abbrev pub with_ledger : MarginSide → Holdings → Ledgers → Ledgers
+with_ledger Collect ledger held = record held { collect = ledger }
+with_ledger Post ledger held = record held { post = ledger }
+
+-- the terms that they call by
+abbrev pub terms_of : Ledgers → Agreements
+terms_of held = record { collect = held.collect.terms; post = held.post.terms }
+
+-- each holds what the entries of its side leave
+abbrev pub ledgers : Agreements → List (Entry Event Reply) → Ledgers
+ledgers both log = record { collect = holdings both.collect (entries_of Collect log); post = holdings both.post (entries_of Post log) }
 
 -- ---- what an event and its reply leave of it
 
@@ -58,13 +78,20 @@ count_after added _ = added
 abbrev pub with_call : Holdings → Reply → Holdings
 with_call h r = record h { calls = calls_added h.added h.calls r; added = count_after h.added r }
 
-abbrev pub holdings_after : Holdings → Event → Reply → Holdings
+abbrev pub holdings_after : Holdings → SideEvent → Reply → Holdings
 holdings_after h e r = record {
   terms = h.terms;
-  lots = if_side (lots_after h.terms h.lots r) h.lots e;
-  calls = calls_added h.added (if_side (calls_closed h.calls r) h.calls e) r;
+  lots = lots_after h.terms h.lots r e;
+  calls = calls_added h.added (calls_closed h.calls r e) r;
   added = count_after h.added r;
 }
+
+-- the ledger of the event's side after it, and the other as it was
+abbrev pub ledgers_after : Ledgers → Event → Reply → Ledgers
+ledgers_after held (event.Submit trades) r = held
+ledgers_after held (event.Withdraw names) r = held
+ledgers_after held (event.Tables text) r = held
+ledgers_after held (event.OnSide on e) r = with_ledger on (holdings_after (ledger_on on held) e r) held
 
 -- ---- its refusals
 

@@ -2,11 +2,13 @@ pub mod Book
 pub mod Tables
 pub mod Lots
 pub mod Calls
+pub mod Sides
 pub mod Answer
 pub mod Events
 pub mod Room
 pub mod Set
 pub mod Ledger
+pub mod Lending
 pub mod Live
 pub mod Kept
 pub mod Cached

@@ -1,5 +1,6 @@
--- What a live margin and a ledger make of an event.
+-- What a live margin and the ledgers make of an event.
 use Rattle.std.specs.Prelude.{◌≡◌, List, Bool, true, Result, Ok, Err}
+use Rattle.collateral_ledger.specs.SimmKinds.declared.margin_side.MarginSide.{MarginSide}
 use Rattle.collateral_ledger.specs.SimmKinds.declared.row.TradeRows.{TradeRows}
 use Rattle.collateral_ledger.specs.SimmKinds.Batch.{rows_of}
 use Rattle.bucket_cache.specs.SimmRules.Params.{Params}
@@ -10,6 +11,7 @@ use Rattle.bucket_cache.specs.FactorBook.declared.at.BucketAt.{BucketAt}
 use Rattle.bucket_cache.specs.declared.fault.BookFault.{BookFault}
 use Rattle.bucket_cache.specs.declared.fault.BookFault.TheVariants as book_fault
 use Rattle.bucket_cache.specs.Cached.{touches, is_cached, IsCached}
+use Rattle.bucket_cache.specs.BookMargin.NegatedBook.Sides.{side_rows}
 use Rattle.bucket_cache.specs.Live.{Live, put_trades, without, first_unadmitted, first_unknown}
 use Rattle.collateral_ledger.specs.Holdings.{Holdings}
 use Rattle.collateral_ledger.specs.Booked.{booked_of}
@@ -17,12 +19,13 @@ use Rattle.collateral_ledger.specs.Refusals.{put_refusal, take_refusal, mark_ref
 use Rattle.side_events.specs.declared.side_event.SideEvent.{SideEvent}
 use Rattle.side_events.specs.declared.side_event.SideEvent.TheVariants as side
 use Rattle.set_core.specs.declared.event.Event.{Event}
+use Rattle.set_core.specs.declared.ledgers.Ledgers.{Ledgers}
 use Rattle.set_core.specs.declared.event.Event.TheVariants as event
 use Rattle.set_core.specs.declared.reply.Reply.{Reply}
 use Rattle.set_core.specs.declared.reply.Reply.TheVariants as reply
 use Rattle.set_core.specs.declared.refusal.Refusal.TheVariants as refusal
 use Rattle.set_core.specs.Answer.{if_admitted, if_known, if_calling_day}
-use Rattle.set_core.specs.Ledger.{holdings_after, ledger_reply}
+use Rattle.set_core.specs.Ledger.{ledger_on, holdings_after, ledgers_after, ledger_reply}
 use Rattle.set_core.specs.Cached.{touched_by, touches_margin, is_kept, is_known}
 
 -- what a live margin has of its trades: the parameters of their margin, and the book
@@ -33,20 +36,20 @@ pub record Traded : Type 0 where
 abbrev pub traded : Live → Traded
 traded live = record { params = live.params; book = live.book }
 
--- the reply to an event beside the trades, and to every event
-abbrev pub side_reply : Traded → Holdings → SideEvent → Reply
-side_reply l h (side.PutLot lot class value currency) = ledger_reply (put_refusal h lot class value)
-side_reply l h (side.TakeLot lot) = ledger_reply (take_refusal h lot)
-side_reply l h (side.MarkLot lot value) = ledger_reply (mark_refusal h lot value)
-side_reply l h (side.CloseCall number) = ledger_reply (close_refusal h number)
-side_reply l h side.AskMargin = reply.Margin (simm l.params (rows_of l.book))
-side_reply l h (side.AskCall moment) = if_calling_day h.terms h.added (simm l.params (rows_of l.book)).total.0 (booked_of h) moment
+-- the reply to an event of a side, by its ledger, and to every event
+abbrev pub side_reply : Traded → Holdings → MarginSide → SideEvent → Reply
+side_reply l h on (side.PutLot lot class value currency) = ledger_reply (put_refusal h lot class value)
+side_reply l h on (side.TakeLot lot) = ledger_reply (take_refusal h lot)
+side_reply l h on (side.MarkLot lot value) = ledger_reply (mark_refusal h lot value)
+side_reply l h on (side.CloseCall number) = ledger_reply (close_refusal h number)
+side_reply l h on side.AskMargin = reply.Margin (simm l.params (side_rows on (rows_of l.book)))
+side_reply l h on (side.AskCall moment) = if_calling_day h.terms h.added (simm l.params (side_rows on (rows_of l.book))).total.0 (booked_of h) moment
 
-abbrev pub live_reply : Traded → Holdings → Event → Reply
+abbrev pub live_reply : Traded → Ledgers → Event → Reply
 live_reply l h (event.Submit trades) = if_admitted (first_unadmitted l.params trades) (range l.params (rows_of (put_trades trades l.book)))
 live_reply l h (event.Withdraw names) = if_known (first_unknown names l.book)
 live_reply l h (event.Tables text) = if_admitted (first_unadmitted text.params l.book) (range text.params (rows_of l.book))
-live_reply l h (event.OnSide e) = side_reply l h e
+live_reply l h (event.OnSide on e) = side_reply l (ledger_on on h) on e
 
 -- the book after the event and its reply
 abbrev pub live_book : List TradeRows → Event → Reply → List TradeRows
@@ -66,9 +69,15 @@ BookReplies (Err (book_fault.BucketUnknown trade row)) r = r ≡ reply.Refused (
 BookReplies (Err (book_fault.Range fault)) r = r ≡ reply.Refused (refusal.Range fault)
 BookReplies (Err book_fault.Memory) r = ⊥
 
-pub record Does (old new : Traded) (had has : Holdings) (e : Event) (r : Reply) : Type 0 where
+pub record Does (old new : Traded) (had has : Ledgers) (e : Event) (r : Reply) : Type 0 where
   pub value : r ≡ live_reply old had e
   pub live : new ≡ record { params = live_params old.params e r; book = live_book old.book e r }
+  pub ledger : has ≡ ledgers_after had e r
+
+-- what an event of a side does, by its own ledger
+pub record DoesOn (on : MarginSide) (old new : Traded) (had has : Holdings) (e : SideEvent) (r : Reply) : Type 0 where
+  pub value : r ≡ side_reply old had on e
+  pub live : new ≡ old
   pub ledger : has ≡ holdings_after had e r
 
 -- ---- what a live margin has kept

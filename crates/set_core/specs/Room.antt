@@ -10,7 +10,7 @@ abbrev pub event_rows : Event → ℕ
 event_rows (event.Submit trades) = length (rows_of trades)
 event_rows (event.Withdraw names) = 0
 event_rows (event.Tables text) = 10000
-event_rows (event.OnSide e) = 0
+event_rows (event.OnSide on e) = 0
 
 abbrev pub journal_rows : List (Entry Event Reply) → ℕ
 journal_rows log = sum_by (λ e. event_rows e.event) log

@@ -7,7 +7,7 @@ use Rattle.bucket_cache.specs.FactorBook.declared.at.BucketAt.{BucketAt}
 use Rattle.bucket_cache.specs.FactorBook.declared.place.Place.{Place}
 use Rattle.bucket_cache.specs.KeptBuckets.declared.value.KeptValue.{KeptValue}
 use Rattle.bucket_cache.specs.Cached.{touches, is_cached}
-use Rattle.collateral_ledger.specs.CsaTerms.Terms.{Agreement}
+use Rattle.collateral_ledger.specs.CsaTerms.Terms.{Agreements}
 use Rattle.held_cell.specs.declared.entry.Entry.{Entry}
 use Rattle.held_cell.specs.declared.machine.Halt.{Halt}
 use Rattle.held_cell.specs.declared.machine.Halt.TheVariants as halt
@@ -19,22 +19,22 @@ use Rattle.set_core.specs.Book.{book}
 use Rattle.set_core.specs.Cached.{touched_by, touches_margin, is_kept, is_known}
 use Rattle.set_core.specs.Room.{journal_rows, is_full}
 
--- the tables that it opened with, the terms of its agreement, and all calls with their answers; whether its margin is known, and the
+-- the tables that it opened with, the terms of its two agreements, and all calls with their answers; whether its margin is known, and the
 -- values of buckets that are kept; for how many entries more room was put by
 pub record Set : Type 0 where
   pub params : Params
-  pub terms : Agreement
+  pub terms : Agreements
   pub journal : List (Entry Event Reply)
   pub is_fresh : Bool
   pub kept : List (Place × KeptValue)
   pub spare : ℕ
 
 -- a set before its first call: the margin of no trades is known, no value of a bucket is kept, and no room was put by
-abbrev pub start : Params → Agreement → Set
+abbrev pub start : Params → Agreements → Set
 start p t = record { params = p; terms = t; journal = []; is_fresh = true; kept = []; spare = 0 }
 
 -- what it works on, which no event changes
-abbrev pub base_of : Set → Params × Agreement
+abbrev pub base_of : Set → Params × Agreements
 base_of s = (s.params, s.terms)
 
 -- Of which buckets the value is kept after an event that was answered: after an accepted one exactly of those that it was kept of and
@@ -71,7 +71,7 @@ Leaves old new (halt.Full entries weight event) = new ≡ old
 Leaves old new (halt.Memory event) = KeepsMore old new
 
 -- what each set keeps
-pub record IsSet (p : Params) (t : Agreement) (log : List (Entry Event Reply)) : Type 0 where
+pub record IsSet (p : Params) (t : Agreements) (log : List (Entry Event Reply)) : Type 0 where
   pub few : length log ≤ 65535
   pub light : journal_rows log ≤ 500000
   pub legal : IsLegal p t log

@@ -12,7 +12,7 @@ abbrev pub tables_of_event : Params → Event → Params
 tables_of_event p (event.Submit trades) = p
 tables_of_event p (event.Withdraw names) = p
 tables_of_event p (event.Tables text) = text.params
-tables_of_event p (event.OnSide e) = p
+tables_of_event p (event.OnSide on e) = p
 
 -- a refused entry brings none
 abbrev pub tables_with : Params → Entry Event Reply → Params

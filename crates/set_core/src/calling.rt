@@ -5,8 +5,8 @@ ghost use Rattle.csa_calls.specs.CallRule.{AmountUpTo};
 ghost use Rattle.set_core.specs.Answer.{is_calling_day, is_calling_range, called_for, noted};
 ghost use Rattle.collateral_ledger.specs.Holdings.{IsCallAmount};
 ghost use Rattle.set_core.specs.Ledger.{with_call};
-ghost use Rattle.set_core.specs.Live.{Caches, Does, StaysKept, traded};
-ghost use Rattle.side_events.specs.declared.side_event.SideEvent.TheVariants as side;
+ghost use Rattle.set_core.specs.Live.{Caches, DoesOn, StaysKept, traded};
+ghost use Rattle.side_events.specs.declared.side_event.SideEvent.TheVariants as asked;
 ghost use Rattle.set_core.specs.declared.event.Event.TheVariants as events;
 ghost use Rattle.set_core.specs.declared.reply.Reply.TheVariants as replies;
 
@@ -15,6 +15,7 @@ use crate::{CallNote, Refusal, Reply};
 use bucket_cache::LiveMargin;
 use collateral_ledger::Ledger;
 use collateral_ledger::csa_terms::{Flow, Moment, SetTerms, due_day};
+use collateral_ledger::simm_kinds::MarginSide;
 use csa_calls::{CallAmount, call_amount, excess};
 use std::alloc::{AllocError, Global};
 
@@ -29,16 +30,17 @@ struct Demand {
 /// The greatest margin on which a call is made, and the greatest size of what is booked, in cents.
 const MOST_CALLING: u128 = 400_000_000_000_000_000;
 
-/// Answers a demand at a moment. For want of memory the trades and the ledger stand, and what is kept of the margin.
+/// Answers a demand of a side at a moment, by its ledger. For want of memory the trades and the ledger stand, and what is kept of the margin.
 pub(crate) fn ask_call(
     alloc: Global,
     live: &mut LiveMargin,
     ledger: &mut Ledger,
+    side: MarginSide,
     moment: Moment,
 ) -> Result<Reply, AllocError>
     requires { ledger.old.added ≤ 65535 }
-    ensures does { IfOk result (λ reply. Does (traded live.old) (traded live.new) ledger.old ledger.new (events.OnSide (side.AskCall moment)) reply) }
-    ensures caches { IfOk result (Caches live.old live.new (events.OnSide (side.AskCall moment))) }
+    ensures does { IfOk result (λ reply. DoesOn side (traded live.old) (traded live.new) ledger.old ledger.new (asked.AskCall moment) reply) }
+    ensures caches { IfOk result (Caches live.old live.new (events.OnSide side (asked.AskCall moment))) }
     ensures trades { OnErr result (traded live.new ≡ traded live.old) }
     ensures stays { OnErr result (StaysKept live.old live.new) }
     ensures collateral { OnErr result (ledger.new ≡ ledger.old) }
@@ -46,7 +48,7 @@ pub(crate) fn ask_call(
     let Some(due) = due(moment, ledger.terms()) else {
         return Ok(Reply::Refused(Refusal::DayRange(moment.day())));
     };
-    let margin = ask_margin(alloc, live)?.total.0;
+    let margin = ask_margin(alloc, live, side)?.total.0;
     let booked = ledger.booked();
     let demand = Demand {
         due,

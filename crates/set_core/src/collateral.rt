@@ -1,9 +1,9 @@
 //! What a ledger makes of an event of a lot, or of a call that is closed.
 ghost use Rattle.std.specs.Prelude.{◌≡◌, Some, Err, IfOk, IsOk, OnErr};
 ghost use Rattle.set_core.specs.Ledger.{Replies, refusal_of};
-ghost use Rattle.set_core.specs.Live.{Traded, Does};
-ghost use Rattle.side_events.specs.declared.side_event.SideEvent.TheVariants as side;
-ghost use Rattle.set_core.specs.declared.event.Event.TheVariants as events;
+ghost use Rattle.collateral_ledger.specs.SimmKinds.declared.margin_side.MarginSide.{MarginSide};
+ghost use Rattle.set_core.specs.Live.{Traded, DoesOn};
+ghost use Rattle.side_events.specs.declared.side_event.SideEvent.TheVariants as events;
 
 use crate::{Refusal, Reply};
 use collateral_ledger::csa_terms::LotCurrency;
@@ -19,7 +19,7 @@ pub(crate) fn put(
     value: i64,
     currency: LotCurrency,
 ) -> Result<Reply, AllocError>
-    ensures does { IfOk result (λ reply. (l : Traded) → Does l l ledger.old ledger.new (events.OnSide (side.PutLot lot.now class.now value currency)) reply) }
+    ensures does { IfOk result (λ reply. (side : MarginSide) (l : Traded) → DoesOn side l l ledger.old ledger.new (events.PutLot lot.now class.now value currency) reply) }
     ensures unchanged { OnErr result (ledger.new ≡ ledger.old) }
 {
     let change = ledger.put_lot(alloc, lot, class, value, currency);
@@ -27,7 +27,7 @@ pub(crate) fn put(
 }
 
 pub(crate) fn take(ledger: &mut Ledger, lot: &Name) -> Result<Reply, AllocError>
-    ensures does { IfOk result (λ reply. (l : Traded) → Does l l ledger.old ledger.new (events.OnSide (side.TakeLot lot.now)) reply) }
+    ensures does { IfOk result (λ reply. (side : MarginSide) (l : Traded) → DoesOn side l l ledger.old ledger.new (events.TakeLot lot.now) reply) }
     ensures at_once { IsOk result }
 {
     let change = ledger.take_lot(lot);
@@ -35,7 +35,7 @@ pub(crate) fn take(ledger: &mut Ledger, lot: &Name) -> Result<Reply, AllocError>
 }
 
 pub(crate) fn mark(ledger: &mut Ledger, lot: &Name, value: i64) -> Result<Reply, AllocError>
-    ensures does { IfOk result (λ reply. (l : Traded) → Does l l ledger.old ledger.new (events.OnSide (side.MarkLot lot.now value)) reply) }
+    ensures does { IfOk result (λ reply. (side : MarginSide) (l : Traded) → DoesOn side l l ledger.old ledger.new (events.MarkLot lot.now value) reply) }
     ensures at_once { IsOk result }
 {
     let change = ledger.mark_lot(lot, value);
@@ -43,7 +43,7 @@ pub(crate) fn mark(ledger: &mut Ledger, lot: &Name, value: i64) -> Result<Reply,
 }
 
 pub(crate) fn close(ledger: &mut Ledger, number: u32) -> Result<Reply, AllocError>
-    ensures does { IfOk result (λ reply. (l : Traded) → Does l l ledger.old ledger.new (events.OnSide (side.CloseCall number)) reply) }
+    ensures does { IfOk result (λ reply. (side : MarginSide) (l : Traded) → DoesOn side l l ledger.old ledger.new (events.CloseCall number) reply) }
     ensures at_once { IsOk result }
 {
     let change = ledger.close_call(number);

@@ -3,7 +3,7 @@ ghost use Rattle.collateral_ledger.specs.SimmKinds.Batch.{IsBatch, rows_of};
 ghost use Rattle.set_core.specs.Room.{event_rows};
 ghost use Rattle.set_core.specs.Events.{IsEvent};
 
-use collateral_ledger::simm_kinds::{Batch, Listed, Name, TradeRows};
+use collateral_ledger::simm_kinds::{Batch, Listed, MarginSide, Name, TradeRows};
 use params_file::ParamText;
 use side_events::SideEvent;
 
@@ -19,8 +19,8 @@ pub enum Event {
     Withdraw(Listed<Name>),
     /// Puts tables in the place of those by which margins are worked out.
     Tables(ParamText),
-    /// Something beside the trades: of a lot, of a call, or of the margin.
-    OnSide(SideEvent),
+    /// Something beside the trades, of a side of the margin: of a lot, of a call, or of the margin.
+    OnSide { side: MarginSide, event: SideEvent },
 }
 
 impl Event {
@@ -40,7 +40,7 @@ impl Event {
         match self {
             Event::Submit(batch) => count_rows(batch.trades()),
             Event::Tables(_) => TABLES_ROWS,
-            Event::Withdraw(_) | Event::OnSide(_) => 0,
+            Event::Withdraw(_) | Event::OnSide { .. } => 0,
         }
     }
 }

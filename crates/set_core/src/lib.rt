@@ -1,6 +1,6 @@
 //! A netting set: trades are submitted, replaced and withdrawn, its tables are replaced, lots of collateral are put, taken and marked,
-//! its margin is asked and collateral is called for, and a journal holds each event with its answer. Each answer is the written rule, from
-//! scratch, over the journal's earlier accepted entries.
+//! its margin is asked and collateral is called for, on each of the two sides of the margin, and a journal holds each event with its
+//! answer. Each answer is the written rule, from scratch, over the journal's earlier accepted entries.
 #![tactic(auto)]
 
 mod answering;
@@ -9,6 +9,7 @@ mod call_note;
 mod calling;
 mod collateral;
 mod event;
+mod ledgers;
 mod machine;
 mod put_by;
 mod refusal;

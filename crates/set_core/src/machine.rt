@@ -1,4 +1,4 @@
-//! A netting set as a machine that its callers share: it works on the tables that it opened with and its terms, and its journal weighs
+//! A netting set as a machine that its callers share: it works on the tables that it opened with and the terms of both sides, and its journal weighs
 //! its rows.
 ghost use Rattle.std.proofs.Common.{lit≤};
 ghost use Rattle.held_cell.proofs.Empty.{no_entry};
@@ -7,7 +7,7 @@ ghost use Rattle.set_core.specs.Set.{IsSet, base_of};
 
 use crate::{Event, Reply, SetState};
 use bucket_cache::simm_params::Params;
-use collateral_ledger::csa_terms::SetTerms;
+use collateral_ledger::csa_terms::BothTerms;
 use held_cell::{Halt, Machine};
 
 impl Machine for SetState {
@@ -15,7 +15,7 @@ impl Machine for SetState {
 
     type Reply = Reply;
 
-    type Base = (Params, SetTerms);
+    type Base = (Params, BothTerms);
 
     ghost base = { base_of };
 

@@ -14,7 +14,7 @@ pub enum Reply {
     Accepted,
     /// The event was refused.
     Refused(Refusal),
-    /// The margin of the current trades.
+    /// The margin of the current trades on the side that asked.
     Margin(SharedMargin),
     /// A call was made, and is outstanding.
     Called(CallNote),

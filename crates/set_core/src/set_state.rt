@@ -3,7 +3,9 @@ ghost use Rattle.std.specs.Option.{option_copied};
 ghost use Rattle.collateral_ledger.specs.SimmKinds.declared.kinds.Measure.{Measure};
 ghost use Rattle.bucket_cache.specs.FactorBook.declared.at.BucketAt.{BucketAt};
 ghost use Rattle.bucket_cache.specs.Cached.{IsCached};
+ghost use Rattle.collateral_ledger.specs.CsaTerms.Terms.{IsOneSet};
 ghost use Rattle.set_core.specs.Book.{book};
+ghost use Rattle.set_core.specs.Sides.{terms_on};
 ghost use Rattle.set_core.specs.Tables.{tables};
 ghost use Rattle.set_core.specs.Cached.{is_margin_known, is_value_known};
 ghost use Rattle.held_cell.specs.Halts.{Explains};
@@ -12,18 +14,19 @@ ghost use Rattle.set_core.specs.Reserved.{is_reserved, is_want};
 ghost use Rattle.set_core.specs.Set.{IsSet, IsAnswered, Leaves, start, entry_at};
 
 use crate::answering::answer_twice;
+use crate::ledgers::Ledgers;
 use crate::put_by::PutBy;
 use crate::{Entry, Event, Halt, Reply};
 use bucket_cache::LiveMargin;
 use bucket_cache::simm_params::Params;
-use collateral_ledger::Ledger;
-use collateral_ledger::csa_terms::SetTerms;
+use collateral_ledger::csa_terms::{BothTerms, SetTerms};
+use collateral_ledger::simm_kinds::{MarginSide, Name};
 use std::alloc::{AllocError, Global};
 use std::marker::Model;
 
-/// A netting set: what it works on, its current trades, its lots and outstanding calls, and the journal of its calls. Contracts see the tables that it
-/// opened with, the terms, the journal, for how many entries more room was put by, and of what is kept of its margin whether it is known and the values of buckets; all
-/// else is the written rule over the journal.
+/// A netting set: what it works on, its current trades, the lots and outstanding calls of both sides of the margin, and the journal of its
+/// calls. Contracts see the tables that it opened with, the terms of both sides, the journal, for how many entries more room was put by,
+/// and of what is kept of its margin whether it is known and the values of buckets; all else is the written rule over the journal.
 /// It keeps the allocator that it was made with.
 #[derive(Drop)]
 pub struct SetState {
@@ -31,7 +34,7 @@ pub struct SetState {
     // those that it opened with
     params: Params,
     live: LiveMargin,
-    ledger: Ledger,
+    ledgers: Ledgers,
     journal: Vec<Entry>,
     rows: u32,
     // for how many entries room was put by, and that for the parts of their margins
@@ -43,6 +46,7 @@ impl Model for SetState {
     ghost use Rattle.set_core.specs.Set.{Set, IsSet};
     ghost use Rattle.set_core.specs.Kept.{IsKept};
     ghost use Rattle.set_core.specs.Cached.{AreCached};
+    ghost use Rattle.set_core.specs.Ledger.{terms_of};
     ghost use Rattle.set_core.specs.Live.{traded};
     ghost use Rattle.std.specs.Prelude.{vec_len, vec_capacity};
     ghost use Rattle.set_core.specs.Reserved.{HasRoom};
@@ -51,14 +55,14 @@ impl Model for SetState {
 
     ghost view = { λ s. record {
       params = s.params;
-      terms = s.ledger.terms;
+      terms = terms_of s.ledgers;
       journal = s.journal.items;
       is_fresh = s.live.is_fresh;
       kept = s.live.kept.values;
       spare = s.spare;
     } };
 
-    ghost invariant = { λ s. IsKept s.params (traded s.live) s.ledger s.rows s.journal.items × AreCached s.live s.journal.items
+    ghost invariant = { λ s. IsKept s.params (traded s.live) s.ledgers s.rows s.journal.items × AreCached s.live s.journal.items
         × HasRoom s.spare s.put_by (vec_len s.journal) (vec_capacity s.journal) };
 }
 
@@ -74,16 +78,17 @@ impl SetState {
     /// # Errors
     ///
     /// For want of memory alone.
-    pub fn new(alloc: Global, params: Params, terms: SetTerms) -> Result<SetState, AllocError>
+    pub fn new(alloc: Global, params: Params, terms: BothTerms) -> Result<SetState, AllocError>
         ensures { IfOk result (λ set. set ≡ start params terms) }
     {
+        terms.facts();
         let opened = params.share()?;
         let live = LiveMargin::new(alloc, opened)?;
         Ok(SetState {
             alloc,
             params,
             live,
-            ledger: Ledger::new(alloc, terms),
+            ledgers: Ledgers::new(alloc, terms),
             journal: Vec::new(alloc),
             rows: 0,
             spare: 0,
@@ -123,7 +128,7 @@ impl SetState {
         let answers = answer_twice(
             self.alloc,
             &mut self.live,
-            &mut self.ledger,
+            &mut self.ledgers,
             &mut self.put_by,
             &event,
         );
@@ -157,9 +162,10 @@ impl SetState {
         Ok(())
     }
 
-    /// What each set keeps: its journal is legal, and within its limits. It does nothing.
+    /// What each set keeps: its journal is legal, and within its limits, and the terms of both sides are of one set. It does nothing.
     pub fn facts(&self)
-        ensures { IsSet self.now.params self.now.terms self.now.journal }
+        ensures set { IsSet self.now.params self.now.terms self.now.journal }
+        ensures terms { IsOneSet self.now.terms.collect self.now.terms.post }
     {
         let _rows = self.rows;
     }
@@ -207,11 +213,18 @@ impl SetState {
         &self.live
     }
 
-    /// Lends the terms.
-    pub fn terms(&self) -> &SetTerms
-        ensures { result.now ≡ self.now.terms }
+    /// Lends the set's name; it isn't empty.
+    pub fn name(&self) -> &Name
+        ensures { result.now ≡ self.now.terms.collect.name }
     {
-        self.ledger.terms()
+        self.terms(MarginSide::Collect).name()
+    }
+
+    /// Lends the terms by which a side's collateral is called for.
+    pub fn terms(&self, side: MarginSide) -> &SetTerms
+        ensures { result.now ≡ terms_on side self.now.terms }
+    {
+        self.ledgers.on(side).terms()
     }
 
     /// Whether the journal has no room for an event of so many rows.

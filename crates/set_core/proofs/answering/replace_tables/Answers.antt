@@ -1,4 +1,4 @@
-use Rattle.std.proofs.Common.{◌≡◌, ◌∙◌, ap, refl, subst, IfOk, OnOk}
+use Rattle.std.proofs.Common.{◌∙◌, refl}
 use Rattle.std.proofs.lemmas.Result.{IfOk-weaker}
 use Rattle.set_core.specs.declared.event.Event.TheVariants as events
 use Rattle.set_core.proofs.BookReplies.{change_does, change_caches, unchanged}

@@ -1,8 +1,7 @@
-use Rattle.std.proofs.Common.{◌≡◌, refl, IfOk, OnOk}
+use Rattle.std.proofs.Common.{refl}
 use Rattle.std.proofs.lemmas.Result.{IfOk-weaker}
 use Rattle.bucket_cache.specs.Live.{rows_moved}
 use Rattle.set_core.specs.declared.event.Event.TheVariants as events
-use Rattle.set_core.specs.declared.reply.Reply.TheVariants as reply
 use Rattle.set_core.proofs.BookReplies.{change_does, change_caches, unchanged}
 use Rattle.set_core.proofs.Caching.{both_so, three_so, caches_moved}
 use Rattle.set_core.proofs.Changes.{other_trades}

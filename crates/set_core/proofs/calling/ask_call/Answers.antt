@@ -38,7 +38,7 @@ returns-clause-does c =
     let found : (is_calling_day c.args.moment.day ≡ true) × (c.in-Some.due ≡ due_day c.args.moment c.terms.result.now) = is_found (is_calling_day c.args.moment.day) c.in-Some.due (due_day c.args.moment c.terms.result.now) c.in-Some.ensures in
     let due_fits : FitsSigned w32 c.in-Some.due = search rules in
     let booked_fits : FitsSigned w128 c.booked-booked.result = search rules in
-    demand_does (traded c.args.live.now) _ c.args.ledger.now c.call_on.new.ledger c.args.moment
+    demand_does c.args.side (traded c.args.live.now) _ c.args.ledger.now c.call_on.new.ledger c.args.moment
     (to_z w32 (of_z w32 c.in-Some.due)) (to_z w128 (of_z w128 c.in_ok-margin.field-0.total.0)) (to_z w128 (of_z w128 c.booked-booked.result))
     c.in_ok-margin.ensures.trades
     found.0
@@ -59,7 +59,7 @@ caches_call old new e made due margin booked a (Ok r) value same out stays = cac
 
 pub returns-clause-caches : goal.returns-clause-caches
 returns-clause-caches c =
-    caches_call c.args.live.now c.ask_margin.new.live (event.OnSide (side.AskCall c.args.moment)) _ _ _ _ _ c.call_on.result c.call_on.ensures.value
+    caches_call c.args.live.now c.ask_margin.new.live (event.OnSide c.args.side (side.AskCall c.args.moment)) _ _ _ _ _ c.call_on.result c.call_on.ensures.value
     c.in_ok-margin.ensures.trades c.in_ok-margin.ensures.all c.in_ok-margin.ensures.stays
 
 pub returns-clause-stays : goal.returns-clause-stays

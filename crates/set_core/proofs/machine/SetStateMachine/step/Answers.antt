@@ -7,7 +7,7 @@ returns-clause-base c = base_stays c.args.self.now c.apply-answer.new.self c.arg
 pub returns-clause-legal : goal.returns-clause-legal
 returns-clause-legal c before =
     stays_legal c.args.self.now c.apply-answer.new.self
-    (base_stays c.args.self.now c.apply-answer.new.self c.args.caller c.args.event c.apply-answer.result c.apply-answer.ensures.answered c.apply-answer.ensures.unchanged) c.facts.ensures
+    (base_stays c.args.self.now c.apply-answer.new.self c.args.caller c.args.event c.apply-answer.result c.apply-answer.ensures.answered c.apply-answer.ensures.unchanged) c.facts.ensures.set
 
 pub returns-clause-done : goal.returns-clause-done
 returns-clause-done c = journal_grows c.args.self.now c.apply-answer.new.self c.args.caller c.args.event c.apply-answer.result c.apply-answer.ensures.answered

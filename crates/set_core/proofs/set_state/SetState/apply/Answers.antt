@@ -4,8 +4,8 @@ use Rattle.set_core.specs.Kept.{IsKept}
 use Rattle.collateral_ledger.specs.SimmKinds.declared.row.TradeRows.{TradeRows}
 use Rattle.collateral_ledger.specs.SimmKinds.Batch.{rows_of}
 use Rattle.bucket_cache.specs.Cached.{touches, is_cached}
-use Rattle.collateral_ledger.specs.Holdings.{Holdings}
 use Rattle.set_core.specs.Cached.{touched_by, is_kept, AreCached}
+use Rattle.set_core.specs.Ledger.{terms_of}
 use Rattle.set_core.specs.Live.{traded}
 use Rattle.set_core.specs.Room.{is_full}
 use Rattle.set_core.specs.Set.{Set, IsAnswered}
@@ -14,13 +14,13 @@ use Rattle.set_core.proofs.Caching.{stays_same, cached_next, seen, keeps_more}
 use Rattle.set_core.proofs.set_state.SetState.apply.Goals as goal
 
 pub answer_twice-answers-requires : goal.answer_twice-answers-requires
-answer_twice-answers-requires c = few_calls c.self.inside.params (traded c.self.inside.live) c.self.inside.ledger c.self.inside.rows c.self.inside.journal.items c.self.invariant.0
+answer_twice-answers-requires c = few_calls c.self.inside.params (traded c.self.inside.live) c.self.inside.ledgers c.self.inside.rows c.self.inside.journal.items c.self.invariant.0
 
 had_room : (c : goal.After-push_reserved) → is_full c.self.inside.journal.items c.args.event ≡ false
 had_room c = search rules
 
-it : (c : goal.After-push_reserved) → Applied c.self.inside.params (traded c.answer_twice-answers.new.live) c.self.inside.ledger c.answer_twice-answers.new.ledger c.self.inside.rows c.args.caller c.self.inside.journal.items c.args.event c.in-Ok.reply
-it c = applied c.self.inside.params (traded c.self.inside.live) (traded c.answer_twice-answers.new.live) c.self.inside.ledger c.answer_twice-answers.new.ledger c.self.inside.rows c.args.caller c.self.inside.journal.items c.args.event c.in-Ok.reply c.self.invariant.0 (had_room c) c.facts.ensures c.in-Ok.ensures.does
+it : (c : goal.After-push_reserved) → Applied c.self.inside.params (traded c.answer_twice-answers.new.live) c.self.inside.ledgers c.answer_twice-answers.new.ledgers c.self.inside.rows c.args.caller c.self.inside.journal.items c.args.event c.in-Ok.reply
+it c = applied c.self.inside.params (traded c.self.inside.live) (traded c.answer_twice-answers.new.live) c.self.inside.ledgers c.answer_twice-answers.new.ledgers c.self.inside.rows c.args.caller c.self.inside.journal.items c.args.event c.in-Ok.reply c.self.invariant.0 (had_room c) c.facts.ensures c.in-Ok.ensures.does
 
 pushed : (c : goal.After-push_reserved) → c.push_reserved.new.self.items ≡ c.self.inside.journal.items ++ entry c.args.caller c.args.event c.in-Ok.reply ∷ []
 pushed c =
@@ -32,8 +32,8 @@ left c = c.saturating_sub-self-inside.ensures
 
 pub invariant_of-self-2 : goal.invariant_of-self-2
 invariant_of-self-2 c = (
-  subst (λ log. IsKept c.self.inside.params (traded c.answer_twice-answers.new.live) c.answer_twice-answers.new.ledger (c.self.inside.rows + c.row_count-rows.result) log) (sym (pushed c))
-      (subst (λ n. IsKept c.self.inside.params (traded c.answer_twice-answers.new.live) c.answer_twice-answers.new.ledger (c.self.inside.rows + n) (c.self.inside.journal.items ++ entry c.args.caller c.args.event c.in-Ok.reply ∷ [])) (sym c.row_count-rows.ensures) (it c).kept),
+  subst (λ log. IsKept c.self.inside.params (traded c.answer_twice-answers.new.live) c.answer_twice-answers.new.ledgers (c.self.inside.rows + c.row_count-rows.result) log) (sym (pushed c))
+      (subst (λ n. IsKept c.self.inside.params (traded c.answer_twice-answers.new.live) c.answer_twice-answers.new.ledgers (c.self.inside.rows + n) (c.self.inside.journal.items ++ entry c.args.caller c.args.event c.in-Ok.reply ∷ [])) (sym c.row_count-rows.ensures) (it c).kept),
   subst (AreCached c.answer_twice-answers.new.live) (sym (pushed c))
       (cached_next c.self.inside.live c.answer_twice-answers.new.live c.args.caller c.self.inside.journal.items c.args.event c.in-Ok.reply c.self.invariant.0.book c.self.invariant.1 c.in-Ok.ensures.caches),
   record {
@@ -42,7 +42,7 @@ invariant_of-self-2 c = (
   },
 )
 
-answered : (c : goal.After-push_reserved) → IsAnswered (seen c.self.inside.params c.self.inside.live c.self.inside.ledger.terms c.self.inside.journal.items c.self.inside.spare) (seen c.self.inside.params c.answer_twice-answers.new.live c.answer_twice-answers.new.ledger.terms c.push_reserved.new.self.items c.saturating_sub-self-inside.result) c.args.caller c.args.event c.in-Ok.reply
+answered : (c : goal.After-push_reserved) → IsAnswered (seen c.self.inside.params c.self.inside.live (terms_of c.self.inside.ledgers) c.self.inside.journal.items c.self.inside.spare) (seen c.self.inside.params c.answer_twice-answers.new.live (terms_of c.answer_twice-answers.new.ledgers) c.push_reserved.new.self.items c.saturating_sub-self-inside.result) c.args.caller c.args.event c.in-Ok.reply
 answered c = record {
   room = had_room c;
   value = (it c).value;
@@ -62,14 +62,14 @@ answered c = record {
 
 pub returns-clause-answered : goal.returns-clause-answered
 returns-clause-answered c =
-    subst (λ (s : Set). IsAnswered s (seen c.self.inside.params c.answer_twice-answers.new.live c.answer_twice-answers.new.ledger.terms c.push_reserved.new.self.items c.saturating_sub-self-inside.result) c.args.caller c.args.event c.in-Ok.reply) c.self.view_is (answered c)
+    subst (λ (s : Set). IsAnswered s (seen c.self.inside.params c.answer_twice-answers.new.live (terms_of c.answer_twice-answers.new.ledgers) c.push_reserved.new.self.items c.saturating_sub-self-inside.result) c.args.caller c.args.event c.in-Ok.reply) c.self.view_is (answered c)
 
 pub returns-then-is_err-clause-unchanged : goal.returns-then-is_err-clause-unchanged
 returns-then-is_err-clause-unchanged c =
-    keeps_more c.args.self.now c.self.inside.params c.self.inside.live c.self.inside.live c.self.inside.ledger.terms c.self.inside.ledger.terms c.self.inside.journal.items c.reserve.new.self.items c.self.inside.spare
+    keeps_more c.args.self.now c.self.inside.params c.self.inside.live c.self.inside.live (terms_of c.self.inside.ledgers) (terms_of c.self.inside.ledgers) c.self.inside.journal.items c.reserve.new.self.items c.self.inside.spare
     c.self.view_is refl c.reserve.ensures.items (stays_same c.self.inside.live c.self.inside.live refl)
 
 pub returns-in_default-clause-unchanged : goal.returns-in_default-clause-unchanged
 returns-in_default-clause-unchanged c =
-    keeps_more c.args.self.now c.self.inside.params c.self.inside.live c.answer_twice-answers.new.live c.self.inside.ledger.terms c.answer_twice-answers.new.ledger.terms c.self.inside.journal.items c.reserve.new.self.items c.self.inside.spare
-    c.self.view_is (ap (λ (held : Holdings). held.terms) c.in_default.ensures.collateral) c.reserve.ensures.items c.in_default.ensures.stays
+    keeps_more c.args.self.now c.self.inside.params c.self.inside.live c.answer_twice-answers.new.live (terms_of c.self.inside.ledgers) (terms_of c.answer_twice-answers.new.ledgers) c.self.inside.journal.items c.reserve.new.self.items c.self.inside.spare
+    c.self.view_is (ap terms_of c.in_default.ensures.collateral) c.reserve.ensures.items c.in_default.ensures.stays
