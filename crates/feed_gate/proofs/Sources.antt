@@ -27,7 +27,7 @@ use Rattle.feed_gate.proofs.Feeds.{Ended, ended}
 use Rattle.feed_gate.proofs.OneSet.{fronts_longer}
 
 abbrev name_of : Set → List ℕ
-name_of s = s.terms.name
+name_of s = s.terms.collect.name
 
 -- ---- the sets
 
@@ -43,16 +43,16 @@ run_sets n (s ∷ old) (c ∷ cells) (t ∷ new) starts closes =
       run_sets n old cells new starts.1 closes.1,
     )
 
-pub names_stay : (n : ℕ) (old new : List Set) → AllZip (IsRun n) old new → map (λ s. s.terms.name) old ≡ map (λ s. s.terms.name) new
+pub names_stay : (n : ℕ) (old new : List Set) → AllZip (IsRun n) old new → map (λ s. s.terms.collect.name) old ≡ map (λ s. s.terms.collect.name) new
 names_stay n [] [] all = refl
 names_stay n [] (t ∷ new) all = absurd all
 names_stay n (s ∷ old) [] all = absurd all
 names_stay n (s ∷ old) (t ∷ new) all =
-    ap (λ u. u.name ∷ map (λ x. x.terms.name) old) (sym all.0.terms) ∙ ap (λ ns. t.terms.name ∷ ns) (names_stay n old new all.1)
+    ap (λ u. u.collect.name ∷ map (λ x. x.terms.collect.name) old) (sym all.0.terms) ∙ ap (λ ns. t.terms.collect.name ∷ ns) (names_stay n old new all.1)
 
-pub named_of : (n : ℕ) (names : List (List ℕ)) (sets : List Set) (cells : List Cell) → names ≡ map (λ s. s.terms.name) sets → AreApart sets → AllZip (Starts n) sets cells → AreNamed names cells
+pub named_of : (n : ℕ) (names : List (List ℕ)) (sets : List Set) (cells : List Cell) → names ≡ map (λ s. s.terms.collect.name) sets → AreApart sets → AllZip (Starts n) sets cells → AreNamed names cells
 named_of n names sets cells is apart starts =
-    let many : length names ≡ length sets = ap length is ∙ length-map sets (λ (s : Set). s.terms.name) in
+    let many : length names ≡ length sets = ap length is ∙ length-map sets (λ (s : Set). s.terms.collect.name) in
     record {
       few = omega (arith, many, apart.few);
       different = subst (IsDistinct same_name) (sym is) apart.different;
@@ -103,18 +103,18 @@ fed_by feed mets name a b log unused ran holds = record {
       (fronts_longer a.first a.count b.seen log holds.begins name (events_of a.own) mets ran.fronts)));
 }
 
-each_fed : (feed : ℕ) (mets : List Met) (cells : List Cell) (sets : List Set) (old new : List Seat) → length sets ≡ length cells → AllZip (IsUnused feed 1) cells old → OfEachSet (RanOnSet mets) (map (λ s. s.terms.name) sets) old new → ((place : ℕ) (seat : Seat) (set : Set) → slice_get new place ≡ Some seat → slice_get sets place ≡ Some set → Holds feed seat set.journal) → AllByRecursion (λ s. IsFedBy feed mets s.terms.name s.journal) sets
-each_fed feed mets cells sets old new same unused ran holds = recursion_from_All (λ s. IsFedBy feed mets s.terms.name s.journal) sets at
+each_fed : (feed : ℕ) (mets : List Met) (cells : List Cell) (sets : List Set) (old new : List Seat) → length sets ≡ length cells → AllZip (IsUnused feed 1) cells old → OfEachSet (RanOnSet mets) (map (λ s. s.terms.collect.name) sets) old new → ((place : ℕ) (seat : Seat) (set : Set) → slice_get new place ≡ Some seat → slice_get sets place ≡ Some set → Holds feed seat set.journal) → AllByRecursion (λ s. IsFedBy feed mets s.terms.collect.name s.journal) sets
+each_fed feed mets cells sets old new same unused ran holds = recursion_from_All (λ s. IsFedBy feed mets s.terms.collect.name s.journal) sets at
   where
-    at : (k : ℕ) (d : Set) → k < length sets → IsFedBy feed mets (get_or sets k d).terms.name (get_or sets k d).journal
+    at : (k : ℕ) (d : Set) → k < length sets → IsFedBy feed mets (get_or sets k d).terms.collect.name (get_or sets k d).journal
     at k d within =
         let at_set = slice_get-get_or sets k d within in
         let at_name = slice_get-map name_of sets k ∙ ap (option_map name_of) at_set in
         let cell = some_at cells k (omega (arith, within, same)) in
         let a = zip_get (IsUnused feed 1) cells old k cell.0 unused cell.1 in
         let b = some_at new k (omega (arith, slice_get_within old k a.0 a.1, ran.count)) in
-        fed_by feed mets (get_or sets k d).terms.name a.0 b.0 (get_or sets k d).journal (record { first = a.2.is.first; count = a.2.is.count; own = a.2.own })
-        (ran.each k (get_or sets k d).terms.name a.0 b.0 at_name a.1 b.1) (holds k b.0 (get_or sets k d) b.1 at_set)
+        fed_by feed mets (get_or sets k d).terms.collect.name a.0 b.0 (get_or sets k d).journal (record { first = a.2.is.first; count = a.2.is.count; own = a.2.own })
+        (ran.each k (get_or sets k d).terms.collect.name a.0 b.0 at_name a.1 b.1) (holds k b.0 (get_or sets k d) b.1 at_set)
 
 module _ {S : Type 0} (seen : S → SourceSeen) where
   pub all_seats : (cells : List Cell) (from : ℕ) (jobs : List (FeedJob S)) → AreRows cells from (map (λ job. job.seats.items) jobs) → All (λ job. AreSeats cells job.seats.items) jobs
@@ -130,7 +130,7 @@ module _ {S : Type 0} (seen : S → SourceSeen) where
     rows_after names cells (from + 1) old new same rows.1 ran.1,
   )
 
-  ran_source : (cells : List Cell) (sets : List Set) (feed : ℕ) (s : S) (a b : FeedJob S) → length sets ≡ length cells → a.lines ≡ fresh s → AllZip (IsUnused feed 1) cells a.seats.items → RanFeed seen (map (λ t. t.terms.name) sets) a b → ((place : ℕ) (seat : Seat) (set : Set) → slice_get b.seats.items place ≡ Some seat → slice_get sets place ≡ Some set → Holds feed seat set.journal) → RanSource seen sets feed s b.lines.source b.report
+  ran_source : (cells : List Cell) (sets : List Set) (feed : ℕ) (s : S) (a b : FeedJob S) → length sets ≡ length cells → a.lines ≡ fresh s → AllZip (IsUnused feed 1) cells a.seats.items → RanFeed seen (map (λ t. t.terms.collect.name) sets) a b → ((place : ℕ) (seat : Seat) (set : Set) → slice_get b.seats.items place ≡ Some seat → slice_get sets place ≡ Some set → Holds feed seat set.journal) → RanSource seen sets feed s b.lines.source b.report
   ran_source cells sets feed s a b same lines unused ran holds =
       let its : Ended seen s b.lines (map (λ m. m.item) ran.mets) b.report.end = ended seen b.report.end (subst (λ l. EndsAt seen b.report.end l b.lines (map (λ m. m.item) ran.mets)) lines ran.ends) in
       record {
@@ -146,7 +146,7 @@ module _ {S : Type 0} (seen : S → SourceSeen) where
         failed = λ e. its.took.failed refl (its.failed e);
       }
 
-  pub all_ran : (cells : List Cell) (sets : List Set) (from : ℕ) (sources : List S) (old new : List (FeedJob S)) → length sets ≡ length cells → map (λ job. job.lines) old ≡ map fresh sources → AreRows cells from (map (λ job. job.seats.items) old) → AllZip (RanFeed seen (map (λ t. t.terms.name) sets)) old new → AreKeptIn from (map (λ job. job.seats.items) new) sets → AllRan seen sets from sources (map (λ job. job.lines.source) new) (map (λ job. job.report) new)
+  pub all_ran : (cells : List Cell) (sets : List Set) (from : ℕ) (sources : List S) (old new : List (FeedJob S)) → length sets ≡ length cells → map (λ job. job.lines) old ≡ map fresh sources → AreRows cells from (map (λ job. job.seats.items) old) → AllZip (RanFeed seen (map (λ t. t.terms.collect.name) sets)) old new → AreKeptIn from (map (λ job. job.seats.items) new) sets → AllRan seen sets from sources (map (λ job. job.lines.source) new) (map (λ job. job.report) new)
   all_ran cells sets from [] [] [] same lines rows ran kept = tt
   all_ran cells sets from [] [] (b ∷ new) same lines rows ran kept = absurd ran
   all_ran cells sets from [] (a ∷ old) new same lines rows ran kept = absurd (cc (lines))
@@ -159,7 +159,7 @@ module _ {S : Type 0} (seen : S → SourceSeen) where
         all_ran cells sets (from + 1) sources old new same others rows.1 ran.1 kept.1,
       )
 
-  pub ran_on_sets : (n : ℕ) (names : List (List ℕ)) (before after : List Set) (cells : List Cell) (sources : List S) (old new : List (FeedJob S)) → n ≡ length sources → names ≡ map (λ s. s.terms.name) before → AllZip (Starts n) before cells → map (λ job. job.lines) old ≡ map fresh sources → AreRows cells 0 (map (λ job. job.seats.items) old) → AllZip (RanFeed seen names) old new → AllZip (Closes n) cells after → AreKeptIn 0 (map (λ job. job.seats.items) new) after → RanOnSets seen before after sources (map (λ job. job.lines.source) new) (map (λ job. job.report) new)
+  pub ran_on_sets : (n : ℕ) (names : List (List ℕ)) (before after : List Set) (cells : List Cell) (sources : List S) (old new : List (FeedJob S)) → n ≡ length sources → names ≡ map (λ s. s.terms.collect.name) before → AllZip (Starts n) before cells → map (λ job. job.lines) old ≡ map fresh sources → AreRows cells 0 (map (λ job. job.seats.items) old) → AllZip (RanFeed seen names) old new → AllZip (Closes n) cells after → AreKeptIn 0 (map (λ job. job.seats.items) new) after → RanOnSets seen before after sources (map (λ job. job.lines.source) new) (map (λ job. job.report) new)
   ran_on_sets n names before after cells sources old new many named starts lines rows ran closes kept =
       let sets = run_sets n before cells after starts closes in
       record {

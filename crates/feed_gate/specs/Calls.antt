@@ -17,7 +17,7 @@ abbrev pub set_of : Message → List ℕ
 set_of (message.Crif set block) = set
 set_of (message.Tables set block) = set
 set_of (message.Withdraw set names) = set
-set_of (message.OnSide set e) = set
+set_of (message.OnSide set side e) = set
 
 -- the submit of a block of records, as a CRIF file of its own, or the first fault of its grammar
 abbrev pub submit_of : List ℕ → Result Event BlockFault
@@ -32,7 +32,7 @@ abbrev pub event_of : Message → Result Event BlockFault
 event_of (message.Crif set block) = submit_of block
 event_of (message.Tables set block) = tables_of block
 event_of (message.Withdraw set names) = Ok (event.Withdraw names)
-event_of (message.OnSide set e) = Ok (event.OnSide e)
+event_of (message.OnSide set side e) = Ok (event.OnSide side e)
 
 -- the call of an item on the set of this name, if it makes one
 abbrev pub call_on : List ℕ → Item → Option Event

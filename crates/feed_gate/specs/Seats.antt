@@ -3,7 +3,7 @@ use Rattle.std.specs.Prelude.{◌≡◌, ◌≢◌, ℕ, ◌≤◌, List, length
 use Rattle.std.specs.List.{IsDistinct}
 use Rattle.crif_reader.specs.SimmKinds.Order.{same_name}
 use Rattle.set_core.specs.SimmRules.Params.{Params}
-use Rattle.feed_reader.specs.CsaTerms.Terms.{Agreement}
+use Rattle.feed_reader.specs.CsaTerms.Terms.{Agreements}
 use Rattle.set_core.specs.HeldCell.Seats.{CellState, SeatState, IsSeatOf, HasOwn}
 use Rattle.set_core.specs.HeldCell.Calls.{SeesMore, AddsCall}
 use Rattle.set_core.specs.declared.event.Event.{Event}
@@ -12,10 +12,10 @@ use Rattle.set_core.specs.Room.{journal_rows, IsFull}
 
 -- the cell of a netting set, and a seat of it
 abbrev pub Cell : Type 0
-Cell = CellState (Params × Agreement)
+Cell = CellState (Params × Agreements)
 
 abbrev pub Seat : Type 0
-Seat = SeatState (Params × Agreement) Event Reply
+Seat = SeatState (Params × Agreements) Event Reply
 
 -- at most sixteen sets, of different names, each in a cell
 pub record AreNamed (names : List (List ℕ)) (cells : List Cell) : Type 0 where

@@ -6,4 +6,4 @@ use Rattle.set_core.specs.Set.{Set}
 
 pub record AreApart (sets : List Set) : Type 0 where
   pub few : length sets ≤ 16
-  pub different : IsDistinct same_name (map (λ s. s.terms.name) sets)
+  pub different : IsDistinct same_name (map (λ s. s.terms.collect.name) sets)

@@ -31,10 +31,10 @@ pub record IsFedBy (feed : ℕ) (mets : List Met) (name : List ℕ) (log : List 
 pub record RanOver (feed : ℕ) (taken : List ℕ) (ended : Bool) (sets : List Set) (r : FeedReport) : Type 0 where
   pub mets : List Met
   pub stop : IsEnd r.end (map (λ m. m.item) mets) taken ended
-  pub met : AllByRecursion (IsMet (map (λ s. s.terms.name) sets)) mets
+  pub met : AllByRecursion (IsMet (map (λ s. s.terms.collect.name) sets)) mets
   pub done : r.done ≡ done_of mets
   pub refused : r.refused ≡ refused_of mets
-  pub each : AllByRecursion (λ s. IsFedBy feed mets s.terms.name s.journal) sets
+  pub each : AllByRecursion (λ s. IsFedBy feed mets s.terms.collect.name s.journal) sets
 
 module _ {S : Type 0} (seen : S → SourceSeen) where
   -- a source that was run, by the rule of sets

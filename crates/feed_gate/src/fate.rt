@@ -76,7 +76,7 @@ fn event_of(alloc: Global, message: Message) -> Result<Event, BlockFault>
         Message::Crif { block, .. } => submit_of(alloc, &block),
         Message::Tables { block, .. } => tables_of(alloc, block),
         Message::Withdraw { names, .. } => Ok(Event::Withdraw(names)),
-        Message::OnSide { event, .. } => Ok(Event::OnSide(event)),
+        Message::OnSide { side, event, .. } => Ok(Event::OnSide { side, event }),
     }
 }
 

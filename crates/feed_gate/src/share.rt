@@ -28,7 +28,7 @@ pub(crate) fn share_sets(
 ) -> Result<Shared, AllocError>
     requires empty { All (λ s. s.journal ≡ []) sets.items }
     requires callers { (1 ≤ callers) × (callers ≤ 1024) }
-    ensures names { IfOk result (λ shared. shared.names.items ≡ map (λ s. s.terms.name) sets.items) }
+    ensures names { IfOk result (λ shared. shared.names.items ≡ map (λ s. s.terms.collect.name) sets.items) }
     ensures cells { IfOk result (λ shared. AllZip (Starts callers) sets.items shared.cells.items) }
     ensures count { IfOk result (λ shared. length shared.rows.items ≡ callers) }
     ensures rows { IfOk result (λ shared. AreRows shared.cells.items 0 (map (λ row. row.items) shared.rows.items)) }
@@ -40,11 +40,11 @@ pub(crate) fn share_sets(
 }
 
 fn names_of(alloc: Global, sets: &[SetState]) -> Result<Vec<Name>, AllocError>
-    ensures { IfOk result (λ names. names.items ≡ map (λ s. s.terms.name) sets.now) }
+    ensures { IfOk result (λ names. names.items ≡ map (λ s. s.terms.collect.name) sets.now) }
 {
     let mut names = Vec::with_capacity(alloc, sets.len())?;
     for set in sets {
-        names.push(set.terms().name().copy(alloc)?)?;
+        names.push(set.name().copy(alloc)?)?;
     }
     Ok(names)
 }

@@ -3,16 +3,16 @@ ghost use Rattle.std.specs.Prelude.{◌≡◌, map, IfOk};
 ghost use Rattle.feed_gate.specs.Sets.{AreApart};
 ghost use Rattle.set_core.specs.Set.{start};
 
-use feed_reader::csa_terms::{SetTerms, Terms};
+use feed_reader::csa_terms::{BothTerms, Terms};
 use set_core::SetState;
 use set_core::simm_params::Params;
 use std::alloc::{AllocError, Global};
 
 /// A set without calls.
-fn make_set(alloc: Global, params: &Params, agreement: &SetTerms) -> Result<SetState, AllocError>
-    ensures { IfOk result (λ set. set ≡ start params.now agreement.now) }
+fn make_set(alloc: Global, params: &Params, terms: &BothTerms) -> Result<SetState, AllocError>
+    ensures { IfOk result (λ set. set ≡ start params.now terms.now) }
 {
-    SetState::new(alloc, params.share()?, agreement.copy(alloc)?)
+    SetState::new(alloc, params.share()?, terms.copy(alloc)?)
 }
 
 /// A set for each of the terms, in their order, without calls.

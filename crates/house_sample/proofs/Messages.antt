@@ -10,9 +10,10 @@ use Rattle.feed_reader.specs.MhIo.LinesSteps.{HasNoLf}
 use Rattle.feed_reader.specs.MhIo.Limits.{most_bytes}
 use Rattle.mh_io.proofs.LinesRuns.{line_run, part_run}
 use Rattle.crif_writer.specs.Text.{batch_text}
+use Rattle.feed_reader.specs.CsaTerms.SimmKinds.declared.margin_side.MarginSide.TheVariants.{Collect}
 use Rattle.feed_reader.specs.SideEvents.declared.side_event.SideEvent.TheVariants as side
 use Rattle.feed_reader.specs.declared.message.Message.TheVariants as message
-use Rattle.feed_reader.specs.Sides.{question}
+use Rattle.feed_reader.specs.Sides.{question, last_side}
 use Rattle.feed_reader.specs.Messages.{opening, on_side}
 use Rattle.feed_reader.specs.Line.{is_end, by_fields, meaning_of}
 use Rattle.feed_reader.specs.Steps.{AreInside}
@@ -131,12 +132,12 @@ opens n place ls inside =
     place
 
 -- a line that asks a set
-asks : (n place : ℕ) → AreItems n (ask_line (set_name place) ∷ []) (Sent (record { line = n; message = message.OnSide (set_name place) side.AskMargin }) ∷ [])
-unfolding meaning_of by_fields on_side question is_utf8 chars lib.Utf8.encode
+asks : (n place : ℕ) → AreItems n (ask_line (set_name place) ∷ []) (Sent (record { line = n; message = message.OnSide (set_name place) Collect side.AskMargin }) ∷ [])
+unfolding meaning_of by_fields on_side question last_side is_utf8 chars lib.Utf8.encode
 asks n place =
-    of_both (λ set. AreItems n (ask_line set ∷ []) (Sent (record { line = n; message = message.OnSide set side.AskMargin }) ∷ []))
-    (message_line n (ask_line (codes "S0")) (message.OnSide (codes "S0") side.AskMargin) refl refl)
-    (message_line n (ask_line (codes "S1")) (message.OnSide (codes "S1") side.AskMargin) refl refl)
+    of_both (λ set. AreItems n (ask_line set ∷ []) (Sent (record { line = n; message = message.OnSide set Collect side.AskMargin }) ∷ []))
+    (message_line n (ask_line (codes "S0")) (message.OnSide (codes "S0") Collect side.AskMargin) refl refl)
+    (message_line n (ask_line (codes "S1")) (message.OnSide (codes "S1") Collect side.AskMargin) refl refl)
     place
 
 inside_lines : (ls : List (List ℕ)) → AllByRecursion IsInside ls → AllByRecursion IsLine ls
@@ -204,9 +205,9 @@ batch_items seed feed batch n few less here =
     let both = items_then n (n + 7) block ask count in
     let behind : n + 7 ≡ 8 * batch + 8 = omega (arith, here) in
     subst (λ (items : List Item). AreItems n (batch_lines seed feed batch) items)
-    (ap (λ (k : ℕ). Sent (record { line = k; message = message.Crif set (block_of ls) }) ∷ Sent (record { line = n + 7; message = message.OnSide set side.AskMargin }) ∷ []) here
-    ∙ (ap (λ (k : ℕ). Sent (record { line = 8 * batch + 1; message = message.Crif set (block_of ls) }) ∷ Sent (record { line = k; message = message.OnSide set side.AskMargin }) ∷ []) behind
-    ∙ ap (λ (text : List ℕ). Sent (record { line = 8 * batch + 1; message = message.Crif set text }) ∷ Sent (record { line = 8 * batch + 8; message = message.OnSide set side.AskMargin }) ∷ []) (sym (records_are seed feed batch))))
+    (ap (λ (k : ℕ). Sent (record { line = k; message = message.Crif set (block_of ls) }) ∷ Sent (record { line = n + 7; message = message.OnSide set Collect side.AskMargin }) ∷ []) here
+    ∙ (ap (λ (k : ℕ). Sent (record { line = 8 * batch + 1; message = message.Crif set (block_of ls) }) ∷ Sent (record { line = k; message = message.OnSide set Collect side.AskMargin }) ∷ []) behind
+    ∙ ap (λ (text : List ℕ). Sent (record { line = 8 * batch + 1; message = message.Crif set text }) ∷ Sent (record { line = 8 * batch + 8; message = message.OnSide set Collect side.AskMargin }) ∷ []) (sym (records_are seed feed batch))))
     both
 
 -- ---- the lines of a feed

@@ -2,8 +2,8 @@
 use Rattle.std.proofs.Common.{◌≡◌, ℕ, ◌==◌, List, [], ◌∷◌, ◌++◌, Bool, true, false, cond, refl, sym, ap, ◌∙◌, subst, arith, codes}
 use Rattle.std.specs.List.{IsDistinct}
 use Rattle.simm_params.specs.SimmKinds.NameText.{IsName}
-use Rattle.feed_reader.specs.CsaTerms.Terms.{Agreement, AreTerms}
-use Rattle.house_sample.specs.Agreements.{set_name, agreement, sample_terms}
+use Rattle.feed_reader.specs.CsaTerms.Terms.{Agreements, AreTerms}
+use Rattle.house_sample.specs.Agreements.{set_name, agreements, sample_terms}
 use Rattle.house_sample.proofs.Rows.{visible_name}
 
 pub cash_is_name : IsName (codes "CASH-USD")
@@ -21,11 +21,11 @@ unfolding IsDistinct
 sample_are = record { some = omega arith; few = omega arith; different = ((refl, tt), (tt, tt)) }
 
 -- two sets, one after the other
-pub both_are_terms : (none one two : List Agreement) (a b : Agreement) (first second : List ℕ) → none ≡ [] → a ≡ agreement first → first ≡ set_name 0 → one ≡ none ++ a ∷ []
-    → b ≡ agreement second → second ≡ set_name 1 → two ≡ one ++ b ∷ [] → AreTerms two
+pub both_are_terms : (none one two : List Agreements) (a b : Agreements) (first second : List ℕ) → none ≡ [] → a ≡ agreements first → first ≡ set_name 0 → one ≡ none ++ a ∷ []
+    → b ≡ agreements second → second ≡ set_name 1 → two ≡ one ++ b ∷ [] → AreTerms two
 both_are_terms none one two a b first second empty a_is first_is one_is b_is second_is two_is =
     let all : two ≡ sample_terms =
     two_is
-    ∙ (ap (λ (ts : List Agreement). ts ++ b ∷ []) (one_is ∙ ap (λ (ts : List Agreement). ts ++ a ∷ []) empty)
-    ∙ (ap (λ (t : Agreement). t ∷ b ∷ []) (a_is ∙ ap agreement first_is) ∙ ap (λ (t : Agreement). agreement (set_name 0) ∷ t ∷ []) (b_is ∙ ap agreement second_is))) in
+    ∙ (ap (λ (ts : List Agreements). ts ++ b ∷ []) (one_is ∙ ap (λ (ts : List Agreements). ts ++ a ∷ []) empty)
+    ∙ (ap (λ (t : Agreements). t ∷ b ∷ []) (a_is ∙ ap agreements first_is) ∙ ap (λ (t : Agreements). agreements (set_name 0) ∷ t ∷ []) (b_is ∙ ap agreements second_is))) in
     subst AreTerms (sym all) sample_are

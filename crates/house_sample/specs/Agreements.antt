@@ -1,6 +1,6 @@
 -- The terms of the sample's two netting sets: amounts in cents, the haircut in ten-thousandths, minutes from midnight.
 use Rattle.std.specs.Prelude.{ℕ, List, [], ◌∷◌, ◌==◌, codes, pos, if◌then◌else◌}
-use Rattle.feed_reader.specs.CsaTerms.Terms.{Agreement}
+use Rattle.feed_reader.specs.CsaTerms.Terms.{Agreement, Agreements}
 
 -- the name of the set at a place, from 0
 abbrev pub set_name : ℕ → List ℕ
@@ -20,5 +20,9 @@ agreement name = record {
   holidays = [];
 }
 
-abbrev pub sample_terms : List Agreement
-sample_terms = agreement (set_name 0) ∷ agreement (set_name 1) ∷ []
+-- it posts by what it collects by
+abbrev pub agreements : List ℕ → Agreements
+agreements name = record { collect = agreement name; post = agreement name }
+
+abbrev pub sample_terms : List Agreements
+sample_terms = agreements (set_name 0) ∷ agreements (set_name 1) ∷ []

@@ -2,6 +2,7 @@
 use Rattle.std.specs.Prelude.{ℕ, zero, suc, ◌+◌, ◌*◌, List, [], ◌∷◌, ◌++◌}
 use Rattle.crif_writer.specs.Text.{batch_text}
 use Rattle.feed_reader.specs.Feed.{Item, Sent}
+use Rattle.feed_reader.specs.CsaTerms.SimmKinds.declared.margin_side.MarginSide.TheVariants.{Collect}
 use Rattle.feed_reader.specs.SideEvents.declared.side_event.SideEvent.TheVariants as side
 use Rattle.feed_reader.specs.declared.message.Message.TheVariants as message
 use Rattle.house_sample.specs.Agreements.{set_name}
@@ -12,7 +13,7 @@ abbrev pub messages_at : ℕ → ℕ → ℕ → List Item
 messages_at seed feed batch =
     let set = set_name (place_of batch) in
     Sent (record { line = 8 * batch + 1; message = message.Crif set (batch_text (batch_at seed feed batch)) })
-    ∷ Sent (record { line = 8 * batch + 8; message = message.OnSide set side.AskMargin })
+    ∷ Sent (record { line = 8 * batch + 8; message = message.OnSide set Collect side.AskMargin })
     ∷ []
 
 -- those of the first batches

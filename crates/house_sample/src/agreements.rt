@@ -1,9 +1,9 @@
 //! The terms of the sample's netting sets.
 ghost use Rattle.std.specs.Prelude.{◌≡◌, ◌<◌, [], ◌∷◌, codes, pos, length, IfOk};
 ghost use Rattle.simm_params.specs.SimmKinds.NameText.{IsName};
-ghost use Rattle.house_sample.specs.Agreements.{set_name, agreement, sample_terms};
+ghost use Rattle.house_sample.specs.Agreements.{set_name, agreement, agreements, sample_terms};
 
-use feed_reader::csa_terms::{Amounts, HaircutTable, HolidayList, SetTerms, Terms};
+use feed_reader::csa_terms::{Amounts, BothTerms, HaircutTable, HolidayList, SetTerms, Terms};
 use simm_params::mh_units::{Cents, Rate4};
 use simm_params::simm_kinds::Name;
 use std::alloc::{AllocError, Global};
@@ -42,6 +42,17 @@ fn agreement(alloc: Global, name: &[u8]) -> Result<SetTerms, AllocError>
     Ok(SetTerms::of_parts(name, amounts, 13 * 60, Rate4(800), haircuts, holidays))
 }
 
+/// The terms of the set of this name: it posts by what it collects by.
+fn agreements(alloc: Global, name: &[u8]) -> Result<BothTerms, AllocError>
+    requires name { IsName name.now }
+    requires named { 0 < length name.now }
+    ensures { IfOk result (λ terms. terms ≡ agreements name.now) }
+{
+    let collect = agreement(alloc, name)?;
+    let post = collect.copy(alloc)?;
+    Ok(BothTerms::new(collect, post))
+}
+
 /// The terms of the two netting sets of the sample, `S0` and `S1`. But for the names they are those of
 /// `examples/terms.toml`.
 ///
@@ -52,7 +63,7 @@ pub fn sample_terms(alloc: Global) -> Result<Terms, AllocError>
     ensures { IfOk result (λ terms. terms ≡ sample_terms) }
 {
     let mut sets = Vec::with_capacity(alloc, 2)?;
-    sets.push(agreement(alloc, set_name(0))?)?;
-    sets.push(agreement(alloc, set_name(1))?)?;
+    sets.push(agreements(alloc, set_name(0))?)?;
+    sets.push(agreements(alloc, set_name(1))?)?;
     Ok(Terms::from_sets(sets))
 }

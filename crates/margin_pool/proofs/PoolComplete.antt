@@ -9,7 +9,7 @@ use Rattle.mh_io.specs.Limits.{most_bytes}
 use Rattle.mh_io.specs.Lines as cut
 use Rattle.mh_io.specs.Lines.{lines}
 use Rattle.csa_terms.specs.Grammar.{terms_of}
-use Rattle.csa_terms.specs.Terms.{Agreement}
+use Rattle.csa_terms.specs.Terms.{Agreements}
 use Rattle.feed_runs.specs.declared.feed_end.FeedEnd.{FeedEnd}
 use Rattle.feed_runs.specs.declared.feed_end.FeedEnd.TheVariants as end_at
 use Rattle.pool_feed.specs.declared.next.FedLine.{FedLine}
@@ -53,7 +53,7 @@ whole_end end_at.ReadFault items taken rest bytes ended is front few whole e = c
 whole_end (end_at.Memory line) items taken rest bytes ended is front few whole e = cc e
 
 -- a feed that stops whole isn't left before its end
-fed_whole : (total tops : ℕ) (sets : List Agreement) (old new : FolderSeen) (feed : ℕ) (name : List ℕ) (f : Fate) (reading : Reading) (t : Telling) → old.told ≡ Some t → IsWellFeed t name → IsFed total tops sets old new feed name f reading → status_of_end f.report.end ≡ status.Feed → ⊥
+fed_whole : (total tops : ℕ) (sets : List Agreements) (old new : FolderSeen) (feed : ℕ) (name : List ℕ) (f : Fate) (reading : Reading) (t : Telling) → old.told ≡ Some t → IsWellFeed t name → IsFed total tops sets old new feed name f reading → status_of_end f.report.end ≡ status.Feed → ⊥
 fed_whole total tops sets old new feed name f reading t told well fed e =
     let front = front_bytes old.told t name reading.taken well.bytes told fed.front well.there in
     let ran = fed.ran in
@@ -65,7 +65,7 @@ well_after deeds t [] well = tt
 well_after deeds t (n ∷ names) well = (record { bytes = (well.0).bytes; there = (well.0).there; fits = (well.0).fits; whole = (well.0).whole }, well_after deeds t names well.1)
 
 -- the reports have the feeds' ends
-ends_are : (total : ℕ) (sets : List Agreement) (names : List (List ℕ)) (old new : FolderSeen) (reports : List PoolReport) (rest : ℕ) → (its : ArePooled total sets names old new reports rest) → end_of reports ≡ first_end (map (λ f. f.report.end) its.fates)
+ends_are : (total : ℕ) (sets : List Agreements) (names : List (List ℕ)) (old new : FolderSeen) (reports : List PoolReport) (rest : ℕ) → (its : ArePooled total sets names old new reports rest) → end_of reports ≡ first_end (map (λ f. f.report.end) its.fates)
 ends_are total sets names old new reports rest its =
     ap (λ rs. first_end (map (λ (r : PoolReport). r.end) rs)) (sym its.reported)
     ∙ ap first_end (map-map (λ (r : PoolReport). r.end) (λ (f : Fate). f.report) its.fates)

@@ -7,7 +7,7 @@ use Rattle.mh_io.specs.Folder.{Telling, file_of, FolderSeen}
 use Rattle.mh_io.specs.Limits.{most_bytes}
 use Rattle.mh_io.specs.Lines as cut
 use Rattle.mh_io.specs.Lines.{lines}
-use Rattle.csa_terms.specs.Terms.{Agreement}
+use Rattle.csa_terms.specs.Terms.{Agreements}
 use Rattle.feed_files.specs.CommandFiles.Grammars.{GivesTerms}
 
 -- the folder has a feed of this name, which isn't too long and stops whole
@@ -22,7 +22,7 @@ pub record IsWellFeed (t : Telling) (name : List ℕ) : Type 0 where
 pub record IsWellPool (terms_name : List ℕ) (feed_names : List (List ℕ)) (old new : FolderSeen) (out_old out_new : SinkSeen) : Type 0 where
   pub t : Telling
   pub terms_bytes : List ℕ
-  pub agreements : List Agreement
+  pub agreements : List Agreements
   pub told : old.told ≡ Some t
   pub has_terms : file_of t.files terms_name ≡ Some terms_bytes
   pub terms_fit : length terms_bytes ≤ most_bytes

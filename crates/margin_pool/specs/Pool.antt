@@ -2,7 +2,7 @@
 use Rattle.std.specs.Prelude.{ℕ, ◌≡◌, ◌<◌, ◌≤◌, List, length, map, codes, decimal, ◌++◌, ◌⊎◌}
 use Rattle.mh_io.specs.Sink.{SinkSeen}
 use Rattle.mh_io.specs.Folder.{FolderSeen}
-use Rattle.csa_terms.specs.Terms.{Agreement}
+use Rattle.csa_terms.specs.Terms.{Agreements}
 use Rattle.feed_runs.specs.declared.feed_end.FeedEnd.{FeedEnd}
 use Rattle.feed_runs.specs.declared.feed_end.FeedEnd.TheVariants as end_at
 use Rattle.fault_text.specs.Fields.{field, last_field}
@@ -22,13 +22,13 @@ use Rattle.margin_pool.specs.PoolText.{pool_text}
 use Rattle.margin_pool.specs.Pooled.{ArePooled}
 
 -- the terms file was read whole, with these agreements, and no count of faults fell
-pub record HasTerms (terms_name : List ℕ) (old new : FolderSeen) (agreements : List Agreement) : Type 0 where
+pub record HasTerms (terms_name : List ℕ) (old new : FolderSeen) (agreements : List Agreements) : Type 0 where
   pub read : IsRead old new no_deeds terms_name (λ bytes. GivesTerms bytes agreements)
   pub counts : KeepsCounts old new
 
 -- The terms were read, which have a set for each feed, and the feeds were run on the total that these sets share.
 pub record HasPooled (terms_name : List ℕ) (total : ℕ) (feed_names : List (List ℕ)) (old new : FolderSeen) (reports : List PoolReport) (rest : ℕ) : Type 0 where
-  pub agreements : List Agreement
+  pub agreements : List Agreements
   pub mid : FolderSeen
   pub terms : HasTerms terms_name old mid agreements
   pub sets : length feed_names ≤ length agreements
@@ -46,7 +46,7 @@ crowd_line sets feeds = field (codes "FAULT") ++ field (codes "POOL") ++ field (
 
 -- the terms were read, which have a set for each feed, and then no feed was run
 pub record PoolFails (terms_name : List ℕ) (feed_names : List (List ℕ)) (old new : FolderSeen) (f : Fault) : Type 0 where
-  pub agreements : List Agreement
+  pub agreements : List Agreements
   pub mid : FolderSeen
   pub terms : HasTerms terms_name old mid agreements
   pub sets : length feed_names ≤ length agreements
@@ -54,7 +54,7 @@ pub record PoolFails (terms_name : List ℕ) (feed_names : List (List ℕ)) (old
 
 -- the terms were read, which have fewer sets than there are feeds
 pub record IsCrowded (terms_name : List ℕ) (feed_names : List (List ℕ)) (old new : FolderSeen) : Type 0 where
-  pub agreements : List Agreement
+  pub agreements : List Agreements
   pub terms : HasTerms terms_name old new agreements
   pub fewer : length agreements < length feed_names
 

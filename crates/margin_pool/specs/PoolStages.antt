@@ -1,7 +1,7 @@
 -- The stages of a pool, each by itself.
 use Rattle.std.specs.Prelude.{ℕ, ◌≡◌, ◌<◌, List, Result, Ok, Err}
 use Rattle.mh_io.specs.Folder.{FolderSeen}
-use Rattle.csa_terms.specs.Terms.{Agreement}
+use Rattle.csa_terms.specs.Terms.{Agreements}
 use Rattle.feed_runs.specs.declared.feed_end.FeedEnd.{FeedEnd}
 use Rattle.feed_files.specs.CommandFiles.declared.status.Status.{Status}
 use Rattle.feed_files.specs.CommandFiles.declared.status.Status.TheVariants as status
@@ -22,7 +22,7 @@ Refuses sets feeds (fault.Refused line) = (sets < feeds) × (line ≡ crowd_line
 Refuses sets feeds fault.Memory = sets < feeds
 
 -- what running the feeds does
-abbrev pub FeedsEnd : ℕ → List Agreement → List (List ℕ) → FolderSeen → FolderSeen → Result Outcome Fault → Type 0
+abbrev pub FeedsEnd : ℕ → List Agreements → List (List ℕ) → FolderSeen → FolderSeen → Result Outcome Fault → Type 0
 FeedsEnd total sets names old new (Ok run) = ArePooled total sets names old new run.reports.items run.rest
 FeedsEnd total sets names old new (Err f) = FeedsFail names old new f
 

@@ -5,7 +5,7 @@ ghost use Rattle.feed_files.specs.CommandFiles.Files.{KeepsCounts};
 ghost use Rattle.margin_pool.specs.Pool.{crowd_line};
 ghost use Rattle.margin_pool.specs.PoolStages.{FeedsEnd, PoolFilesEnd, Refuses};
 
-use csa_terms::SetTerms;
+use csa_terms::BothTerms;
 use fault_text::{begun_line, push_last_number, push_number};
 use feed_files::command_files::{Fault, InputFile, read_terms_file};
 use feed_files::{find_feeds, take_all_back};
@@ -68,7 +68,7 @@ fn run_feed_files<'a, R: Threads + Wait + Sync, F: Folder, G: Gate>(
     rt: &R,
     alloc: Global,
     files: PoolFiles<'a>,
-    sets: &[SetTerms],
+    sets: &[BothTerms],
     folder: &mut F,
     gate: &G,
 ) -> Result<Outcome, Fault<'a>>

@@ -6,7 +6,9 @@ use Rattle.std.proofs.lemmas.List.Concat.{length-flat_map}
 use Rattle.std.proofs.lemmas.List.Sums.{sum_by-le}
 use Rattle.std.proofs.lemmas.Option.{slice_get_within, slice_get_cases, get_or_from_slice_get}
 use Rattle.held_cell.specs.declared.entry.Entry.{Entry}
+use Rattle.simm_kinds.specs.declared.margin_side.MarginSide.TheVariants.{Collect}
 use Rattle.set_core.specs.declared.event.Event.{Event}
+use Rattle.set_core.specs.declared.event.Event.TheVariants as event
 use Rattle.set_core.specs.declared.reply.Reply.{Reply}
 use Rattle.set_core.specs.declared.reply.Reply.TheVariants as reply
 use Rattle.set_core.specs.Set.{entry_at}
@@ -15,21 +17,20 @@ use Rattle.margin_run.specs.Notices.{notices_by}
 
 -- of the entries of a journal of the set of this name
 abbrev pub notices_in : List ℕ → List (Entry Event Reply) → List Notice
-notices_in name log = flat_map (λ e. notices_by name e.reply) log
+notices_in name log = flat_map (λ e. notices_by name e.event e.reply) log
 
-at_most_one : (name : List ℕ) (r : Reply) → length (notices_by name r) ≤ 1
-at_most_one name reply.Accepted = omega arith
-at_most_one name (reply.Refused why) = omega arith
-at_most_one name (reply.Margin b) = omega arith
-at_most_one name (reply.Called note) = omega arith
-at_most_one name (reply.NoCall excess margin booked) = omega arith
+at_most_one : (name : List ℕ) (e : Event) (r : Reply) → length (notices_by name e r) ≤ 1
+at_most_one name (event.OnSide Collect asked) (reply.Called note) = omega arith
+at_most_one name (event.OnSide Collect asked) _ = omega arith
+at_most_one name _ r = omega arith
 
 pub few_notices : (name : List ℕ) (log : List (Entry Event Reply)) → length (notices_in name log) ≤ length log
 few_notices name log =
     omega (
       arith,
-      length-flat_map (λ (e : Entry Event Reply). notices_by name e.reply) log,
-      sum_by-le (λ (e : Entry Event Reply). length (notices_by name e.reply)) 1 log (λ k d inside. at_most_one name (slice_index_or log k d).reply),
+      length-flat_map (λ (e : Entry Event Reply). notices_by name e.event e.reply) log,
+      sum_by-le (λ (e : Entry Event Reply). length (notices_by name e.event e.reply)) 1 log
+          (λ k d inside. let e = slice_index_or log k d in at_most_one name e.event e.reply),
     )
 
 at_next : (log : List (Entry Event Reply)) (i : ℕ) (e : Entry Event Reply) → Some e ≡ entry_at log (i + 1) → slice_get log i ≡ Some e
@@ -37,15 +38,15 @@ at_next log i e got = sym (subst (λ k. Some e ≡ entry_at log k) (add-one i) g
 
 -- the notices of the entries before the one at i, and then its own
 pub notices_more : (name : List ℕ) (log : List (Entry Event Reply)) (i : ℕ) (e : Entry Event Reply) (first before now : List Notice)
-    → Some e ≡ entry_at log (i + 1) → before ≡ first ++ notices_in name (take i log) → now ≡ before ++ notices_by name e.reply
+    → Some e ≡ entry_at log (i + 1) → before ≡ first ++ notices_in name (take i log) → now ≡ before ++ notices_by name e.event e.reply
     → now ≡ first ++ notices_in name (take (i + 1) log)
 notices_more name log i e first before now got so more =
     let there = at_next log i e got in
     let split : take (i + 1) log ≡ take i log ++ e ∷ [] =
     take_more log i e (slice_get_within log i e there) ∙ ap (λ x. take i log ++ x ∷ []) (get_or_from_slice_get log i e e there) in
     more
-    ∙ (ap (λ ns. ns ++ notices_by name e.reply) so
-    ∙ (flat_map_more (λ (x : Entry Event Reply). notices_by name x.reply) first (take i log) e ∙ ap (λ es. first ++ notices_in name es) (sym split)))
+    ∙ (ap (λ ns. ns ++ notices_by name e.event e.reply) so
+    ∙ (flat_map_more (λ (x : Entry Event Reply). notices_by name x.event x.reply) first (take i log) e ∙ ap (λ es. first ++ notices_in name es) (sym split)))
 
 -- no place of the journal is without an entry
 pub entry_there : (log : List (Entry Event Reply)) (i : ℕ) → None ≡ entry_at log (i + 1) → i < length log → ⊥

@@ -6,7 +6,7 @@ use Rattle.mh_io.specs.Folder.{FolderSeen}
 use Rattle.simm_rules.specs.Params.{Params}
 use Rattle.params_file.specs.Grammar.{params_of}
 use Rattle.csa_terms.specs.Grammar.{terms_of}
-use Rattle.csa_terms.specs.Terms.{Agreement}
+use Rattle.csa_terms.specs.Terms.{Agreements}
 use Rattle.set_core.specs.Set.{Set, start}
 use Rattle.feed_gate.specs.declared.report.FeedReport.{FeedReport}
 use Rattle.feed_gate.specs.Sets.{AreApart}
@@ -24,7 +24,7 @@ use Rattle.feed_files.proofs.CommandFiles.FileLemmas.{did_more}
 use Rattle.feed_files.proofs.CommandFiles.AfterParamsLemmas.{whole_before}
 
 -- both files were read
-pub inputs_read : (old mid new : FolderSeen) (pn tn : List ℕ) (p : Params) (agreements : List Agreement) → IsRead old mid no_deeds pn (λ bytes. params_of bytes ≡ Some p) → IsRead mid new no_deeds tn (λ bytes. terms_of bytes ≡ Ok agreements) → old.find_faults ≤ new.find_faults → old.read_faults ≤ new.read_faults → HasInputs pn tn old new p agreements
+pub inputs_read : (old mid new : FolderSeen) (pn tn : List ℕ) (p : Params) (agreements : List Agreements) → IsRead old mid no_deeds pn (λ bytes. params_of bytes ≡ Some p) → IsRead mid new no_deeds tn (λ bytes. terms_of bytes ≡ Ok agreements) → old.find_faults ≤ new.find_faults → old.read_faults ≤ new.read_faults → HasInputs pn tn old new p agreements
 inputs_read old mid new pn tn p agreements first second finds reads = record {
   param_bytes = first.bytes;
   param_faults = first.faults;
@@ -41,7 +41,7 @@ inputs_read old mid new pn tn p agreements first second finds reads = record {
 -- ---- the sets
 
 -- the sets of the terms have these terms
-start_terms : (p : Params) (agreements : List Agreement) → map (λ s. s.terms) (map (start p) agreements) ≡ agreements
+start_terms : (p : Params) (agreements : List Agreements) → map (λ s. s.terms) (map (start p) agreements) ≡ agreements
 start_terms p [] = refl
 start_terms p (t ∷ ts) = ap (λ us. t ∷ us) (start_terms p ts)
 
@@ -53,7 +53,7 @@ run_terms n (s ∷ old) [] all = absurd all
 run_terms n (s ∷ old) (t ∷ new) all = ap (λ u. u ∷ map (λ (x : Set). x.terms) new) all.0.terms ∙ ap (λ us. s.terms ∷ us) (run_terms n old new all.1)
 
 -- the feeds were run on the sets of the terms
-pub has_run : (old mid new : FolderSeen) (pn tn : List ℕ) (fns : List (List ℕ)) (p : Params) (agreements : List Agreement) (started sets : List Set) (reports : List FeedReport) → HasInputs pn tn old mid p agreements → started ≡ map (start p) agreements → AreApart started → AreFed fns mid new started sets reports → HasRun pn tn fns old new sets reports × (agreements ≡ map (λ s. s.terms) sets) × (length sets ≤ 16)
+pub has_run : (old mid new : FolderSeen) (pn tn : List ℕ) (fns : List (List ℕ)) (p : Params) (agreements : List Agreements) (started sets : List Set) (reports : List FeedReport) → HasInputs pn tn old mid p agreements → started ≡ map (start p) agreements → AreApart started → AreFed fns mid new started sets reports → HasRun pn tn fns old new sets reports × (agreements ≡ map (λ s. s.terms) sets) × (length sets ≤ 16)
 has_run old mid new pn tn fns p agreements started sets reports inputs begun apart fed =
     let same = run_terms (length fns) started sets fed.sets in (
       record { p = p; agreements = agreements; mid = mid; inputs = inputs; fed = subst (λ ss. AreFed fns mid new ss sets reports) begun fed },
@@ -62,7 +62,7 @@ has_run old mid new pn tn fns p agreements started sets reports inputs begun apa
     )
 
 -- no feed was run
-pub no_run : (old mid new : FolderSeen) (pn tn : List ℕ) (fns : List (List ℕ)) (p : Params) (agreements : List Agreement) (f : Fault) → HasInputs pn tn old mid p agreements → FeedsFail fns mid new f → RunCause pn tn fns old new f
+pub no_run : (old mid new : FolderSeen) (pn tn : List ℕ) (fns : List (List ℕ)) (p : Params) (agreements : List Agreements) (f : Fault) → HasInputs pn tn old mid p agreements → FeedsFail fns mid new f → RunCause pn tn fns old new f
 no_run old mid new pn tn fns p agreements (fault.OfFile input.Feed name f) inputs fails = record { p = p; agreements = agreements; mid = mid; inputs = inputs; fails = fails }
 no_run old mid new pn tn fns p agreements (fault.OfFile _ name f) inputs fails = absurd fails
 no_run old mid new pn tn fns p agreements (fault.Refused line) inputs fails = absurd fails

@@ -8,7 +8,7 @@ use Rattle.mh_io.specs.Limits.{most_bytes}
 use Rattle.simm_rules.specs.Params.{Params}
 use Rattle.params_file.specs.Grammar.{params_of}
 use Rattle.csa_terms.specs.Grammar.{terms_of}
-use Rattle.csa_terms.specs.Terms.{Agreement}
+use Rattle.csa_terms.specs.Terms.{Agreements}
 use Rattle.feed_reader.specs.Feed.{Whole, feed}
 use Rattle.margin_run.specs.Desks.{Desks}
 
@@ -27,7 +27,7 @@ pub record IsWellRun {B : Type 0} (params_name terms_name : List ℕ) (feed_name
   pub param_bytes : List ℕ
   pub terms_bytes : List ℕ
   pub p : Params
-  pub agreements : List Agreement
+  pub agreements : List Agreements
   pub told : old.told ≡ Some t
   pub has_params : file_of t.files params_name ≡ Some param_bytes
   pub has_terms : file_of t.files terms_name ≡ Some terms_bytes

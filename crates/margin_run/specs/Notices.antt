@@ -2,20 +2,24 @@
 -- (ISDA 2016 Credit Support Annex for Initial Margin: the demand for a Delivery Amount or a Return Amount is given to the other side.)
 use Rattle.std.specs.Prelude.{List, [], ◌∷◌, ℕ}
 use Rattle.std.specs.List.{flat_map}
+use Rattle.simm_kinds.specs.declared.margin_side.MarginSide.TheVariants.{Collect}
+use Rattle.set_core.specs.declared.event.Event.{Event}
+use Rattle.set_core.specs.declared.event.Event.TheVariants as event
 use Rattle.set_core.specs.declared.reply.Reply.{Reply}
 use Rattle.set_core.specs.declared.reply.Reply.TheVariants as reply
 use Rattle.set_core.specs.Set.{Set}
 use Rattle.call_desk.specs.declared.notice.Notice.{Notice}
 
--- of a reply in the set of this name: one where it makes a call, else none
-abbrev pub notices_by : List ℕ → Reply → List Notice
-notices_by name (reply.Called note) =
+-- of an event and its reply in the set of this name: one where it makes a call of what the set
+-- collects, else none; a call of what it posts is the other side's demand
+abbrev pub notices_by : List ℕ → Event → Reply → List Notice
+notices_by name (event.OnSide Collect asked) (reply.Called note) =
     record { set = name; number = note.number; flow = note.flow; amount = note.amount; due = note.due } ∷ []
-notices_by name _ = []
+notices_by name _ _ = []
 
 -- of a set, in the order of its journal
 abbrev pub set_notices : Set → List Notice
-set_notices s = flat_map (λ e. notices_by s.terms.name e.reply) s.journal
+set_notices s = flat_map (λ e. notices_by s.terms.collect.name e.event e.reply) s.journal
 
 -- set after set
 abbrev pub notices : List Set → List Notice

@@ -5,7 +5,7 @@ use Rattle.mh_io.specs.Sink.{SinkSeen}
 use Rattle.mh_io.specs.Folder.{FolderSeen}
 use Rattle.simm_rules.specs.Params.{Params}
 use Rattle.csa_terms.specs.Grammar.{terms_of}
-use Rattle.csa_terms.specs.Terms.{Agreement}
+use Rattle.csa_terms.specs.Terms.{Agreements}
 use Rattle.set_core.specs.Set.{Set, start}
 use Rattle.feed_runs.specs.declared.feed_end.FeedEnd.{FeedEnd}
 use Rattle.feed_runs.specs.declared.feed_end.FeedEnd.TheVariants as end_at
@@ -29,7 +29,7 @@ use Rattle.feed_files.specs.CommandFiles.Ending.{EndsAtFault}
 use Rattle.feed_files.specs.CommandFiles.AfterParams.{HasParams, FailsAfterParams}
 
 -- the parameter file and then the terms file were read whole, with these values, and no count of faults fell
-pub record HasInputs (params_name terms_name : List ℕ) (old new : FolderSeen) (p : Params) (agreements : List Agreement) : Type 0 where
+pub record HasInputs (params_name terms_name : List ℕ) (old new : FolderSeen) (p : Params) (agreements : List Agreements) : Type 0 where
   pub param_bytes : List ℕ
   pub param_faults : ℕ
   pub terms_bytes : List ℕ
@@ -44,7 +44,7 @@ pub record HasInputs (params_name terms_name : List ℕ) (old new : FolderSeen) 
 -- Both files were read, and the feeds were run on the sets of the terms.
 pub record HasRun (params_name terms_name : List ℕ) (feed_names : List (List ℕ)) (old new : FolderSeen) (sets : List Set) (reports : List FeedReport) : Type 0 where
   pub p : Params
-  pub agreements : List Agreement
+  pub agreements : List Agreements
   pub mid : FolderSeen
   pub inputs : HasInputs params_name terms_name old mid p agreements
   pub fed : AreFed feed_names mid new (map (start p) agreements) sets reports
@@ -56,13 +56,13 @@ feeds_text from names (r ∷ reports) = feed_text from names r.done r.refused r.
 
 -- the printed journal of a set
 abbrev pub journal_of : Set → List ℕ
-journal_of set = journal_text set.terms.name set.journal
+journal_of set = journal_text set.terms.collect.name set.journal
 
 -- all that is printed: the sets' journals in the order of the terms, and then what became of the feeds in the order of the words
 abbrev pub run_text : List Set → List FeedReport → List ℕ
 run_text sets reports =
     flat_map journal_of sets
-    ++ feeds_text 0 (map (λ s. s.terms.name) sets) reports
+    ++ feeds_text 0 (map (λ s. s.terms.collect.name) sets) reports
 
 -- how the first feed ended that didn't end whole, or that all did
 abbrev pub end_of : List FeedReport → FeedEnd
@@ -73,7 +73,7 @@ end_of reports = first_end (map (λ r. r.end) reports)
 -- both files were read, and then no feed was run
 pub record RunFails (params_name terms_name : List ℕ) (feed_names : List (List ℕ)) (old new : FolderSeen) (f : Fault) : Type 0 where
   pub p : Params
-  pub agreements : List Agreement
+  pub agreements : List Agreements
   pub mid : FolderSeen
   pub inputs : HasInputs params_name terms_name old mid p agreements
   pub fails : FeedsFail feed_names mid new f

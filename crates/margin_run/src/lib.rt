@@ -1,5 +1,5 @@
 //! A run of feeds on the netting sets of a terms file: the files are read, the feeds run at the same time, the journals and
-//! what became of the feeds are printed, and desks are told the calls that were made; or one fault line is printed.
+//! what became of the feeds are printed, and desks are told the calls of what was collected; or one fault line is printed.
 #![tactic(auto)]
 
 mod feeds_run;

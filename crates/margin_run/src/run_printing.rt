@@ -6,7 +6,7 @@ ghost use Rattle.feed_files.specs.CommandFiles.Texts.{TextGoes};
 ghost use Rattle.margin_run.specs.Run.{journal_of, feeds_text, run_text};
 
 use crate::run_files::Outcome;
-use csa_terms::SetTerms;
+use csa_terms::BothTerms;
 use feed_files::command_files::{Printed, put_texts};
 use feed_gate::FeedReport;
 use margin_text::{journal_text, push_report};
@@ -21,7 +21,7 @@ use std::thread::{Threads, map_indices};
 fn journal(alloc: Global, set: &SetState) -> Result<Text, AllocError>
     ensures { IfOk result (λ text. text ≡ journal_of set.now) }
 {
-    journal_text(alloc, set, set.terms().name())
+    journal_text(alloc, set, set.name())
 }
 
 /// Takes texts out that were made each by itself, where there was memory for all of them.
@@ -59,11 +59,11 @@ fn journals<R: Threads + Sync>(
 /// Adds what became of the feeds, in their order.
 fn push_reports(
     text: &mut Text,
-    terms: &[SetTerms],
+    terms: &[BothTerms],
     reports: &[FeedReport],
 ) -> Result<(), AllocError>
     requires { length reports.now ≤ 32 }
-    ensures { OnOk result (text.new ≡ text.old ++ feeds_text 0 (map (λ t. t.name) terms.now) reports.now) }
+    ensures { OnOk result (text.new ≡ text.old ++ feeds_text 0 (map (λ t. t.collect.name) terms.now) reports.now) }
 {
     let mut feed = 0;
     for report in reports {

@@ -18,7 +18,7 @@ use std::sync::Wait;
 use std::thread::Threads;
 
 /// Runs feeds at the same time on the netting sets of a terms file, prints each set's journal and what became of each feed,
-/// and tells each desk the calls that were made.
+/// and tells each desk the calls of what the sets collect.
 ///
 /// With status `Done` and `Desk` the sink got all of the text; with `Feed`, and with `Read` where a feed couldn't be read
 /// to its end, the same or a front of it where the sink failed: the whole messages before a feed's end were done. With

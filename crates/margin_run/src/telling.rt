@@ -5,20 +5,24 @@ ghost use Rattle.call_desk.specs.Publish.{Outcome, Publishes};
 ghost use Rattle.margin_run.specs.Notices.{notices_by, set_notices, notices};
 
 use call_desk::{Desk, Notice, Published, publish};
-use set_core::{Entry, Reply, SetState};
-use simm_kinds::Name;
+use set_core::{Entry, Event, Reply, SetState};
+use simm_kinds::{MarginSide, Name};
 use std::alloc::{AllocError, Global};
 
-/// Adds the notice of an entry in the set of this name, where it made a call.
+/// Adds the notice of an entry in the set of this name, where it made a call of what the set
+/// collects. A call of what it posts is the other side's demand.
 fn push_notice(
     alloc: Global,
     notices: &mut Vec<Notice>,
     set: &Name,
     entry: &Entry,
 ) -> Result<(), AllocError>
-    ensures { OnOk result (notices.new.items ≡ notices.old.items ++ notices_by set.now entry.now.reply) }
+    ensures { OnOk result (notices.new.items ≡ notices.old.items ++ notices_by set.now entry.now.event entry.now.reply) }
 {
-    if let Reply::Called(note) = &entry.reply {
+    let Event::OnSide { side, .. } = &entry.event else {
+        return Ok(());
+    };
+    if let (MarginSide::Collect, Reply::Called(note)) = (*side, &entry.reply) {
         let notice = Notice {
             set: set.copy(alloc)?,
             number: note.number,
@@ -39,7 +43,7 @@ fn push_notices(alloc: Global, notices: &mut Vec<Notice>, set: &SetState) -> Res
     set.facts();
     for index in 0..set.entries() {
         if let Some(entry) = set.entry(index + 1) {
-            push_notice(alloc, notices, set.terms().name(), entry)?;
+            push_notice(alloc, notices, set.name(), entry)?;
         }
     }
     Ok(())

@@ -9,7 +9,7 @@ use Rattle.simm_kinds.specs.declared.row.TradeRows.{TradeRows}
 use Rattle.simm_kinds.specs.Batch.{rows_of}
 use Rattle.simm_kinds.specs.Order.{same_name}
 use Rattle.simm_rules.specs.Range.{range}
-use Rattle.feed_reader.specs.CsaTerms.Terms.{Agreement}
+use Rattle.feed_reader.specs.CsaTerms.Terms.{Agreements}
 use Rattle.held_cell.specs.declared.entry.Entry.{Entry}
 use Rattle.held_cell.specs.Entries.{entry}
 use Rattle.set_core.specs.declared.event.Event.{Event}
@@ -67,7 +67,7 @@ record Next (before : Log) (e : Entry Event Reply) : Type 0 where
   taken : IsTaken e
   held : book (before ++ e ∷ []) ≡ trades_in before ++ trades_of_event e.event
 
-module _ (t : Agreement) (before : Log) (is : book before ≡ trades_in before) where
+module _ (t : Agreements) (before : Log) (is : book before ≡ trades_in before) where
   put_in : (caller : ℕ) (u : TradeRows) → has_trade (trades_in before) u.trade ≡ false → AreDifferent (trades_in before)
       → book (before ++ entry caller (event.Submit (u ∷ [])) reply.Accepted ∷ []) ≡ trades_in before ++ u ∷ []
   put_in caller u new different =
@@ -101,9 +101,9 @@ module _ (t : Agreement) (before : Log) (is : book before ≡ trades_in before) 
       (omega (arith, few, length-append (trades_in before) (trades ++ after), length-append trades after, ap length call.is)))
   next caller (event.Withdraw names) r after call right distinct drawn few = absurd call
   next caller (event.Tables text) r after call right distinct drawn few = absurd call
-  next caller (event.OnSide e) r after call right distinct drawn few = record {
+  next caller (event.OnSide on e) r after call right distinct drawn few = record {
     taken = tt;
-    held = silent (entry caller (event.OnSide e) r) (λ name. no_word (is_accepted r)) (no_trades (is_accepted r)) refl;
+    held = silent (entry caller (event.OnSide on e) r) (λ name. no_word (is_accepted r)) (no_trades (is_accepted r)) refl;
   }
     where
       no_word : (b : Bool) → cond b Silent Silent ≡ Silent
@@ -120,7 +120,7 @@ pub record AllTaken (log : Log) : Type 0 where
   pub taken : AllByRecursion IsTaken log
   pub held : book log ≡ trades_in log
 
-module _ (t : Agreement) (log : Log) (legal : IsLegal sample_params t log) (calls : AllByRecursion (λ e. IsCall e.event) log) where
+module _ (t : Agreements) (log : Log) (legal : IsLegal sample_params t log) (calls : AllByRecursion (λ e. IsCall e.event) log) where
   trades_behind : (before : Log) (e : Entry Event Reply) → trades_in (before ++ e ∷ []) ≡ trades_in before ++ trades_of_event e.event
   trades_behind before e =
       flat_map-append (λ (x : Entry Event Reply). trades_of_event x.event) before (e ∷ []) ∙ ap (λ ts. trades_in before ++ ts) (append-nil (trades_of_event e.event))
@@ -148,7 +148,7 @@ module _ (t : Agreement) (log : Log) (legal : IsLegal sample_params t log) (call
       call_drawn (event.Submit trades) call = subst (AllByRecursion IsDrawn) (sym call.is) (call.drawn, tt)
       call_drawn (event.Withdraw names) call = absurd call
       call_drawn (event.Tables text) call = absurd call
-      call_drawn (event.OnSide ev) call = tt
+      call_drawn (event.OnSide on ev) call = tt
 
   pub all_taken : IsDistinct same_trade (trades_in log) → length (trades_in log) ≤ 800 → AllTaken log
   all_taken distinct few = along [] log refl tt refl distinct tt few

@@ -8,6 +8,7 @@ use Rattle.std.specs.Result.{result_ok}
 use Rattle.crif_reader.specs.Grammar.{crif_of}
 use Rattle.simm_kinds.specs.declared.row.TradeRows.{TradeRows}
 use Rattle.simm_kinds.specs.Batch.{rows_of}
+use Rattle.simm_kinds.specs.declared.margin_side.MarginSide.TheVariants.{Collect}
 use Rattle.simm_kinds.specs.Order.{same_name}
 use Rattle.book_range.proofs.Lists.{each_append}
 use Rattle.feed_reader.specs.SideEvents.declared.side_event.SideEvent.TheVariants as side
@@ -69,7 +70,7 @@ place_is n = two (n % 2) (mod_below n 2 (omega arith))
 abbrev both_messages : ℕ → ℕ → ℕ → List ℕ → List Item
 both_messages line behind place text =
     Sent (record { line = line; message = message.Crif (set_name place) text })
-    ∷ Sent (record { line = behind; message = message.OnSide (set_name place) side.AskMargin })
+    ∷ Sent (record { line = behind; message = message.OnSide (set_name place) Collect side.AskMargin })
     ∷ []
 
 module _ (line behind : ℕ) (text : List ℕ) (trades : List TradeRows) (back : crif_of text ≡ Ok (record { trades = trades; passed_over = 0 })) where
@@ -94,13 +95,13 @@ module _ (line behind : ℕ) (text : List ℕ) (trades : List TradeRows) (back :
       full_at_most line 1 (event.Submit trades) r
       (subst (λ read. IsMetBy (by_event line 1 read) r) submits (subst (λ k. IsMet both_names (record { item = Sent (record { line = line; message = message.Crif (set_name k) text }); refused = r })) e h))
 
-  ask_met : (from : ℕ) → IsPlace from → (r : Option RefusedMessage) → IsMet both_names (record { item = Sent (record { line = behind; message = message.OnSide (set_name from) side.AskMargin }); refused = r }) → IsFullAtMost r
+  ask_met : (from : ℕ) → IsPlace from → (r : Option RefusedMessage) → IsMet both_names (record { item = Sent (record { line = behind; message = message.OnSide (set_name from) Collect side.AskMargin }); refused = r }) → IsFullAtMost r
   ask_met from (inl e) r h =
       full_at_most behind 0 asks r
-      (subst (λ k. IsMet both_names (record { item = Sent (record { line = behind; message = message.OnSide (set_name k) side.AskMargin }); refused = r })) e h)
+      (subst (λ k. IsMet both_names (record { item = Sent (record { line = behind; message = message.OnSide (set_name k) Collect side.AskMargin }); refused = r })) e h)
   ask_met from (inr e) r h =
       full_at_most behind 1 asks r
-      (subst (λ k. IsMet both_names (record { item = Sent (record { line = behind; message = message.OnSide (set_name k) side.AskMargin }); refused = r })) e h)
+      (subst (λ k. IsMet both_names (record { item = Sent (record { line = behind; message = message.OnSide (set_name k) Collect side.AskMargin }); refused = r })) e h)
 
   where_named : (t : Bool) (one e : Event) → event_rows one ≤ 4 → cond t (Some one) None ≡ Some e → event_rows e ≤ 4
   where_named true one e few h = subst (λ x. event_rows x ≤ 4) (same_Some one e h) few
@@ -111,7 +112,7 @@ module _ (line behind : ℕ) (text : List ℕ) (trades : List TradeRows) (back :
       where_named (same_name set name) (event.Submit trades) e few
       (subst (λ read. cond (same_name set name) (result_ok read) None ≡ Some e) submits h)
 
-  ask_few : (set name : List ℕ) (e : Event) → call_on name (Sent (record { line = behind; message = message.OnSide set side.AskMargin })) ≡ Some e → event_rows e ≤ 4
+  ask_few : (set name : List ℕ) (e : Event) → call_on name (Sent (record { line = behind; message = message.OnSide set Collect side.AskMargin })) ≡ Some e → event_rows e ≤ 4
   ask_few set name e h = where_named (same_name set name) asks e (omega arith) h
 
   both_calling : length (rows_of trades) ≤ 4 → (from : ℕ) → IsPlace from → AllByRecursion IsCalling (both_messages line behind from text)

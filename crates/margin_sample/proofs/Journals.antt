@@ -149,7 +149,7 @@ abbrev pub IsCall : Event → Type 0
 IsCall (event.Submit trades) = IsOneDrawn trades
 IsCall (event.Withdraw names) = ⊥
 IsCall (event.Tables text) = ⊥
-IsCall (event.OnSide e) = Unit {0}
+IsCall (event.OnSide on e) = Unit {0}
 
 feed_known : (seed feed place n : ℕ) → AllByRecursion IsCall (calls_to seed feed place n)
 unfolding calls_to
@@ -169,7 +169,7 @@ same_tables p (e ∷ log) calls = ap (λ q. tables q log) (stands e.event (is_ac
     stands (event.Submit trades) true call = refl
     stands (event.Withdraw names) true call = absurd call
     stands (event.Tables text) true call = absurd call
-    stands (event.OnSide e) true call = refl
+    stands (event.OnSide on e) true call = refl
     stands e false call = refl
 
 -- ---- the trades of a journal

@@ -6,7 +6,7 @@ use Rattle.std.proofs.lemmas.Bool.{and_parts, cases_lt}
 use Rattle.mh_io.specs.Memory.{MemorySource, source_seen}
 use Rattle.mh_io.specs.Source.{Takes}
 use Rattle.feed_reader.specs.Feed.{Whole, FeedRun, feed}
-use Rattle.feed_reader.specs.CsaTerms.Terms.{Agreement}
+use Rattle.feed_reader.specs.CsaTerms.Terms.{Agreements}
 use Rattle.set_core.specs.Set.{Set, start}
 use Rattle.feed_runs.specs.declared.feed_end.FeedEnd.{FeedEnd}
 use Rattle.feed_runs.specs.declared.feed_end.FeedEnd.TheVariants as end_at
@@ -28,8 +28,8 @@ use Rattle.margin_sample.proofs.SetFed.{set_fed}
 record IsFeedOf (seed feed : ℕ) (sets : List Set) : Type 0 where
   mets : List Met
   items : map (λ m. m.item) mets ≡ messages_of seed feed
-  met : AllByRecursion (IsMet (map (λ s. s.terms.name) sets)) mets
-  each : AllByRecursion (λ s. IsFedBy feed mets s.terms.name s.journal) sets
+  met : AllByRecursion (IsMet (map (λ s. s.terms.collect.name) sets)) mets
+  each : AllByRecursion (λ s. IsFedBy feed mets s.terms.collect.name s.journal) sets
 
 whole_end : (end : FeedEnd) → is_whole end ≡ true → end ≡ end_at.End
 whole_end end_at.End h = refl
@@ -101,9 +101,9 @@ both_fed feeds seed [] many kept each = absurd kept
 both_fed feeds seed (s ∷ []) many kept each = absurd kept.1
 both_fed feeds seed (s ∷ t ∷ u ∷ more) many kept each = absurd kept.1.1
 both_fed feeds seed (s ∷ t ∷ []) many kept each =
-    let first : s.terms.name ≡ set_name 0 = ap (λ (a : Agreement). a.name) kept.0.terms in
-    let second : t.terms.name ≡ set_name 1 = ap (λ (a : Agreement). a.name) kept.1.0.terms in
-    let names : s.terms.name ∷ t.terms.name ∷ [] ≡ both_names = λ i. first i ∷ second i ∷ [] in
+    let first : s.terms.collect.name ≡ set_name 0 = ap (λ (a : Agreements). a.collect.name) kept.0.terms in
+    let second : t.terms.collect.name ≡ set_name 1 = ap (λ (a : Agreements). a.collect.name) kept.1.0.terms in
+    let names : s.terms.collect.name ∷ t.terms.collect.name ∷ [] ≡ both_names = λ i. first i ∷ second i ∷ [] in
     record {
       first = s;
       second = t;

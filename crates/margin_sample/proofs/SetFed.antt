@@ -18,7 +18,7 @@ use Rattle.set_core.specs.Set.{Set, start}
 use Rattle.set_core.proofs.Names.{same_name_sym}
 use Rattle.feed_gate.specs.SetsRun.{IsRun}
 use Rattle.house_sample.specs.Parameters.{sample_params}
-use Rattle.house_sample.specs.Agreements.{set_name, agreement}
+use Rattle.house_sample.specs.Agreements.{set_name, agreements}
 use Rattle.house_sample.specs.Trades.{row_from, rows_from, all_trades}
 use Rattle.house_sample.proofs.InRange.{IsDrawn}
 use Rattle.house_sample.proofs.AllTrades.{IsPlace, same_trade, all_apart, all_count, all_drawn}
@@ -37,7 +37,7 @@ sensitive (t ∷ ts) h =
     rows_sensitive : (x : ℕ) → AllByRecursion IsSensitive (rows_from x)
     rows_sensitive x = (tt, (tt, (tt, (tt, tt))))
 
-pub set_fed : (feeds seed place : ℕ) (s : Set) → IsPlace place → feeds ≤ 32 → IsRun feeds (start sample_params (agreement (set_name place))) s
+pub set_fed : (feeds seed place : ℕ) (s : Set) → IsPlace place → feeds ≤ 32 → IsRun feeds (start sample_params (agreements (set_name place))) s
     → ((feed : ℕ) → feed < feeds → HasRun seed place feed s.journal) → IsFed feeds seed place s
 set_fed feeds seed place s at many kept runs =
     let log : Log = s.journal in

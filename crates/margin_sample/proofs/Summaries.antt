@@ -1,9 +1,10 @@
 -- The text of sets that are asked one after another.
 use Rattle.std.proofs.Common.{◌≡◌, ℕ, ◌+◌, ◌*◌, List, [], ◌∷◌, ◌++◌, refl, sym, ap, ◌∙◌, subst, append_assoc, append-nil, codes, drop, length, length-append, length-drop, Result, Ok, Err, IfOk, arith}
 use Rattle.std.specs.Fmt.{decimal}
+use Rattle.simm_kinds.specs.declared.margin_side.MarginSide.TheVariants.{Collect}
 use Rattle.simm_rules.specs.declared.values.Breakdown.{Breakdown}
 use Rattle.set_core.specs.Set.{Set}
-use Rattle.feed_reader.specs.CsaTerms.Terms.{Agreement}
+use Rattle.feed_reader.specs.CsaTerms.Terms.{Agreements}
 use Rattle.feed_reader.specs.SideEvents.declared.side_event.SideEvent.TheVariants as side
 use Rattle.held_cell.specs.Entries.{entry}
 use Rattle.set_core.specs.declared.event.Event.TheVariants as event
@@ -49,9 +50,9 @@ module _ (feeds seed place : ℕ) (fed s : Set) (b : Breakdown) (its : IsFed fee
 
   its_text : asked_text s b ≡ set_text feeds seed place
   its_text =
-      let name : s.terms.name ≡ set_name place = ap (λ (a : Agreement). a.name) (asked.terms ∙ its.terms) in
+      let name : s.terms.collect.name ≡ set_name place = ap (λ (a : Agreements). a.collect.name) (asked.terms ∙ its.terms) in
       let count : length s.journal ≡ 50 * feeds + 1 =
-      omega (arith, ap length asked.last, its.count, length-append fed.journal (entry 0 (event.OnSide side.AskMargin) (reply.Margin b) ∷ [])) in
+      omega (arith, ap length asked.last, its.count, length-append fed.journal (entry 0 (event.OnSide Collect side.AskMargin) (reply.Margin b) ∷ [])) in
       λ i. field (codes "SET") ++ field (name i) ++ last_field (decimal (count i)) ++ margin_text (margin_is i)
 
   its_sampled : IsSampled feeds seed place

@@ -1,13 +1,14 @@
 -- The calls that a feed of a sample makes on a set.
 use Rattle.std.specs.Prelude.{ℕ, zero, suc, ◌==◌, List, [], ◌∷◌, ◌++◌, if◌then◌else◌}
+use Rattle.simm_kinds.specs.declared.margin_side.MarginSide.TheVariants.{Collect}
 use Rattle.set_core.specs.declared.event.Event.{Event}
 use Rattle.set_core.specs.declared.event.Event.TheVariants as event
 use Rattle.feed_reader.specs.SideEvents.declared.side_event.SideEvent.TheVariants as side
 use Rattle.house_sample.specs.Trades.{batch_at, place_of, batches}
 
--- a question after the margin
+-- a question after the margin that is collected
 abbrev pub asks : Event
-asks = event.OnSide side.AskMargin
+asks = event.OnSide Collect side.AskMargin
 
 -- a batch, and behind it a question
 abbrev pub calls_at : ℕ → ℕ → ℕ → List Event

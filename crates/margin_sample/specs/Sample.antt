@@ -3,6 +3,7 @@ use Rattle.std.specs.Prelude.{ℕ, ◌≡◌, ◌+◌, ◌*◌, List, [], ◌∷
 use Rattle.mh_io.specs.Faults.{Rises}
 use Rattle.mh_io.specs.Sink.{SinkSeen}
 use Rattle.simm_kinds.specs.Batch.{rows_of}
+use Rattle.simm_kinds.specs.declared.margin_side.MarginSide.TheVariants.{Collect}
 use Rattle.simm_rules.specs.declared.values.Breakdown.{Breakdown}
 use Rattle.simm_rules.specs.Simm.{simm}
 use Rattle.held_cell.specs.Entries.{entry}
@@ -27,11 +28,11 @@ pub record IsAsked (fed s : Set) (b : Breakdown) : Type 0 where
   pub terms : s.terms ≡ fed.terms
   pub legal : IsSet s.params s.terms s.journal
   pub margin : b ≡ simm (tables fed.params fed.journal) (rows_of (book fed.journal))
-  pub last : s.journal ≡ fed.journal ++ entry 0 (event.OnSide side.AskMargin) (reply.Margin b) ∷ []
+  pub last : s.journal ≡ fed.journal ++ entry 0 (event.OnSide Collect side.AskMargin) (reply.Margin b) ∷ []
 
 -- a set: its name, how many entries its journal has, and its margin
 abbrev pub asked_text : Set → Breakdown → List ℕ
-asked_text s b = field (codes "SET") ++ field s.terms.name ++ last_field (decimal (length s.journal)) ++ margin_text b
+asked_text s b = field (codes "SET") ++ field s.terms.collect.name ++ last_field (decimal (length s.journal)) ++ margin_text b
 
 -- each of these sets was asked, and this is their text
 abbrev pub AreSummed : List Set → List ℕ → Type 0

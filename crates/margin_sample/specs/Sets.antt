@@ -15,7 +15,7 @@ use Rattle.set_core.specs.Tables.{tables}
 use Rattle.set_core.specs.Set.{Set, IsSet}
 use Rattle.feed_gate.specs.Met.{events_of}
 use Rattle.house_sample.specs.Parameters.{sample_params}
-use Rattle.house_sample.specs.Agreements.{set_name, agreement}
+use Rattle.house_sample.specs.Agreements.{set_name, agreements}
 use Rattle.house_sample.specs.Trades.{all_trades}
 use Rattle.margin_sample.specs.Calls.{calls_of}
 
@@ -24,7 +24,7 @@ abbrev pub IsTakenBy : Event → Reply → Type 0
 IsTakenBy (event.Submit trades) r = r ≡ reply.Accepted
 IsTakenBy (event.Withdraw names) r = Unit {0}
 IsTakenBy (event.Tables text) r = Unit {0}
-IsTakenBy (event.OnSide e) r = Unit {0}
+IsTakenBy (event.OnSide on e) r = Unit {0}
 
 abbrev pub IsTaken : Entry Event Reply → Type 0
 IsTaken e = IsTakenBy e.event e.reply
@@ -38,7 +38,7 @@ sample_margin feeds seed place = simm sample_params (rows_of (all_trades seed pl
 -- that of all of their trades.
 pub record IsFed (feeds seed place : ℕ) (s : Set) : Type 0 where
   pub params : s.params ≡ sample_params
-  pub terms : s.terms ≡ agreement (set_name place)
+  pub terms : s.terms ≡ agreements (set_name place)
   pub legal : IsSet s.params s.terms s.journal
   pub callers : own_of 0 feeds s.journal ≡ s.journal
   pub calls : (feed : ℕ) → feed < feeds → events_of (own_of feed 1 s.journal) ≡ calls_of seed feed place

@@ -10,15 +10,20 @@ use fault_text::{push_field, push_last_number, push_number};
 use mh_units::Text;
 use set_core::side_events::SideEvent;
 use set_core::{Event, Reply, SetState, SharedMargin};
+use simm_kinds::MarginSide;
 use std::alloc::{AllocError, Global};
 use std::collections::VecDeque;
 
-/// Asks a set its margin, in the name of the first caller. The only error is want of memory: a journal of feeds of
-/// a sample has room.
+/// Asks a set the margin that it collects, in the name of the first caller. The only error is want of memory: a journal of
+/// feeds of a sample has room.
 fn ask(set: &mut SetState) -> Result<SharedMargin, AllocError>
     ensures { IfOk result (λ margin. IsAsked set.old set.new margin) }
 {
-    let reply = set.apply(0, Event::OnSide(SideEvent::AskMargin));
+    let question = Event::OnSide {
+        side: MarginSide::Collect,
+        event: SideEvent::AskMargin,
+    };
+    let reply = set.apply(0, question);
     set.facts();
     match reply {
         Ok(Reply::Margin(margin)) => Ok(margin),
@@ -36,7 +41,7 @@ fn push_set(
     ensures { OnOk result (text.new ≡ text.old ++ asked_text set.now margin.now) }
 {
     push_field(text, b"SET")?;
-    push_field(text, set.terms().name().bytes())?;
+    push_field(text, set.name().bytes())?;
     push_last_number(text, set.entries())?;
     let lines = margin_lines(alloc, margin.parts())?;
     text.extend(lines.as_slice())

@@ -8,6 +8,8 @@ use Rattle.csa_terms.specs.Moments.{moment_text}
 use Rattle.csa_terms.specs.declared.lot_currency.LotCurrency.{LotCurrency}
 use Rattle.csa_terms.specs.declared.lot_currency.LotCurrency.TheVariants as currency
 use Rattle.held_cell.specs.declared.entry.Entry.{Entry}
+use Rattle.simm_kinds.specs.declared.margin_side.MarginSide.{MarginSide}
+use Rattle.simm_kinds.specs.declared.margin_side.MarginSide.TheVariants as margin_side
 use Rattle.side_events.specs.declared.side_event.SideEvent.{SideEvent}
 use Rattle.side_events.specs.declared.side_event.SideEvent.TheVariants as side
 use Rattle.set_core.specs.declared.event.Event.{Event}
@@ -34,20 +36,25 @@ side_fields (side.CloseCall number) = field (codes "CLOSE") ++ field (decimal nu
 side_fields side.AskMargin = field (codes "ASK")
 side_fields (side.AskCall moment) = field (codes "CALL") ++ field (moment_text moment)
 
+-- behind them, of what the set posts; what it collects has no field
+abbrev pub posted_field : MarginSide → List ℕ
+posted_field margin_side.Collect = []
+posted_field margin_side.Post = field (codes "post")
+
 -- a submit with the numbers of its trades and of their rows; a withdrawal with the number of its names and each of them; tables with the
 -- number of bytes of their text
 abbrev pub event_fields : Event → List ℕ
 event_fields (event.Submit trades) = field (codes "SUBMIT") ++ field (decimal (length trades)) ++ field (decimal (length (rows_of trades)))
 event_fields (event.Withdraw names) = field (codes "WITHDRAW") ++ field (decimal (length names)) ++ flat_map field names
 event_fields (event.Tables text) = field (codes "TABLES") ++ field (decimal (length text.text))
-event_fields (event.OnSide e) = side_fields e
+event_fields (event.OnSide which e) = side_fields e ++ posted_field which
 
 -- the lines of an event under its entry's line
 abbrev pub event_lines : Event → List ℕ
 event_lines (event.Submit trades) = flat_map trade_lines trades
 event_lines (event.Withdraw names) = []
 event_lines (event.Tables text) = []
-event_lines (event.OnSide e) = []
+event_lines (event.OnSide which e) = []
 
 -- the lines of a reply under its entry's line
 abbrev pub reply_lines : Reply → List ℕ

@@ -16,7 +16,7 @@ fn push_event_lines(text: &mut Text, event: &Event) -> Result<(), AllocError>
 {
     match event {
         Event::Submit(batch) => push_trades(text, batch.trades()),
-        Event::Withdraw(_) | Event::Tables(_) | Event::OnSide(_) => Ok(()),
+        Event::Withdraw(_) | Event::Tables(_) | Event::OnSide { .. } => Ok(()),
     }
 }
 

@@ -3,14 +3,14 @@ ghost use Rattle.std.specs.Prelude.{◌≡◌, ◌++◌, OnOk, length, codes, de
 ghost use Rattle.std.specs.List.{flat_map};
 ghost use Rattle.side_events.specs.declared.side_event.SideEvent.TheVariants as events;
 ghost use Rattle.fault_text.specs.Fields.{field};
-ghost use Rattle.margin_text.specs.Journal.{currency_word, side_fields, event_fields};
+ghost use Rattle.margin_text.specs.Journal.{currency_word, side_fields, event_fields, posted_field};
 
 use csa_terms::{LotCurrency, Moment, push_moment};
 use fault_text::{push_amount, push_field, push_number};
 use mh_units::Text;
 use set_core::Event;
 use side_events::SideEvent;
-use simm_kinds::Name;
+use simm_kinds::{MarginSide, Name};
 use std::alloc::AllocError;
 
 /// Adds the fields of a submit.
@@ -127,6 +127,16 @@ fn push_side(text: &mut Text, event: &SideEvent) -> Result<(), AllocError>
     }
 }
 
+/// Adds the field of an event of what a set posts; that which it collects has none.
+fn push_posted(text: &mut Text, side: MarginSide) -> Result<(), AllocError>
+    ensures { OnOk result (text.new ≡ text.old ++ posted_field side) }
+{
+    match side {
+        MarginSide::Collect => Ok(()),
+        MarginSide::Post => push_field(text, b"post"),
+    }
+}
+
 /// Adds the fields of an event.
 pub(crate) fn push_event(text: &mut Text, event: &Event) -> Result<(), AllocError>
     ensures { OnOk result (text.new ≡ text.old ++ event_fields event.now) }
@@ -135,6 +145,9 @@ pub(crate) fn push_event(text: &mut Text, event: &Event) -> Result<(), AllocErro
         Event::Submit(batch) => push_submit(text, batch.trades().len(), event.row_count()),
         Event::Withdraw(names) => push_withdrawal(text, names.as_slice()),
         Event::Tables(tables) => push_tables(text, tables.text().len()),
-        Event::OnSide(event) => push_side(text, event),
+        Event::OnSide { side, event } => {
+            push_side(text, event)?;
+            push_posted(text, *side)
+        }
     }
 }

@@ -9,7 +9,7 @@ ghost use Rattle.fault_text.specs.FeedFields.{refused_fields};
 ghost use Rattle.margin_text.specs.Feeds.{name_at, refused_line, feed_line, feed_text};
 
 use crif_reader::CrifFault;
-use csa_terms::SetTerms;
+use csa_terms::BothTerms;
 use fault_text::{
     push_crif_fields, push_end, push_field, push_last_number, push_number, push_params_fields,
     push_refused_fields, push_refused_number,
@@ -57,8 +57,8 @@ fn push_refused_tables(
 }
 
 /// Adds the field of the name of the set at a place, from 0.
-fn push_set_name(text: &mut Text, sets: &[SetTerms], place: u32) -> Result<(), AllocError>
-    ensures { OnOk result (text.new ≡ text.old ++ field (name_at (map (λ s. s.name) sets.now) place)) }
+fn push_set_name(text: &mut Text, sets: &[BothTerms], place: u32) -> Result<(), AllocError>
+    ensures { OnOk result (text.new ≡ text.old ++ field (name_at (map (λ s. s.collect.name) sets.now) place)) }
 {
     match sets.get(place as usize) {
         Some(set) => push_field(text, set.name().bytes()),
@@ -70,10 +70,10 @@ fn push_set_name(text: &mut Text, sets: &[SetTerms], place: u32) -> Result<(), A
 fn push_refused(
     text: &mut Text,
     feed: u32,
-    sets: &[SetTerms],
+    sets: &[BothTerms],
     message: &RefusedMessage,
 ) -> Result<(), AllocError>
-    ensures { OnOk result (text.new ≡ text.old ++ refused_line feed (map (λ s. s.name) sets.now) message.now) }
+    ensures { OnOk result (text.new ≡ text.old ++ refused_line feed (map (λ s. s.collect.name) sets.now) message.now) }
 {
     let number = message.number();
     match message {
@@ -110,10 +110,10 @@ fn push_refused(
 fn push_all_refused(
     text: &mut Text,
     feed: u32,
-    sets: &[SetTerms],
+    sets: &[BothTerms],
     messages: &[RefusedMessage],
 ) -> Result<(), AllocError>
-    ensures { OnOk result (text.new ≡ text.old ++ flat_map (refused_line feed (map (λ s. s.name) sets.now)) messages.now) }
+    ensures { OnOk result (text.new ≡ text.old ++ flat_map (refused_line feed (map (λ s. s.collect.name) sets.now)) messages.now) }
 {
     for message in messages {
         push_refused(text, feed, sets, message)?;
@@ -148,10 +148,10 @@ fn push_feed_line(
 pub fn push_report(
     text: &mut Text,
     feed: u32,
-    sets: &[SetTerms],
+    sets: &[BothTerms],
     report: &FeedReport,
 ) -> Result<(), AllocError>
-    ensures { OnOk result (text.new ≡ text.old ++ feed_text feed (map (λ s. s.name) sets.now) report.now.done report.now.refused report.now.end) }
+    ensures { OnOk result (text.new ≡ text.old ++ feed_text feed (map (λ s. s.collect.name) sets.now) report.now.done report.now.refused report.now.end) }
 {
     let refused = report.refused.as_slice();
     push_all_refused(text, feed, sets, refused)?;

@@ -28,15 +28,15 @@ use std::thread::Threads;
 /// margin of a portfolio by the standard schedule on a day, as `schedule` says; `whatif PARAMS CRIF CANDIDATE NAME..` prints the
 /// margin of a batch before and after a candidate comes and 0 to 100 trades leave, as `whatif` says; `run PARAMS TERMS FEED..`
 /// runs 1 to 32 feeds at the same time on the netting sets of the terms, prints the journals and what became of the feeds,
-/// and tells each desk the calls that were made; `pool TERMS TOTAL FEED..` runs 1 to 32 feeds at the same time on a total that
+/// and tells each desk the calls of what they collect; `pool TERMS TOTAL FEED..` runs 1 to 32 feeds at the same time on a total that
 /// the netting sets of the terms share, and prints what each was replied, as `pool` says. Words that are no form of a command
 /// are status `Words`, with one fault line; then the folder isn't asked for anything. The gate is called before and after each
 /// call of a feed on a set.
 ///
 /// `sample N SEED` runs 1 to 32 feeds that it makes itself, as `sample` says. It asks the folder for nothing, and tells no desk.
 ///
-/// A run that reached its feeds tells each desk the notices of all calls, set after set, each set's in the order of its
-/// journal, unless memory ran out for the text or for the notices (`Memory`). A desk that fails is told nothing more and is
+/// A run that reached its feeds tells each desk the notices of all calls of what the sets collect, set after set, each
+/// set's in the order of its journal, unless memory ran out for the text or for the notices (`Memory`). A desk that fails is told nothing more and is
 /// moved to the end of `retired`; the caller drops it. The status is then `Desk`, but for the first feed that didn't end whole
 /// and for a sink that failed, whose statuses come first. At every other end no desk is told anything, and both lists stand.
 pub fn margin_house<R: Threads + Wait + Sync, F: Folder, K: Sink, G: Gate>(

@@ -5,7 +5,7 @@ use Rattle.std.specs.List.{AllByRecursion, AllZip}
 use Rattle.std.proofs.lemmas.List.Sums.{sum_by-cons}
 use Rattle.mh_io.specs.Source.{SourceSeen}
 use Rattle.mh_io.specs.Lined.{is_ended}
-use Rattle.csa_terms.specs.Terms.{Agreement}
+use Rattle.csa_terms.specs.Terms.{Agreements}
 use Rattle.feed_runs.specs.Ran.{EachRan}
 use Rattle.feed_runs.proofs.Supplies.{ended_supply}
 use Rattle.threshold_pool.specs.Seats.{PoolState, SeatState, fresh_seat}
@@ -20,7 +20,7 @@ use Rattle.pool_gate.proofs.Mets.{rests_in}
 use Rattle.pool_gate.proofs.SeatSteps.{still_of}
 use Rattle.pool_gate.proofs.Ended.{Ended, ended}
 
-module _ {S : Type 0} (seen : S → SourceSeen) (sets : List Agreement) where
+module _ {S : Type 0} (seen : S → SourceSeen) (sets : List Agreements) where
   -- ---- one feed
 
   one_fate : (total tops from : ℕ) (pool : PoolState) (source : S) (seat : SeatState) (a b : PoolJob S) → pool.total ≡ total → IsFresh from source seat a → seat ≡ fresh_seat pool 1 → (ran : RanWithTerms seen sets a b) → total ≤ b.seat.least + tops → RanSource seen total tops sets from source b.lines.source (record { report = reported b; mets = ran.ran.mets })
@@ -41,7 +41,7 @@ module _ {S : Type 0} (seen : S → SourceSeen) (sets : List Agreement) where
           terms = ran.terms;
           its = ap (slice_get sets) (sym begun.number) ∙ ran.its;
           stop = its.stop;
-          met = subst (λ held. AreMet total ran.terms held ran.ran.mets) nothing (subst (λ n. AreMet n ran.terms a.seat.held ran.ran.mets) before ran.ran.met);
+          met = subst (λ held. AreMet total ran.terms.collect held ran.ran.mets) nothing (subst (λ n. AreMet n ran.terms.collect a.seat.held ran.ran.mets) before ran.ran.met);
           rests = rests_in (λ rest. b.seat.least ≤ rest) (λ rest. total ≤ rest + tops) (λ rest low. omega (arith, enough, low)) ran.ran.mets ran.ran.seat.rests;
           held = ran.ran.seat.held ∙ ap (λ held. held_after held ran.ran.mets) nothing;
           text = ran.ran.text ∙ ap (λ (r : PoolReport). r.text ++ messages_text a.number ran.ran.mets) begun.report ∙ ap (λ n. messages_text n ran.ran.mets) begun.number;

@@ -3,7 +3,7 @@ use Rattle.std.proofs.Common.{◌≡◌, ℕ, ◌+◌, ◌≤◌, List, [], ◌�
 use Rattle.std.specs.List.{AllByRecursion}
 use Rattle.std.proofs.lemmas.List.Elements.{All-from_recursion}
 use Rattle.feed_runs.specs.Untaken.{fresh}
-use Rattle.csa_terms.specs.Terms.{Agreement}
+use Rattle.csa_terms.specs.Terms.{Agreements}
 use Rattle.threshold_pool.specs.Seats.{PoolState, SeatState, fresh_seat}
 use Rattle.pool_gate.specs.declared.job.PoolJob.{PoolJob}
 use Rattle.pool_gate.specs.Jobs.{no_report}
@@ -39,7 +39,7 @@ module _ {S : Type 0} where
   fresh_length from (source ∷ sources) [] jobs begun = absurd begun
   fresh_length from (source ∷ sources) (seat ∷ seats) [] begun = absurd begun
 
-  ready : (sets : List Agreement) (pool : PoolState) (from : ℕ) (sources : List S) (seats : List SeatState) (jobs : List (PoolJob S)) → from + length sources ≤ length sets → AreFresh from sources seats jobs → AllByRecursion (λ s. s ≡ fresh_seat pool 1) seats → AllByRecursion (IsReady pool sets) jobs
+  ready : (sets : List Agreements) (pool : PoolState) (from : ℕ) (sources : List S) (seats : List SeatState) (jobs : List (PoolJob S)) → from + length sources ≤ length sets → AreFresh from sources seats jobs → AllByRecursion (λ s. s ≡ fresh_seat pool 1) seats → AllByRecursion (IsReady pool sets) jobs
   ready sets pool from [] [] [] enough begun new = tt
   ready sets pool from (source ∷ sources) (seat ∷ seats) (job ∷ jobs) enough begun new =
       let first : job.seat ≡ fresh_seat pool 1 = begun.0.seat ∙ new.0 in (
@@ -55,5 +55,5 @@ module _ {S : Type 0} where
   ready sets pool from (source ∷ sources) (seat ∷ seats) [] enough begun new = absurd begun
 
   -- each can be run
-  pub all_ready : (sets : List Agreement) (pool : PoolState) (sources : List S) (seats : List SeatState) (jobs : List (PoolJob S)) → length sources ≤ length sets → AreFresh 0 sources seats jobs → AllByRecursion (λ s. s ≡ fresh_seat pool 1) seats → All (IsReady pool sets) jobs
+  pub all_ready : (sets : List Agreements) (pool : PoolState) (sources : List S) (seats : List SeatState) (jobs : List (PoolJob S)) → length sources ≤ length sets → AreFresh 0 sources seats jobs → AllByRecursion (λ s. s ≡ fresh_seat pool 1) seats → All (IsReady pool sets) jobs
   all_ready sets pool sources seats jobs enough begun new = All-from_recursion (IsReady pool sets) jobs (ready sets pool 0 sources seats jobs (omega (arith, enough)) begun new)

@@ -1,7 +1,7 @@
 -- The feeds of a pool and their seats, before they are run and afterwards.
 use Rattle.std.specs.Prelude.{◌≡◌, ℕ, ◌+◌, ◌<◌, ◌≤◌, List, [], ◌∷◌, length, Some, slice_get, sum_by}
 use Rattle.std.specs.List.{AllByRecursion}
-use Rattle.csa_terms.specs.Terms.{Agreement}
+use Rattle.csa_terms.specs.Terms.{Agreements}
 use Rattle.mh_io.specs.Source.{SourceSeen}
 use Rattle.feed_runs.specs.Untaken.{fresh}
 use Rattle.threshold_pool.specs.Seats.{PoolState, SeatState, IsSeatOf}
@@ -27,15 +27,15 @@ AreFresh from _ _ _ = ⊥
 -- ---- run
 
 -- its seat is of the pool, and there is a set at the place of its number
-pub record IsReady {S : Type 0} (pool : PoolState) (sets : List Agreement) (job : PoolJob S) : Type 0 where
+pub record IsReady {S : Type 0} (pool : PoolState) (sets : List Agreements) (job : PoolJob S) : Type 0 where
   pub seat : IsSeatOf pool job.seat
   pub there : job.number < length sets
 
--- it was run with the terms of the set at the place of its number
-pub record RanWithTerms {S : Type 0} (seen : S → SourceSeen) (sets : List Agreement) (old new : PoolJob S) : Type 0 where
-  pub terms : Agreement
+-- it was run with the terms by which the set at the place of its number collects margin
+pub record RanWithTerms {S : Type 0} (seen : S → SourceSeen) (sets : List Agreements) (old new : PoolJob S) : Type 0 where
+  pub terms : Agreements
   pub its : slice_get sets old.number ≡ Some terms
-  pub ran : RanJob seen terms old new
+  pub ran : RanJob seen terms.collect old new
 
 -- ---- behind
 

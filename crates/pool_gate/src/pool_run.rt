@@ -9,7 +9,7 @@ ghost use Rattle.pool_gate.specs.PoolRun.{RanOnPool};
 use crate::job::{PoolJob, PoolReport};
 use crate::jobs::run_jobs;
 use crate::seats::share_seats;
-use csa_terms::SetTerms;
+use csa_terms::BothTerms;
 use feed_runs::{Gate, lines_of_all};
 use mh_io::{MemoryBack, Source};
 use std::alloc::{AllocError, Global};
@@ -30,8 +30,9 @@ pub struct PoolRun<S: Source> {
 }
 
 /// Runs feeds at the same time on a total of 1 to 10^15 cents that they share, each from its first byte to its end. There are 1
-/// to 32 feeds; each is of the set at its place, of which there is one at least for each feed. The gate is called before and
-/// after each message, with the feed's number and its set's place.
+/// to 32 feeds; each is of the set at its place, of which there is one at least for each feed, and what it calls for is by the
+/// terms by which that set collects margin. The gate is called before and after each message, with the feed's number and its
+/// set's place.
 ///
 /// A line that is no message is reported, and its feed goes on. A feed that ends early has its whole messages done; for want of
 /// memory it ends in the message for which there was none, which moved nothing.
@@ -43,7 +44,7 @@ pub fn run_on_pool<R: Threads + Wait + Sync, S: Source + Send, G: Gate>(
     rt: &R,
     alloc: Global,
     total: u64,
-    sets: &[SetTerms],
+    sets: &[BothTerms],
     sources: Vec<S>,
     gate: &G,
 ) -> Result<PoolRun<S>, MemoryBack<Vec<S>>>

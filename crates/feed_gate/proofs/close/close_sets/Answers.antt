@@ -62,7 +62,7 @@ loop-cell-preserved c =
       rows = ap (map (λ row. row.items)) (take_at c.join_last-seat.new.rows (drop (length c.join_last-seat.new.rows) c.loop-cell.left.items) c.loop-cell.left.len kept_len)
           ∙ cut_rows c.args.cells.items cell m 0 rows (map (λ row. row.items) c.join_last-seat.new.rows) at c.requires.rows cut;
       sets = subst (AllZip (Closes (vec_len c.args.rows)) (cell ∷ closed)) (sym c.push_front_reserved.ensures.items)
-          (record { base = c.close-set.ensures.base; legal = c.facts.ensures; callers = callers }, c.loop-cell.invariant.sets);
+          (record { base = c.close-set.ensures.base; legal = c.facts.ensures.set; callers = callers }, c.loop-cell.invariant.sets);
       kept = subst (AreKeptIn 0 (map (drop m) rows)) (sym c.push_front_reserved.ensures.items)
           (kept_more m 0 rows set c.loop-cell.sets.items
           (subst (λ log. Gathers 0 (map (take (suc m)) rows) log) (sym seen) (subst (λ rs. Gathers 0 rs seat.seen) now c.join_last-seat.ensures.gathers))

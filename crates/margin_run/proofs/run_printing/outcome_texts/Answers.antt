@@ -9,12 +9,12 @@ pub returns : goal.returns
 returns g c =
     let sets = c.args.run.now.sets.items in
     let journals : c.in_ok-texts.texts.items ≡ map journal_of sets = c.in_ok-texts.ensures ∙ ap (map journal_of) c.deref.ensures.value in
-    let names : map (λ t. t.name) c.sets.result.now ≡ map (λ s. s.terms.name) sets =
-    ap (map (λ t. t.name)) (c.sets.ensures.value ∙ c.requires.terms) ∙ map-map (λ t. t.name) (λ s. s.terms) sets in
-    let reports = feeds_text 0 (map (λ s. s.terms.name) sets) c.args.run.now.reports.items in
+    let names : map (λ t. t.collect.name) c.sets.result.now ≡ map (λ s. s.terms.collect.name) sets =
+    ap (map (λ t. t.collect.name)) (c.sets.ensures.value ∙ c.requires.terms) ∙ map-map (λ t. t.collect.name) (λ s. s.terms) sets in
+    let reports = feeds_text 0 (map (λ s. s.terms.collect.name) sets) c.args.run.now.reports.items in
     let last : c.push_reports.new.text ≡ reports =
     c.in_ok-push_reports.ensures
-    ∙ ap (λ text. text ++ feeds_text 0 (map (λ t. t.name) c.sets.result.now) c.deref-2.result.now) c.new-reports.ensures
+    ∙ ap (λ text. text ++ feeds_text 0 (map (λ t. t.collect.name) c.sets.result.now) c.deref-2.result.now) c.new-reports.ensures
     ∙ ap (λ names. feeds_text 0 names c.deref-2.result.now) names
-    ∙ ap (λ rs. feeds_text 0 (map (λ s. s.terms.name) sets) rs) c.deref-2.ensures.value in
+    ∙ ap (λ rs. feeds_text 0 (map (λ s. s.terms.collect.name) sets) rs) c.deref-2.ensures.value in
     in_parts journal_of sets c.in_ok-texts.texts.items reports c.push.new.self.items journals (c.in_ok-push.ensures.items ∙ ap (λ text. c.in_ok-texts.texts.items ++ (text ∷ [])) last)

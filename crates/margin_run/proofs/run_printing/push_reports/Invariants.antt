@@ -6,5 +6,5 @@ use Rattle.margin_run.proofs.run_printing.push_reports.Given as goal
 abbrev pub invariant-loop-report : goal.invariant-loop-report
 invariant-loop-report l = record {
   count : l.feed ≡ l.report-index;
-  text : l.text ++ feeds_text l.feed (map (λ t. t.name) l.terms) (drop l.report-index l.reports) ≡ l.fn.text ++ feeds_text 0 (map (λ t. t.name) l.terms) l.reports;
+  text : l.text ++ feeds_text l.feed (map (λ t. t.collect.name) l.terms) (drop l.report-index l.reports) ≡ l.fn.text ++ feeds_text 0 (map (λ t. t.collect.name) l.terms) l.reports;
 }

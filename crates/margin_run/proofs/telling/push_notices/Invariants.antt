@@ -4,4 +4,4 @@ use Rattle.margin_run.proofs.telling.push_notices.Given as goal
 
 abbrev pub invariant-loop-index : goal.invariant-loop-index
 invariant-loop-index l =
-    l.notices.items ≡ l.fn.notices.items ++ notices_in l.set.terms.name (take l.index l.set.journal)
+    l.notices.items ≡ l.fn.notices.items ++ notices_in l.set.terms.collect.name (take l.index l.set.journal)
