@@ -1,28 +1,25 @@
 //! Batches, withdrawals, tables and questions at random on one set. Each is answered as a new set answers it that was given the same
 //! trades at once under the same tables; what the set keeps of its buckets is by the rule of what an event touches.
 use crate::expected_book::{Book, Mark};
-use crate::makers::{read_tables, set_terms};
+use crate::makers::{both_terms, read_tables};
 use crate::random::Random;
 use crate::random_places::{bucket, place_at};
-use crate::random_requests::{Request, batch_of, event, random_request, random_tables};
-use crif_reader::mh_units::Text;
+use crate::random_requests::{Request, batch_of, event, random_change};
+use crate::set_core_calls::{other_side, reply_to};
+use crate::whatif_makers::are_same;
+use crif_reader::simm_kinds::MarginSide;
 use params_file::ParamText;
-use params_file::simm_rules::BucketMargin;
-use set_core::csa_terms::SetTerms;
-use set_core::{Event, SetState, reply_text};
+use params_file::simm_rules::{Breakdown, BucketMargin};
+use set_core::csa_terms::BothTerms;
+use set_core::side_events::SideEvent;
+use set_core::{Event, Reply, SetState};
 use std::process::Abort;
 
 /// What was read once: each of the tables, and terms.
 #[derive(Drop)]
 struct Files {
     tables: Vec<ParamText>,
-    terms: SetTerms,
-}
-
-/// A set's reply to an event, in printed text.
-fn reply_to(rt: &(impl Abort + AllocGlobal), set: &mut SetState, event: Event) -> Text {
-    let reply = set.apply(0, event).ok().expect(rt, "room and memory");
-    reply_text(rt.alloc(), &reply).ok().expect(rt, "memory")
+    terms: BothTerms,
 }
 
 /// A new set under the tables at a place.
@@ -64,6 +61,41 @@ fn keep_the_same(rt: &impl Abort, first: &SetState, second: &SetState, marks: &[
     true
 }
 
+fn margin_told(reply: &Reply) -> Option<Breakdown> {
+    match reply {
+        Reply::Margin(margin) => Some(*margin.parts()),
+        _ => None,
+    }
+}
+
+fn margin_on(rt: &(impl Abort + AllocGlobal), set: &mut SetState, side: MarginSide) -> Breakdown {
+    let event = SideEvent::AskMargin;
+    let reply = set.apply(0, Event::OnSide { side, event });
+    let reply = reply.ok().expect(rt, "room and memory");
+    margin_told(&reply).expect(rt, "a margin")
+}
+
+/// Behind a question the margins of both sides are known, and asking for them changes nothing. What is posted is what a new set
+/// collects whose rows are all negated, and what is collected is what that one posts.
+fn tells_both_sides(
+    rt: &(impl Abort + AllocGlobal),
+    files: &Files,
+    set: &mut SetState,
+    book: &Book,
+) {
+    let negated = book.negated(rt);
+    let mut new = set_of(rt, files, &negated);
+    assert!(rt; set.live().is_fresh());
+    for side in [MarginSide::Post, MarginSide::Collect] {
+        let told = margin_on(rt, set, side);
+        let expected = margin_on(rt, &mut new, other_side(side));
+        assert!(rt; are_same(&told, &expected));
+    }
+    assert!(rt; set.live().is_fresh());
+    drop(new);
+    drop(negated);
+}
+
 /// What is asked of the set is answered as a new set answers it, and accepted where the book accepts it. After a question both keep
 /// the same.
 fn ask(
@@ -83,8 +115,9 @@ fn ask(
     if !is_refused {
         book.take_in(rt, request);
     }
-    if let Request::Margin = request {
+    if let Request::Margin(_) = request {
         assert!(rt; keep_the_same(rt, set, &new, book.marks.as_slice()));
+        tells_both_sides(rt, files, set, book);
     }
     drop(expected);
     drop(reply);
@@ -98,26 +131,17 @@ fn has_kept(rt: &impl Abort, set: &SetState, book: &Book) {
     assert_eq!(rt; set.live().dirty_count() as usize, book.dirty_count());
 }
 
-/// Tables each tenth time.
-fn request(rt: &(impl Abort + AllocGlobal), random: &mut Random, number: u32) -> Request {
-    if number % 10 == 0 {
-        random_tables(random)
-    } else {
-        random_request(rt, random)
-    }
-}
-
 #[test]
 fn a_set_at_random_answers_as_a_new_one_does(rt: HostRuntime) {
     let files = Files {
         tables: read_tables(&rt),
-        terms: set_terms(&rt),
+        terms: both_terms(&rt),
     };
     let mut random = Random::new();
     let mut book = Book::new(&rt);
     let mut set = set_of(&rt, &files, &book);
     for number in 1..301 {
-        let request = request(&rt, &mut random, number);
+        let request = random_change(&rt, &mut random, number);
         ask(&rt, &files, &mut set, &mut book, &request);
         has_kept(&rt, &set, &book);
         drop(request);

@@ -15,11 +15,31 @@ pub struct Row {
     pub dollars: i64,
 }
 
+impl Row {
+    fn negated(self) -> Row {
+        Row {
+            dollars: self.dollars.wrapping_neg(),
+            ..self
+        }
+    }
+}
+
 /// A trade and its rows.
 #[derive(Clone, Copy)]
 pub struct Trade {
     pub name: &'static str,
     pub rows: [Row; 2],
+}
+
+impl Trade {
+    /// The same rows with their amounts negated.
+    pub fn negated(self) -> Trade {
+        let [first, second] = self.rows;
+        Trade {
+            name: self.name,
+            rows: [first.negated(), second.negated()],
+        }
+    }
 }
 
 /// A value of a bucket in a measure, and whether it is to be kept.
@@ -47,6 +67,16 @@ fn is_equity(row: &Row) -> bool {
         Some(place) => place.class == RiskClass::Equity,
         None => false,
     }
+}
+
+/// The indices of the first trade that has a row of equities, and of this row.
+pub fn first_equity(trades: &[Trade]) -> Option<(usize, usize)> {
+    for (index, trade) in trades.iter().enumerate() {
+        if let Some(row) = trade.rows.iter().position(is_equity) {
+            return Some((index, row));
+        }
+    }
+    None
 }
 
 fn has_equities(trades: &[Trade]) -> bool {
@@ -80,6 +110,24 @@ impl Book {
             trades: Vec::new(rt.alloc()),
             marks,
         }
+    }
+
+    /// The same tables and trades, of which nothing is kept.
+    pub fn copy(&self, rt: &(impl Abort + AllocGlobal)) -> Book {
+        let mut copy = Book::new(rt);
+        copy.tables = self.tables;
+        copy.put_all(rt, self.trades.as_slice());
+        copy
+    }
+
+    /// The same tables and trades, with all amounts negated, of which nothing is kept.
+    pub fn negated(&self, rt: &(impl Abort + AllocGlobal)) -> Book {
+        let mut negated = Book::new(rt);
+        negated.tables = self.tables;
+        for trade in self.trades.as_slice() {
+            negated.put(rt, trade.negated());
+        }
+        negated
     }
 
     /// The values that these rows touch are kept no longer.
@@ -130,13 +178,15 @@ impl Book {
         self.trades.iter().any(|trade| touches(&trade.rows, mark))
     }
 
-    fn put_all(&mut self, rt: &impl Abort, trades: &[Trade]) {
+    /// Takes trades in, one after another.
+    pub fn put_all(&mut self, rt: &impl Abort, trades: &[Trade]) {
         for trade in trades {
             self.put(rt, *trade);
         }
     }
 
-    fn take_all(&mut self, names: &[&'static str]) {
+    /// Takes out the trades of these names.
+    pub fn take_all(&mut self, names: &[&'static str]) {
         for name in names {
             self.take(name);
         }
@@ -145,6 +195,16 @@ impl Book {
     /// Whether each of these names is of a trade.
     fn has_all(&self, names: &[&'static str]) -> bool {
         names.iter().all(|name| self.index_of(name).is_some())
+    }
+
+    /// The index of the first name that is of no trade.
+    pub fn first_unknown(&self, names: &[&'static str]) -> Option<usize> {
+        names.iter().position(|name| self.index_of(name).is_none())
+    }
+
+    /// Whether the tables don't list the bucket of a row of these trades.
+    pub fn refuses(&self, trades: &[Trade]) -> bool {
+        !admit(self.tables, trades)
     }
 
     /// How many values of buckets that have a row are not kept.
@@ -168,7 +228,7 @@ impl Book {
     /// tables list, and of tables each row of the trades in one that these list.
     pub fn accepts(&self, request: &Request) -> bool {
         match request {
-            Request::Margin => true,
+            Request::Margin(_) => true,
             Request::Submit(trades) => admit(self.tables, trades.as_slice()),
             Request::Withdraw(names) => self.has_all(names.as_slice()),
             Request::Tables(tables) => admit(*tables, self.trades.as_slice()),
@@ -178,7 +238,7 @@ impl Book {
     /// What is asked was accepted.
     pub fn take_in(&mut self, rt: &impl Abort, request: &Request) {
         match request {
-            Request::Margin => self.renew(),
+            Request::Margin(_) => self.renew(),
             Request::Submit(trades) => self.put_all(rt, trades.as_slice()),
             Request::Withdraw(names) => self.take_all(names.as_slice()),
             Request::Tables(tables) => {

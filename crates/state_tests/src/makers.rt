@@ -4,7 +4,7 @@ use crif_reader::read_batch;
 use crif_reader::simm_kinds::{Batch, Name};
 use params_file::ParamText;
 use params_file::simm_params::Params;
-use set_core::csa_terms::{SetTerms, read_terms};
+use set_core::csa_terms::{BothTerms, read_terms};
 use std::process::Abort;
 
 /// Lines of parameters, and whether they list the bucket of equities in which rows lie.
@@ -123,10 +123,17 @@ commodity.gamma = [["1"]]
 credit_q.base_rho = "0.3"
 "#;
 
-const TERMS: &str =
-    "[[set]]\nname = \"ALPHA\"\nthreshold = \"5000\"\nmta_delivery = \"500\"\nmta_return = \"400\"\n\
-rounding = \"100\"\nnotification = \"13:00\"\nfx_haircut = \"0.08\"\n\
-haircuts = { CASH = \"0\" }\nholidays = []\n";
+const SET: &str = "[[set]]\nname = \"ALPHA\"\nnotification = \"13:00\"\nholidays = []\n";
+
+/// Amounts and haircuts by which a set collects.
+pub const COLLECTED: &str =
+    "threshold = \"5000\"\nmta_delivery = \"500\"\nmta_return = \"400\"\nrounding = \"100\"\n\
+fx_haircut = \"0.08\"\nhaircuts = { CASH = \"0\" }\n";
+
+/// Others, by which it posts.
+pub const POSTED: &str =
+    "threshold = \"1000\"\nmta_delivery = \"100\"\nmta_return = \"200\"\nrounding = \"10\"\n\
+fx_haircut = \"0.5\"\nhaircuts = { BOND = \"0.25\", CASH = \"0.1\" }\n";
 
 const HEADER: &str =
     "TradeID,ProductClass,RiskType,Qualifier,Bucket,Label1,Label2,Amount,AmountCurrency,AmountUSD";
@@ -185,10 +192,20 @@ pub fn params(rt: &(impl Abort + AllocGlobal)) -> Params {
     text.params().share().ok().expect(rt, "memory")
 }
 
-pub fn set_terms(rt: &(impl Abort + AllocGlobal)) -> SetTerms {
-    let terms = read_terms(rt.alloc(), TERMS.as_bytes())
+/// The terms of a set with these lines.
+pub fn terms_of(rt: &(impl Abort + AllocGlobal), lines: &str) -> BothTerms {
+    let text = format!(in rt.alloc(); "{SET}{lines}");
+    let text = text.ok().expect(rt, "memory");
+    let terms = read_terms(rt.alloc(), text.as_bytes())
         .ok()
         .expect(rt, "terms");
     let set = terms.sets().first().expect(rt, "a set");
     set.copy(rt.alloc()).ok().expect(rt, "memory")
+}
+
+/// The terms of a set that posts by others than it collects by.
+pub fn both_terms(rt: &(impl Abort + AllocGlobal)) -> BothTerms {
+    let lines = format!(in rt.alloc(); "{COLLECTED}[set.post]\n{POSTED}");
+    let lines = lines.ok().expect(rt, "memory");
+    terms_of(rt, lines.as_str())
 }

@@ -3,7 +3,7 @@ ghost use Rattle.std.specs.Prelude.{◌<◌};
 
 use std::process::Abort;
 
-#[derive(Drop)]
+#[derive(Clone, Copy)]
 pub struct Random {
     state: u64,
 }

@@ -3,7 +3,7 @@ use crate::expected_book::{Row, Trade};
 use crate::makers::{TABLES, name, rows};
 use crate::random::Random;
 use crate::random_places::place_at;
-use crif_reader::simm_kinds::{Batch, Listed, Name};
+use crif_reader::simm_kinds::{Batch, Listed, MarginSide, Name};
 use params_file::ParamText;
 use set_core::Event;
 use set_core::side_events::SideEvent;
@@ -12,7 +12,8 @@ use std::process::Abort;
 /// What is asked of a set.
 #[derive(Drop)]
 pub enum Request {
-    Margin,
+    /// The margin of a side.
+    Margin(MarginSide),
     Submit(Vec<Trade>),
     Withdraw(Vec<&'static str>),
     /// Those at a place of `TABLES`.
@@ -40,7 +41,7 @@ fn random_trade(rt: &impl Abort, random: &mut Random, name: &'static str) -> Tra
 }
 
 /// Each name with a chance of one in eight, in order.
-fn chosen_names(rt: &(impl Abort + AllocGlobal), random: &mut Random) -> Vec<&'static str> {
+pub fn chosen_names(rt: &(impl Abort + AllocGlobal), random: &mut Random) -> Vec<&'static str> {
     let mut names = Vec::new(rt.alloc());
     for name in NAMES {
         if random.below(8) == 0 {
@@ -51,7 +52,7 @@ fn chosen_names(rt: &(impl Abort + AllocGlobal), random: &mut Random) -> Vec<&'s
 }
 
 /// A trade for each name.
-fn random_trades(
+pub fn random_trades(
     rt: &(impl Abort + AllocGlobal),
     random: &mut Random,
     names: &[&'static str],
@@ -64,11 +65,19 @@ fn random_trades(
     trades
 }
 
+fn random_side(random: &mut Random) -> MarginSide {
+    if random.below(2) == 0 {
+        MarginSide::Collect
+    } else {
+        MarginSide::Post
+    }
+}
+
 /// A question where no trade is chosen; else a withdrawal, or twice as often a batch.
-pub fn random_request(rt: &(impl Abort + AllocGlobal), random: &mut Random) -> Request {
+fn random_request(rt: &(impl Abort + AllocGlobal), random: &mut Random) -> Request {
     let names = chosen_names(rt, random);
     if names.is_empty() {
-        Request::Margin
+        Request::Margin(random_side(random))
     } else if random.below(3) == 0 {
         Request::Withdraw(names)
     } else {
@@ -77,8 +86,17 @@ pub fn random_request(rt: &(impl Abort + AllocGlobal), random: &mut Random) -> R
 }
 
 /// Other tables, or the same ones.
-pub fn random_tables(random: &mut Random) -> Request {
+fn random_tables(random: &mut Random) -> Request {
     Request::Tables(random.below(TABLES.len() as u32) as usize)
+}
+
+/// What is asked at a number: tables each tenth time.
+pub fn random_change(rt: &(impl Abort + AllocGlobal), random: &mut Random, number: u32) -> Request {
+    if number % 10 == 0 {
+        random_tables(random)
+    } else {
+        random_request(rt, random)
+    }
 }
 
 fn add_row(rt: &(impl Abort + AllocGlobal), lines: &mut String, trade: &str, row: Row) {
@@ -107,7 +125,7 @@ pub fn batch_of(rt: &(impl Abort + AllocGlobal), trades: &[Trade]) -> Batch {
     rows(rt, lines.as_str())
 }
 
-fn names_of(rt: &(impl Abort + AllocGlobal), texts: &[&'static str]) -> Listed<Name> {
+pub fn names_of(rt: &(impl Abort + AllocGlobal), texts: &[&'static str]) -> Listed<Name> {
     let mut names = Listed::new(rt.alloc());
     for text in texts {
         names.push(name(rt, text)).ok().expect(rt, "memory");
@@ -118,7 +136,10 @@ fn names_of(rt: &(impl Abort + AllocGlobal), texts: &[&'static str]) -> Listed<N
 /// The event that a request is, which brings one of these tables where it brings any.
 pub fn event(rt: &(impl Abort + AllocGlobal), tables: &[ParamText], request: &Request) -> Event {
     match request {
-        Request::Margin => Event::OnSide(SideEvent::AskMargin),
+        Request::Margin(side) => Event::OnSide {
+            side: *side,
+            event: SideEvent::AskMargin,
+        },
         Request::Submit(trades) => Event::Submit(batch_of(rt, trades.as_slice())),
         Request::Withdraw(names) => Event::Withdraw(names_of(rt, names.as_slice())),
         Request::Tables(index) => {

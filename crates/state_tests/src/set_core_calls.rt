@@ -1,12 +1,14 @@
-use crate::makers::{batch, name, params, set_terms};
-use crif_reader::simm_kinds::Listed;
+//! Steps on a set, their replies as texts, and what it keeps then.
+use crate::makers::{batch, both_terms, name, params};
+use crif_reader::mh_units::Text;
+use crif_reader::simm_kinds::{Listed, MarginSide};
 use set_core::csa_terms::Moment;
 use set_core::side_events::SideEvent;
 use set_core::{Event, Reply, SetState, reply_text};
 use std::process::Abort;
 
 pub fn set(rt: &(impl Abort + AllocGlobal)) -> SetState {
-    SetState::new(rt.alloc(), params(rt), set_terms(rt))
+    SetState::new(rt.alloc(), params(rt), both_terms(rt))
         .ok()
         .expect(rt, "memory")
 }
@@ -18,19 +20,38 @@ pub enum Step {
     Submit(&'static str, &'static str),
     /// A withdrawal of one name.
     Withdraw(&'static str),
-    Ask,
-    /// A demand on a Friday morning.
-    Call,
+    /// The margin of a side.
+    Ask(MarginSide),
+    /// A demand of a side on a Friday morning.
+    Call(MarginSide),
+}
+
+pub fn other_side(side: MarginSide) -> MarginSide {
+    match side {
+        MarginSide::Collect => MarginSide::Post,
+        MarginSide::Post => MarginSide::Collect,
+    }
+}
+
+/// A demand on a Friday morning.
+pub fn demand(rt: &impl Abort) -> SideEvent {
+    SideEvent::AskCall {
+        moment: Moment::read(b"2024-03-01T10:00").expect(rt, "a moment"),
+    }
 }
 
 fn event(rt: &(impl Abort + AllocGlobal), step: Step) -> Event {
     match step {
         Step::Submit(currency, amount) => Event::Submit(batch(rt, "T1", currency, amount)),
         Step::Withdraw(trade) => withdrawal(rt, trade),
-        Step::Ask => Event::OnSide(SideEvent::AskMargin),
-        Step::Call => Event::OnSide(SideEvent::AskCall {
-            moment: Moment::read(b"2024-03-01T10:00").expect(rt, "a moment"),
-        }),
+        Step::Ask(side) => Event::OnSide {
+            side,
+            event: SideEvent::AskMargin,
+        },
+        Step::Call(side) => Event::OnSide {
+            side,
+            event: demand(rt),
+        },
     }
 }
 
@@ -45,16 +66,23 @@ pub fn apply(rt: &(impl Abort + AllocGlobal), set: &mut SetState, step: Step) ->
     set.apply(2, event).ok().expect(rt, "room and memory")
 }
 
+/// A set's reply to an event, in printed text.
+pub fn reply_to(rt: &(impl Abort + AllocGlobal), set: &mut SetState, event: Event) -> Text {
+    let reply = set.apply(0, event).ok().expect(rt, "room and memory");
+    reply_text(rt.alloc(), &reply).ok().expect(rt, "memory")
+}
+
 pub fn is_text(rt: &(impl Abort + AllocGlobal), reply: &Reply, text: &str) -> bool {
     let printed = reply_text(rt.alloc(), reply).ok().expect(rt, "memory");
     printed.as_slice() == text.as_bytes()
 }
 
 /// Steps, their replies in printed text, how many values of buckets are not kept then, and whether the margin is known.
-static STEPS: [(Step, &str, u32, bool); 7] = [
+static STEPS: [(Step, &str, u32, bool); 9] = [
     (Step::Submit("EUR", "1000"), "OK", 1, false),
     (Step::Withdraw("T9"), "REFUSED\t1\t1", 1, false),
-    (Step::Ask, "MARGIN\t7400.00", 0, true),
+    (Step::Ask(MarginSide::Post), "MARGIN\t7400.00", 0, true),
+    (Step::Ask(MarginSide::Collect), "MARGIN\t7400.00", 0, true),
     (Step::Withdraw("T9"), "REFUSED\t1\t1", 0, true),
     (
         Step::Submit("BRL", "10000000000.01"),
@@ -64,8 +92,14 @@ static STEPS: [(Step, &str, u32, bool); 7] = [
     ),
     (Step::Submit("EUR", "2000"), "OK", 1, false),
     (
-        Step::Call,
+        Step::Call(MarginSide::Collect),
         "DELIVERY\t1\t9800.00\t2024-03-04\t14800.00\t0.00",
+        0,
+        true,
+    ),
+    (
+        Step::Call(MarginSide::Post),
+        "DELIVERY\t1\t13800.00\t2024-03-04\t14800.00\t0.00",
         0,
         true,
     ),
