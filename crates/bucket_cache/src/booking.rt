@@ -8,7 +8,7 @@ ghost use Rattle.bucket_cache.specs.Lent.{all_rows};
 
 use crate::lent::LentRows;
 use book_margin::class_combine::AddOnSums;
-use book_margin::factor_book::Factors;
+use book_margin::factor_book::{Factors, NettedRows};
 use std::alloc::{AllocError, Global};
 
 /// How many rows are lent. It takes no memory.
@@ -23,17 +23,17 @@ pub fn count_rows(lent: &[LentRows]) -> usize
     count
 }
 
-/// The factors of all rows. Want of memory is the only error.
+/// The factors of all rows, which are netted by themselves first. Want of memory is the only error.
 pub fn net(alloc: Global, lent: &[LentRows]) -> Result<Factors, AllocError>
     requires few { length (all_rows lent.now) < 2 ^ 32 }
     requires amounts { list_all is_in_range (all_rows lent.now) ≡ true }
     ensures { IfOk result (λ factors. factors ≡ factors_of (all_rows lent.now)) }
 {
-    let mut factors = Factors::new(alloc);
+    let mut rows = NettedRows::new(alloc);
     for trade in lent {
-        factors.add_rows(alloc, trade.rows)?;
+        rows.add_rows(trade.rows)?;
     }
-    Ok(factors)
+    Factors::of(alloc, &rows)
 }
 
 /// The sums of the add-ons of all rows. Want of memory is the only error.

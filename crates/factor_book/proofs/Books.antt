@@ -1,5 +1,5 @@
 -- Books: what adding and taking sensitivities does to the factors, and how great their nets, sizes and numbers are.
-use Rattle.std.proofs.Common.{◌≡◌, ℕ, zero, suc, ◌+◌, ◌*◌, ◌^◌, ◌<◌, ◌≤◌, List, [], ◌∷◌, ◌++◌, map, length, Bool, true, false, cond, Option, Some, None, IsSome, IfSome, IsSomeAnd, sym, ap, ◌∙◌, subst, refl, ℤ, unsigned_abs, arith}
+use Rattle.std.proofs.Common.{◌≡◌, ℕ, zero, suc, ◌+◌, ◌*◌, ◌^◌, ◌<◌, ◌≤◌, List, [], ◌∷◌, ◌++◌, map, length, Bool, true, false, cond, Option, Some, None, IsSome, IfSome, IsSomeAnd, sym, ap, ◌∙◌, subst, refl, ℤ, pos, unsigned_abs, arith}
 use Rattle.std.specs.Prelude.{is_some, is_none, not}
 use Rattle.std.proofs.lemmas.Bool.{false≢true}
 use Rattle.std.proofs.lemmas.List.{length-map}
@@ -9,7 +9,7 @@ use Rattle.simm_rules.specs.Net.{Sensitivity, net, keys_of}
 use Rattle.factor_book.specs.declared.place.Place.{Place}
 use Rattle.factor_book.specs.declared.holding.Holding.{Holding}
 use Rattle.factor_book.specs.Factors.{factors_in, factor_of, size_of, count_of}
-use Rattle.factor_book.specs.Holdings.{grown, shrunk, rows_in, IsSmall, CanGrow, CanShrink}
+use Rattle.factor_book.specs.Holdings.{first, joined, grown, shrunk, rows_in, IsSmall, IsOfSmall, CanJoin, CanShrink}
 use Rattle.factor_book.specs.Filing.{found, AreFiled, gathered, AreSmall, AreNetted, IsFiledBook, HasRoomFor, Holds}
 use Rattle.factor_book.proofs.Keys.{same_key_refl, one_key}
 use Rattle.factor_book.proofs.Sorting.{one_unless, length-different}
@@ -47,6 +47,12 @@ small_first before taken after h =
 
 abbrev pub one_of : FactorKey → ℤ → Sensitivity
 one_of key amount = record { key = key; amount = amount }
+
+-- what is put is one amount
+pub put_one : (old new : List (Place × List (FactorKey × Holding))) (key : FactorKey) (amount : ℤ) (h : Holding) → h ≡ first amount
+    → ((k : FactorKey) → found new k ≡ cond (same_key key k) (Some (joined (found old key) h)) (found old k))
+    → (k : FactorKey) → found new k ≡ cond (same_key key k) (Some (grown (found old key) amount)) (found old k)
+put_one old new key amount h e put k = put k ∙ ap (λ x. cond (same_key key k) (Some (joined (found old key) x)) (found old k)) e
 
 module _ (old new : List (Place × List (FactorKey × Holding))) (key : FactorKey) (amount : ℤ) (f : AreFiled old) (g : AreFiled new)
     (put : (k : FactorKey) → found new k ≡ cond (same_key key k) (Some (grown (found old key) amount)) (found old k)) where
@@ -105,19 +111,32 @@ book_known old new keys key amount b g put small known = record {
 
 -- ---- room
 
-grows : (n s : ℤ) (c : ℕ) → unsigned_abs n ≤ c * 10 ^ 15 → unsigned_abs s ≤ c * 10 ^ 15 → c + 1 < 2 ^ 32 → IfSome (holding n s c) CanGrow
-grows n s zero net size few = tt
-grows n s (suc c) net size few = record { net = net; size = size; few = few }
+-- one amount alone
+one_small : (amount : ℤ) → IsSmall amount → IsOfSmall (first amount)
+one_small amount small = record { net = omega (arith, small); size = omega (arith, small, size-of amount) }
+  where
+    size-of : (a : ℤ) → unsigned_abs (pos (unsigned_abs a)) ≡ unsigned_abs a
+    size-of a = refl
 
-pub can_grow : (filed : List (Place × List (FactorKey × Holding))) (keys : ℕ) (key : FactorKey) (amount : ℤ) → IsFiledBook filed keys → HasRoomFor (one_of key amount ∷ []) (gathered filed) → IfSome (found filed key) CanGrow
-can_grow filed keys key amount b room =
+grows : (n s amount : ℤ) (c : ℕ) → unsigned_abs n ≤ c * 10 ^ 15 → unsigned_abs s ≤ c * 10 ^ 15 → IsSmall amount → c + 1 < 2 ^ 32 → IfSome (holding n s c) (λ had. CanJoin had (first amount))
+grows n s amount zero net size small few = tt
+grows n s amount (suc c) net size small few = record { had = record { net = net; size = size }; more = one_small amount small; few = few }
+
+-- one more of what some come to
+pub joins : (ss : List Sensitivity) (key : FactorKey) (amount : ℤ) → AreSmall ss → IsSmall amount → length ss + 1 < 2 ^ 32 → IfSome (come_to ss key) (λ had. CanJoin had (first amount))
+joins ss key amount all small room =
+    grows (net ss key) (size_of ss key) amount (count_of ss key) (net_size ss key all) (size_size ss key all) small (omega (arith, count_below ss key, room))
+
+pub can_join : (filed : List (Place × List (FactorKey × Holding))) (keys : ℕ) (key : FactorKey) (amount : ℤ) → IsFiledBook filed keys → HasRoomFor (one_of key amount ∷ []) (gathered filed) → IsSmall amount
+    → IfSome (found filed key) (λ had. CanJoin had (first amount))
+can_join filed keys key amount b room small =
     let own = b.netted in
     let here : found filed key ≡ come_to own.held key = found-from filed own.held b.filing own.are key in
     let there : found filed key ≡ come_to room.held key = found-from filed room.held b.filing room.are key in
     let counts : count_of own.held key ≡ count_of room.held key =
     sym (rows_in-come_to own.held key) ∙ ap rows_in (sym here ∙ there) ∙ rows_in-come_to room.held key in
-    subst (λ (o : Option Holding). IfSome o CanGrow) (sym here)
-    (grows (net own.held key) (size_of own.held key) (count_of own.held key) (net_size own.held key own.amounts) (size_size own.held key own.amounts)
+    subst (λ (o : Option Holding). IfSome o (λ had. CanJoin had (first amount))) (sym here)
+    (grows (net own.held key) (size_of own.held key) amount (count_of own.held key) (net_size own.held key own.amounts) (size_size own.held key own.amounts) small
     (omega (arith, counts, count_below room.held key, room.few)))
 
 -- there are no more keys than sensitivities

@@ -46,7 +46,7 @@ order_ascends es = subst (IsStrictlySortedBy key_cmp) (sym (keys-in_order es)) (
 
 -- ---- from places to the whole list
 
-lookup-none_before : (test : FactorKey → Bool) (xs ys : List (FactorKey × Holding)) → lookup test xs ≡ None → lookup test (xs ++ ys) ≡ lookup test ys
+pub lookup-none_before : (test : FactorKey → Bool) (xs ys : List (FactorKey × Holding)) → lookup test xs ≡ None → lookup test (xs ++ ys) ≡ lookup test ys
 lookup-none_before test [] ys h = refl
 lookup-none_before test (x ∷ xs) ys h = by (test x.0) h (lookup-none_before test xs ys)
   where
@@ -54,7 +54,7 @@ lookup-none_before test (x ∷ xs) ys h = by (test x.0) h (lookup-none_before te
     by true e i = absurd (some_not_none x.1 e)
     by false e i = i e
 
-lookup-none_after : (test : FactorKey → Bool) (xs ys : List (FactorKey × Holding)) → lookup test ys ≡ None → lookup test (xs ++ ys) ≡ lookup test xs
+pub lookup-none_after : (test : FactorKey → Bool) (xs ys : List (FactorKey × Holding)) → lookup test ys ≡ None → lookup test (xs ++ ys) ≡ lookup test xs
 lookup-none_after test [] ys h = h
 lookup-none_after test (x ∷ xs) ys h = ap (λ z. cond (test x.0) (Some x.1) z) (lookup-none_after test xs ys h)
 

@@ -1,5 +1,6 @@
 -- Keys: the order of the maps is that of the rule, and keys that compare alike are one.
-use Rattle.std.proofs.Common.{◌≡◌, List, Bool, true, false, cond, Option, refl, ap, ◌∙◌, subst}
+use Rattle.std.proofs.Common.{◌≡◌, ◌↔◌, List, Bool, true, false, cond, Option, refl, sym, ap, ◌∙◌, subst}
+use Rattle.std.specs.Bool.{one_answer}
 use Rattle.std.specs.Ordering.{is_eq}
 use Rattle.std.specs.declared.cmp.Ordering.{Ordering}
 use Rattle.std.specs.declared.cmp.Ordering.TheVariants.{Less, Equal, Greater}
@@ -30,6 +31,10 @@ is_eq-Equal Greater e = absurd (false≢true e)
 
 pub one_key : (k l : FactorKey) → same_key k l ≡ true → k ≡ l
 one_key k l e = exact_keys k l (is_eq-Equal (key_cmp k l) e)
+
+-- an equality that holds of equal keys alone is the test
+pub key_ties : (eq : FactorKey → FactorKey → Bool) → ((a b : FactorKey) → (eq a b ≡ true) ↔ (a ≡ b)) → (a b : FactorKey) → eq a b ≡ same_key a b
+key_ties eq h a b = one_answer (eq a b) (same_key a b) (h a b) (λ e. one_key a b e, λ e. ap (same_key a) (sym e) ∙ same_key_refl a)
 
 pub tied_test : (q k l : FactorKey) → key_cmp k l ≡ Equal → same_key q k ≡ same_key q l
 tied_test q k l e = ap is_eq (alike_right key_total k l q e)

@@ -9,5 +9,6 @@ pub mod Filed
 pub mod Sides
 pub mod Books
 pub mod Rows
+pub mod Nets
 pub mod Leaving
 pub use Rattle.simm_rules.proofs.SimmKinds as SimmKinds

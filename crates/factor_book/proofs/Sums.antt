@@ -1,8 +1,9 @@
 -- Sums over lists of sensitivities.
-use Rattle.std.proofs.Common.{◌≡◌, ℕ, suc, ◌*◌, ◌≤◌, List, [], ◌∷◌, ◌++◌, map, length, Bool, true, false, cond, refl, ap, ℤ, pos, negsuc, ◌+ℤ◌, ◌-ℤ◌, unsigned_abs, arith}
+use Rattle.std.proofs.Common.{◌≡◌, ℕ, suc, ◌+◌, ◌*◌, ◌^◌, ◌<◌, ◌≤◌, List, [], ◌∷◌, ◌++◌, map, length, Bool, true, false, cond, refl, ap, ◌∙◌, ℤ, pos, negsuc, ◌+ℤ◌, ◌-ℤ◌, unsigned_abs, to_z, of_z, arith}
 use Rattle.std.specs.List.{AllByRecursion, sum_by}
 use Rattle.std.specs.List.Sorted.{IsPermutation}
-use Rattle.std.proofs.lemmas.Int.{ints}
+use Rattle.std.specs.Int.{w128}
+use Rattle.std.proofs.lemmas.Int.{ints, to_z-of_z, fits_signed_from_abs}
 use Rattle.std.proofs.lemmas.List.Sorted.{sum_by-IsPermutation}
 use Rattle.std.proofs.lemmas.List.Sums.{sum_by-cons}
 use Rattle.simm_rules.proofs.MhUnits.Integers.{unsigned_abs-add}
@@ -36,6 +37,15 @@ total_by-kept f x xs false = omega (arith, ints)
 pub total_by-size : {A : Type 0} (f : A → ℤ) (m : ℕ) (xs : List A) → AllByRecursion (λ x. unsigned_abs (f x) ≤ m) xs → unsigned_abs (total_by f xs) ≤ length xs * m
 total_by-size f m [] h = omega arith
 total_by-size f m (x ∷ xs) h = omega (arith, h.0, total_by-size f m xs h.1, unsigned_abs-add (f x) (total_by f xs))
+
+-- sums of fewer than 2^32 amounts that a batch can have are added with no loss
+pub sum128 : (a b : ℤ) (m n : ℕ) → unsigned_abs a ≤ m * 10 ^ 15 → unsigned_abs b ≤ n * 10 ^ 15 → m + n < 2 ^ 32
+    → to_z w128 (of_z w128 (to_z w128 (of_z w128 a) +ℤ to_z w128 (of_z w128 b))) ≡ a +ℤ b
+sum128 a b m n few_a few_b few =
+    (λ i. to_z w128 (of_z w128 (
+    to_z-of_z w128 a (fits_signed_from_abs w128 a (omega (arith, few_a, few))) i +ℤ to_z-of_z w128 b (fits_signed_from_abs w128 b (omega (arith, few_b, few))) i
+    )))
+    ∙ to_z-of_z w128 (a +ℤ b) (fits_signed_from_abs w128 (a +ℤ b) (omega (arith, unsigned_abs-add a b, few_a, few_b, few)))
 
 -- ---- in another order
 

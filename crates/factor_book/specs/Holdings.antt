@@ -1,5 +1,5 @@
 -- What the sensitivities to one key come to, as they come and go.
-use Rattle.std.specs.Prelude.{ℕ, ◌+◌, ◌-◌, ◌*◌, ◌^◌, ◌<◌, ◌≤◌, List, Bool, Option, Some, None, ℤ, pos, ◌+ℤ◌, ◌-ℤ◌, unsigned_abs, ◌==◌, if◌then◌else◌}
+use Rattle.std.specs.Prelude.{ℕ, ◌+◌, ◌-◌, ◌*◌, ◌^◌, ◌<◌, ◌≤◌, List, Bool, Option, Some, None, ℤ, pos, ◌+ℤ◌, ◌-ℤ◌, unsigned_abs, ◌==◌, if◌then◌else◌, cond}
 use Rattle.std.specs.Map.{lookup}
 use Rattle.simm_rules.specs.SimmKinds.declared.key.FactorKey.{FactorKey}
 use Rattle.simm_rules.specs.SimmKinds.Order.{same_key}
@@ -9,10 +9,18 @@ use Rattle.factor_book.specs.declared.holding.Holding.{Holding}
 abbrev pub first : ℤ → Holding
 first amount = record { net = amount; size = pos (unsigned_abs amount); rows = 1 }
 
+-- with others of the key
+abbrev pub joined : Option Holding → Holding → Holding
+joined None others = others
+joined (Some h) others = record { net = h.net +ℤ others.net; size = h.size +ℤ others.size; rows = h.rows + others.rows }
+
+-- what each key comes to, once others of one key have come
+abbrev pub with_others : (FactorKey → Option Holding) → FactorKey → Holding → FactorKey → Option Holding
+with_others had key others k = cond (same_key key k) (Some (joined (had key) others)) (had k)
+
 -- with one more
 abbrev pub grown : Option Holding → ℤ → Holding
-grown None amount = first amount
-grown (Some h) amount = record { net = h.net +ℤ amount; size = h.size +ℤ pos (unsigned_abs amount); rows = h.rows + 1 }
+grown h amount = joined h (first amount)
 
 -- with one less
 abbrev pub shrunk : Option Holding → ℤ → Option Holding
@@ -41,11 +49,16 @@ goes factors f = rows_at factors f.0 == (f.1).rows
 abbrev pub IsSmall : ℤ → Type 0
 IsSmall amount = unsigned_abs amount ≤ 10 ^ 15
 
--- one of such an amount can be added
-pub record CanGrow (h : Holding) : Type 0 where
+-- no more than that many of such amounts come to
+pub record IsOfSmall (h : Holding) : Type 0 where
   pub net : unsigned_abs h.net ≤ h.rows * 10 ^ 15
   pub size : unsigned_abs h.size ≤ h.rows * 10 ^ 15
-  pub few : h.rows + 1 < 2 ^ 32
+
+-- both together are fewer than 2^32
+pub record CanJoin (h others : Holding) : Type 0 where
+  pub had : IsOfSmall h
+  pub more : IsOfSmall others
+  pub few : h.rows + others.rows < 2 ^ 32
 
 -- one of such an amount can be taken
 pub record CanShrink (h : Holding) : Type 0 where

@@ -13,10 +13,12 @@ ghost use Rattle.factor_book.specs.Holdings.{IsSmall, rows_at};
 ghost use Rattle.factor_book.specs.Factors.{factors_in, factors_of, count_of, IsBook, HasRoom, AreHeld};
 ghost use Rattle.factor_book.specs.Places.{factors_at, by_place, by_bucket};
 ghost use Rattle.factor_book.specs.Filing.{AreSmall, HasRoomFor, Holds};
+ghost use Rattle.factor_book.specs.Netting.{AreNets, IsNetting};
 
 use crate::at::SideAt;
 use crate::filing::{add_at_place, take_at_place};
 use crate::holding::Holding;
+use crate::netted_rows::NettedRows;
 use crate::place::Place;
 use crate::place_factors::PlaceFactors;
 use crate::side_places::side_bounds;
@@ -60,6 +62,19 @@ impl Factors {
             by_place: BTreeMap::new(alloc),
             keys: 0,
         }
+    }
+
+    /// A book of the rows that were netted. It costs their keys, each of which is copied and put in
+    /// order among those of its place once. The only error is want of memory.
+    pub fn of(alloc: Global, rows: &NettedRows<'_>) -> Result<Factors, AllocError>
+        requires { IsNetting rows.now }
+        ensures { (held : List Row) → AreNets held rows.now
+            → IfOk result (λ factors. factors ≡ factors_of held) }
+    {
+        Ok(Factors {
+            by_place: rows.filed(alloc)?,
+            keys: rows.len(),
+        })
     }
 
     /// An equal book, which holds the same rows. It costs the keys, each of which is copied. The only error is want of memory.
@@ -238,7 +253,7 @@ impl Factors {
         ensures ok { (ss : List Sensitivity) → self.old ≡ factors_in ss → OnOk result (self.new ≡ factors_in (ss ++ record { key = key.now; amount = amount.0 } ∷ [])) }
         ensures err { OnErr result (self.new ≡ self.old) }
     {
-        if add_at_place(&mut self.by_place, alloc, key, amount)? {
+        if add_at_place(&mut self.by_place, alloc, key, Holding::first(amount))? {
             self.keys += 1;
         }
         Ok(())

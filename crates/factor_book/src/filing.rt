@@ -1,10 +1,11 @@
 //! Sensitivities go into the factors of their place, and out of them.
-ghost use Rattle.std.specs.Prelude.{◌≡◌, [], cond, is_none, true, false, Some, IfSome, IsSomeAnd, IfOk, OnOk, OnErr};
+ghost use Rattle.std.specs.Prelude.{◌≡◌, [], cond, is_none, true, false, IfSome, IsSomeAnd, IfOk, OnOk, OnErr};
 ghost use Rattle.simm_rules.specs.SimmKinds.declared.key.FactorKey.{FactorKey};
 ghost use Rattle.simm_rules.specs.SimmKinds.Order.{same_key};
-ghost use Rattle.factor_book.specs.Holdings.{CanGrow, CanShrink, IsSmall, grown, shrunk};
+ghost use Rattle.factor_book.specs.Holdings.{CanJoin, CanShrink, IsSmall, shrunk, with_others};
 ghost use Rattle.factor_book.specs.Filing.{AreFiled, TakesAt, found};
 
+use crate::holding::Holding;
 use crate::place::Place;
 use crate::place_factors::PlaceFactors;
 use simm_rules::mh_units::Cents;
@@ -23,28 +24,28 @@ pub enum Left {
     Nothing,
 }
 
-/// Adds a sensitivity, and tells whether its key is new. For want of memory each key keeps what it had.
+/// Adds what sensitivities to a key come to, and tells whether the key is new. For want of memory
+/// each key keeps what it had.
 pub fn add_at_place(
     filed: &mut BTreeMap<Place, PlaceFactors>,
     alloc: Global,
     key: &FactorKey,
-    amount: Cents,
+    holding: Holding,
 ) -> Result<bool, AllocError>
     requires filing { AreFiled filed.old.entries }
-    requires room { IfSome (found filed.old.entries key.now) CanGrow }
-    requires amount { IsSmall amount.0 }
+    requires room { IfSome (found filed.old.entries key.now) (λ had. CanJoin had holding) }
     ensures filing { AreFiled filed.new.entries }
     ensures ok { OnOk result ((k : FactorKey) → found filed.new.entries k
-        ≡ cond (same_key key.now k) (Some (grown (found filed.old.entries key.now) amount.0)) (found filed.old.entries k)) }
+        ≡ with_others (found filed.old.entries) key.now holding k) }
     ensures new { IfOk result (λ is_new. is_new ≡ is_none (found filed.old.entries key.now)) }
     ensures err { OnErr result ((k : FactorKey) → found filed.new.entries k ≡ found filed.old.entries k) }
 {
     let place = Place::of(key);
     match filed.get_mut(&place) {
-        Some(factors) => factors.add(alloc, key, amount),
+        Some(factors) => factors.add(alloc, key, holding),
         None => {
             let mut factors = PlaceFactors::new(alloc);
-            factors.add(alloc, key, amount)?;
+            factors.add(alloc, key, holding)?;
             filed.insert(place, factors)?;
             Ok(true)
         }

@@ -1,5 +1,5 @@
 ghost use Rattle.std.specs.Prelude.{◌≡◌, Some, pos, unsigned_abs};
-ghost use Rattle.factor_book.specs.Holdings.{CanGrow, CanShrink, IsSmall, first, grown, shrunk};
+ghost use Rattle.factor_book.specs.Holdings.{CanJoin, CanShrink, IsSmall, first, joined, shrunk};
 
 use simm_rules::mh_units::Cents;
 
@@ -27,16 +27,15 @@ impl Holding {
         }
     }
 
-    /// These and one of this amount.
-    pub(crate) fn grown(self, amount: Cents) -> Holding
-        requires room { CanGrow self }
-        requires amount { IsSmall amount.0 }
-        ensures { result ≡ grown (Some self) amount.0 }
+    /// These and others of the key.
+    pub(crate) fn joined(self, others: Holding) -> Holding
+        requires { CanJoin self others }
+        ensures { result ≡ joined (Some self) others }
     {
         Holding {
-            net: self.net + amount.0,
-            size: self.size + size(amount),
-            rows: self.rows + 1,
+            net: self.net + others.net,
+            size: self.size + others.size,
+            rows: self.rows + others.rows,
         }
     }
 

@@ -7,6 +7,7 @@ mod factors;
 mod filing;
 mod holding;
 mod laws;
+mod netted_rows;
 mod place;
 mod place_factors;
 mod side_places;
@@ -16,6 +17,7 @@ pub use at::{BucketAt, ClassAt, SideAt};
 pub use factors::Factors;
 pub use holding::Holding;
 pub use laws::{factors_are_netted, order_is_free};
+pub use netted_rows::NettedRows;
 pub use place::{BookSide, Place};
 pub use place_factors::PlaceFactors;
 

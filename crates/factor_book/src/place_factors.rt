@@ -1,11 +1,11 @@
-ghost use Rattle.std.specs.Prelude.{◌≡◌, [], List, cond, is_none, length, Some, IsTrue, IfOk, OnOk, OnErr, IsSomeAnd, IfSome, ◌↔◌};
+ghost use Rattle.std.specs.Prelude.{◌≡◌, [], List, cond, is_none, length, IsTrue, IfOk, OnOk, OnErr, IsSomeAnd, IfSome, ◌↔◌};
 ghost use Rattle.std.specs.Map.{lookup, keys_of};
 ghost use Rattle.std.specs.Map.Iter.{ShowsInOrder, deref_pair};
 ghost use Rattle.std.specs.List.Sorted.{IsStrictlySortedBy};
 ghost use Rattle.simm_rules.specs.SimmKinds.declared.key.FactorKey.{FactorKey};
 ghost use Rattle.simm_rules.specs.SimmKinds.Order.{same_key, key_cmp};
 ghost use Rattle.factor_book.specs.declared.holding.Holding.{Holding};
-ghost use Rattle.factor_book.specs.Holdings.{CanGrow, CanShrink, IsSmall, grown, shrunk};
+ghost use Rattle.factor_book.specs.Holdings.{CanJoin, CanShrink, IsSmall, shrunk, with_others};
 
 use crate::holding::Holding;
 use simm_rules::mh_units::Cents;
@@ -83,29 +83,29 @@ impl PlaceFactors {
         self.by_key.get(key).copied()
     }
 
-    /// Adds a sensitivity, and tells whether its key is new. For want of memory nothing changes.
+    /// Adds what sensitivities to a key come to, and tells whether the key is new. For want of memory
+    /// nothing changes.
     pub(crate) fn add(
         &mut self,
         alloc: Global,
         key: &FactorKey,
-        amount: Cents,
+        holding: Holding,
     ) -> Result<bool, AllocError>
-        requires room { IfSome (lookup (same_key key.now) self.old) CanGrow }
-        requires amount { IsSmall amount.0 }
+        requires room { IfSome (lookup (same_key key.now) self.old) (λ had. CanJoin had holding) }
         ensures ok { OnOk result ((k : FactorKey) → lookup (same_key k) self.new
-            ≡ cond (same_key key.now k) (Some (grown (lookup (same_key key.now) self.old) amount.0)) (lookup (same_key k) self.old)) }
+            ≡ with_others (λ q. lookup (same_key q) self.old) key.now holding k) }
         ensures new { IfOk result (λ is_new. is_new ≡ is_none (lookup (same_key key.now) self.old)) }
         ensures ordered { IsStrictlySortedBy key_cmp (keys_of self.new) }
         ensures err { OnErr result (self.new ≡ self.old) }
     {
         match self.by_key.get_mut(key) {
-            Some(holding) => {
-                *holding = holding.grown(amount);
+            Some(had) => {
+                *had = had.joined(holding);
                 Ok(false)
             }
             None => {
                 let own = key.copy(alloc)?;
-                self.by_key.insert(own, Holding::first(amount))?;
+                self.by_key.insert(own, holding)?;
                 Ok(true)
             }
         }

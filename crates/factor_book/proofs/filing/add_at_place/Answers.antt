@@ -8,18 +8,20 @@ use Rattle.simm_rules.specs.SimmKinds.Order.{same_key}
 use Rattle.factor_book.specs.declared.place.Place.{Place}
 use Rattle.factor_book.specs.declared.holding.Holding.{Holding}
 use Rattle.factor_book.specs.Place.{place_of, place_cmp}
-use Rattle.factor_book.specs.Holdings.{CanGrow, grown}
+use Rattle.factor_book.specs.Holdings.{CanJoin, joined}
 use Rattle.factor_book.specs.Filing.{FillPlace, found, found_in}
 use Rattle.factor_book.proofs.Standing.{found_place, updated_place, ordered_places}
 use Rattle.factor_book.proofs.Filed.{filed_update, found_update, found_same, fill_update, filled_at, found_had, put_had, put_first, stand_had, stand_empty, either_way}
 use Rattle.factor_book.proofs.filing.add_at_place.Goals as goal
 
-pub add-requires-clause-room : goal.add-requires-clause-room
-add-requires-clause-room c =
+pub add-requires : goal.add-requires
+add-requires c =
     let old = c.args.filed.now.entries in
     let key = c.args.key.now in
     let had = c.in-Some.factors.now in
-    subst (λ (o : Option Holding). IfSome o CanGrow) (sym (found_had old key had (found_place old c.of-place.result (place_of key) (Some had) c.of-place.ensures c.in-Some.ensures.value))) c.requires.room
+    record {
+      room = subst (λ (o : Option Holding). IfSome o (λ had. CanJoin had c.args.holding)) (sym (found_had old key had (found_place old c.of-place.result (place_of key) (Some had) c.of-place.ensures c.in-Some.ensures.value))) c.requires.room;
+    }
 
 pub returns-in-Some : goal.returns-in-Some
 returns-in-Some c =
@@ -28,7 +30,7 @@ returns-in-Some c =
     let now = c.add.new.self in
     let new = (c.get_mut.follows.lender now).entries in
     let key = c.args.key.now in
-    let amount = c.args.amount.0 in
+    let holding = c.args.holding in
     let at : Some had ≡ lookup (is_at (place_cmp (place_of key))) old =
     found_place old c.of-place.result (place_of key) (Some had) c.of-place.ensures c.in-Some.ensures.value in
     let writes = c.get_mut.follows.holds now in
@@ -37,11 +39,11 @@ returns-in-Some c =
     updated_place old new c.of-place.result (place_of key) (Some now) c.of-place.ensures (writes.3 (subst IsSome c.in-Some.ensures.value refl)).0 in
     let fill : FillPlace (place_of key) now =
     either_way c.add.result c.add.ensures.ok c.add.ensures.err
-    (λ h. fill_update key had now (grown (lookup (same_key key) had) amount) (stand_had old key had at c.requires.filing) c.add.ensures.ordered h)
+    (λ h. fill_update key had now (joined (lookup (same_key key) had) holding) (stand_had old key had at c.requires.filing) c.add.ensures.ordered h)
     (λ same. subst (FillPlace (place_of key)) (sym same) (filled_at old (place_of key) had c.requires.filing at)) in
     record {
       filing = filed_update old new (place_of key) (Some now) c.requires.filing ordered update fill;
-      ok = on_ok_weaker c.add.result (λ h. found_update old new key (Some now) (Some (grown (found old key) amount)) update (put_had old key had at (λ o. Some (grown o amount)) now h)) c.add.ensures.ok;
+      ok = on_ok_weaker c.add.result (λ h. found_update old new key (Some now) (Some (joined (found old key) holding)) update (put_had old key had at (λ o. Some (joined o holding)) now h)) c.add.ensures.ok;
       new = subst (λ (o : Option Holding). IfOk c.add.result (λ is_new. is_new ≡ is_none o)) (found_had old key had at) c.add.ensures.new;
       err = on_err_weaker c.add.result (λ same. found_same old new (place_of key) had now at update same) c.add.ensures.err;
     }
@@ -58,7 +60,7 @@ returns-in_ok-insert-in-None-clause-filing c =
     updated_place before new c.of-place.result (place_of key) (Some now) c.of-place.ensures c.in_ok-insert-in-None.ensures.updates.0 in
     filed_update old new (place_of key) (Some now) c.requires.filing (ordered_places new c.in_ok-insert-in-None.ensures.ordered)
     (λ q. update q ∙ ap (λ es. cond (is_at (place_cmp (place_of key)) q) (Some now) (lookup (is_at (place_cmp q)) es)) same)
-    (fill_update key c.new-factors.result now (grown (lookup (same_key key) c.new-factors.result) c.args.amount.0) (stand_empty (place_of key) c.new-factors.result c.new-factors.ensures) c.add-in-None.ensures.ordered c.in_ok-add-in-None.ensures.ok)
+    (fill_update key c.new-factors.result now (joined (lookup (same_key key) c.new-factors.result) c.args.holding) (stand_empty (place_of key) c.new-factors.result c.new-factors.ensures) c.add-in-None.ensures.ordered c.in_ok-add-in-None.ensures.ok)
 
 pub returns-in_ok-insert-in-None-clause-ok : goal.returns-in_ok-insert-in-None-clause-ok
 returns-in_ok-insert-in-None-clause-ok c =
@@ -72,9 +74,9 @@ returns-in_ok-insert-in-None-clause-ok c =
     found_place old c.of-place.result (place_of key) None c.of-place.ensures c.in-None.ensures.value in
     let update : (q : Place) → lookup (is_at (place_cmp q)) new ≡ cond (is_at (place_cmp (place_of key)) q) (Some now) (lookup (is_at (place_cmp q)) before) =
     updated_place before new c.of-place.result (place_of key) (Some now) c.of-place.ensures c.in_ok-insert-in-None.ensures.updates.0 in
-    found_update old new key (Some now) (Some (grown (found old key) c.args.amount.0))
+    found_update old new key (Some now) (Some (joined (found old key) c.args.holding))
     (λ q. update q ∙ ap (λ es. cond (is_at (place_cmp (place_of key)) q) (Some now) (lookup (is_at (place_cmp q)) es)) same)
-    (put_first old key (λ o. Some (grown o c.args.amount.0)) c.new-factors.result now at c.new-factors.ensures c.in_ok-add-in-None.ensures.ok)
+    (put_first old key (λ o. Some (joined o c.args.holding)) c.new-factors.result now at c.new-factors.ensures c.in_ok-add-in-None.ensures.ok)
 
 pub returns-in_ok-insert-in-None-clause-new : goal.returns-in_ok-insert-in-None-clause-new
 returns-in_ok-insert-in-None-clause-new c =

@@ -1,12 +1,15 @@
-use Rattle.std.proofs.Common.{◌∷◌, ◌∙◌, [], sym, subst, Result, Ok, Err, OnErr, arith}
-use Rattle.factor_book.specs.Filing.{HasRoomFor}
-use Rattle.factor_book.proofs.Books.{one_of, can_grow, keys_below, added, unchanged, book_unchanged, book_new, book_known}
+use Rattle.std.proofs.Common.{◌∷◌, ◌∙◌, [], sym, subst, Result, Ok, Err, OnErr, IfSome, arith}
+use Rattle.factor_book.specs.declared.holding.Holding.{Holding}
+use Rattle.factor_book.specs.Holdings.{CanJoin}
+use Rattle.factor_book.specs.Filing.{HasRoomFor, found}
+use Rattle.factor_book.proofs.Books.{one_of, can_join, put_one, keys_below, added, unchanged, book_unchanged, book_new, book_known}
 use Rattle.factor_book.proofs.factors.Factors.add.Goals as goal
 
 pub add_at_place-requires-clause-room : goal.add_at_place-requires-clause-room
 add_at_place-requires-clause-room c =
-    can_grow c.self.inside.by_place.entries c.self.inside.keys c.args.key.now c.args.amount.0 c.self.invariant
-    (subst (HasRoomFor (one_of c.args.key.now c.args.amount.0 ∷ [])) (sym c.self.view_is) c.requires.room)
+    subst (λ (h : Holding). IfSome (found c.self.inside.by_place.entries c.args.key.now) (λ had. CanJoin had h)) (sym c.first.ensures)
+    (can_join c.self.inside.by_place.entries c.self.inside.keys c.args.key.now c.args.amount.0 c.self.invariant
+    (subst (HasRoomFor (one_of c.args.key.now c.args.amount.0 ∷ [])) (sym c.self.view_is) c.requires.room) c.requires.amount)
 
 pub invariant_of-self : goal.invariant_of-self
 invariant_of-self c =
@@ -32,17 +35,17 @@ overflow_add-self c =
 pub invariant_of-self-then-branch : goal.invariant_of-self-then-branch
 invariant_of-self-then-branch c =
     book_new c.self.inside.by_place.entries c.add_at_place.new.filed.entries c.self.inside.keys c.args.key.now c.args.amount.0 c.self.invariant c.add_at_place.ensures.filing
-    c.in_ok-add_at_place.ensures.ok c.requires.amount (sym c.in_ok-add_at_place.ensures.new ∙ c.if-branch.true)
+    (put_one c.self.inside.by_place.entries c.add_at_place.new.filed.entries c.args.key.now c.args.amount.0 c.first.result c.first.ensures c.in_ok-add_at_place.ensures.ok) c.requires.amount (sym c.in_ok-add_at_place.ensures.new ∙ c.if-branch.true)
 
 pub invariant_of-self-else-branch : goal.invariant_of-self-else-branch
 invariant_of-self-else-branch c =
     book_known c.self.inside.by_place.entries c.add_at_place.new.filed.entries c.self.inside.keys c.args.key.now c.args.amount.0 c.self.invariant c.add_at_place.ensures.filing
-    c.in_ok-add_at_place.ensures.ok c.requires.amount (sym c.in_ok-add_at_place.ensures.new ∙ c.if-branch.false)
+    (put_one c.self.inside.by_place.entries c.add_at_place.new.filed.entries c.args.key.now c.args.amount.0 c.first.result c.first.ensures c.in_ok-add_at_place.ensures.ok) c.requires.amount (sym c.in_ok-add_at_place.ensures.new ∙ c.if-branch.false)
 
 pub returns-then-branch-clause-ok : goal.returns-then-branch-clause-ok
 returns-then-branch-clause-ok c = λ ss e.
-    added c.self.inside.by_place.entries c.add_at_place.new.filed.entries c.args.key.now c.args.amount.0 c.self.invariant.filing c.add_at_place.ensures.filing c.in_ok-add_at_place.ensures.ok ss (c.self.view_is ∙ e)
+    added c.self.inside.by_place.entries c.add_at_place.new.filed.entries c.args.key.now c.args.amount.0 c.self.invariant.filing c.add_at_place.ensures.filing (put_one c.self.inside.by_place.entries c.add_at_place.new.filed.entries c.args.key.now c.args.amount.0 c.first.result c.first.ensures c.in_ok-add_at_place.ensures.ok) ss (c.self.view_is ∙ e)
 
 pub returns-else-branch-clause-ok : goal.returns-else-branch-clause-ok
 returns-else-branch-clause-ok c = λ ss e.
-    added c.self.inside.by_place.entries c.add_at_place.new.filed.entries c.args.key.now c.args.amount.0 c.self.invariant.filing c.add_at_place.ensures.filing c.in_ok-add_at_place.ensures.ok ss (c.self.view_is ∙ e)
+    added c.self.inside.by_place.entries c.add_at_place.new.filed.entries c.args.key.now c.args.amount.0 c.self.invariant.filing c.add_at_place.ensures.filing (put_one c.self.inside.by_place.entries c.add_at_place.new.filed.entries c.args.key.now c.args.amount.0 c.first.result c.first.ensures c.in_ok-add_at_place.ensures.ok) ss (c.self.view_is ∙ e)
