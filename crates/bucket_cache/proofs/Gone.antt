@@ -1,18 +1,17 @@
 -- A trade goes from a book and comes back.
-use Rattle.std.proofs.Common.{◌≡◌, ◌∙◌, ℕ, ◌^◌, ◌<◌, List, [], ◌∷◌, ◌++◌, length, find, Bool, true, false, not, ◌||◌, cond, Option, Some, option_map, suc, ◌==◌, true≢false, refl, sym, ap, subst, arith}
-use Rattle.std.specs.List.{list_all}
+use Rattle.std.proofs.Common.{◌≡◌, ◌∙◌, ℕ, ◌^◌, List, [], ◌∷◌, ◌++◌, length, find, Bool, true, false, not, ◌||◌, cond, Some, option_map, suc, ◌==◌, true≢false, refl, sym, ap, subst, arith}
 use Rattle.std.specs.List.Sorted.{IsPermutation}
 use Rattle.std.proofs.lemmas.Bool.Decides.{nat_tests}
 use Rattle.book_margin.specs.SimmKinds.declared.row.CrifRow.{CrifRow}
 use Rattle.book_margin.specs.SimmKinds.declared.row.TradeRows.{TradeRows}
-use Rattle.book_margin.specs.SimmKinds.Batch.{rows_of, is_in_range}
+use Rattle.book_margin.specs.SimmKinds.Batch.{rows_of}
 use Rattle.book_margin.specs.SimmKinds.Order.{same_name}
 use Rattle.book_margin.specs.SimmRules.Params.{Params}
 use Rattle.bucket_cache.specs.declared.sums.Sums.{Sums}
 use Rattle.bucket_cache.specs.Live.{IsLive, without, named, rows_in, rows_or_none}
 use Rattle.bucket_cache.specs.Sums.{book_sums, HasRoom}
 use Rattle.bucket_cache.proofs.Exchanges.{FactorsMove, AddOnsMove, moved_sums, moved_amounts, moved_few}
-use Rattle.bucket_cache.proofs.Maps.{same_name-equal, same_name-sym}
+use Rattle.bucket_cache.proofs.Maps.{same_name-equal}
 use Rattle.bucket_cache.proofs.Moves.{after, on_right, turned, rows_apart, rows_each-named}
 use Rattle.bucket_cache.proofs.Ranges.{few_rows}
 

@@ -1,5 +1,5 @@
 -- The book of a live margin under other parameters.
-use Rattle.std.proofs.Common.{◌≡◌, ℕ, ◌+◌, ◌^◌, ◌<◌, ◌≤◌, List, [], ◌∷◌, ◌++◌, length, Option, Some, None, IsSome, is_some, true, refl, sym, ap, ◌∙◌, subst, arith, append_assoc, append-nil}
+use Rattle.std.proofs.Common.{◌≡◌, ℕ, ◌+◌, ◌^◌, ◌<◌, ◌≤◌, List, [], ◌∷◌, ◌++◌, length, Option, Some, None, is_some, true, refl, sym, ap, ◌∙◌, subst, arith, append_assoc, append-nil}
 use Rattle.std.specs.List.{list_all, flat_map}
 use Rattle.std.specs.Map.{values_of}
 use Rattle.std.proofs.lemmas.Bool.{false≢true}
@@ -10,21 +10,18 @@ use Rattle.book_margin.specs.SimmKinds.Batch.{rows_of, is_in_range}
 use Rattle.book_margin.specs.SimmRules.Params.{Params}
 use Rattle.book_margin.specs.SimmRules.Range.{range}
 use Rattle.book_margin.specs.FactorBook.Factors.{factors_of}
-use Rattle.book_margin.specs.FactorBook.declared.at.ClassAt.{ClassAt}
 use Rattle.book_margin.specs.FactorBook.declared.place.Place.{Place}
 use Rattle.book_margin.specs.BookRange.declared.sizes.GrossSizes.{GrossSizes}
 use Rattle.book_margin.specs.BookRange.Faults.{AreOf}
 use Rattle.book_margin.specs.BookRange.Sizes.{sizes_in, HasSizeRoom}
 use Rattle.book_margin.specs.KeptBuckets.Kept.{Kept, value_at}
-use Rattle.book_margin.specs.Right.{AreRight}
 use Rattle.bucket_cache.specs.declared.place.RowPlace.{RowPlace}
 use Rattle.bucket_cache.specs.declared.sums.Sums.{Sums}
 use Rattle.bucket_cache.specs.Entries.{trade_of, trades_of}
-use Rattle.bucket_cache.specs.Held.{IsSummed, IsHeld}
 use Rattle.bucket_cache.specs.Live.{IsLive, unadmitted_row, row_at, unadmitted_from, first_unadmitted}
 use Rattle.bucket_cache.specs.Sums.{book_sums}
 use Rattle.bucket_cache.proofs.Admitted.{all_admitted}
-use Rattle.bucket_cache.proofs.Gaining.{each_pass, sums_are}
+use Rattle.bucket_cache.proofs.Gaining.{each_pass}
 use Rattle.bucket_cache.proofs.Keeping.{Entries}
 use Rattle.bucket_cache.proofs.Ranges.{few_rows}
 use Rattle.bucket_cache.proofs.Sizes.{few_trades}

@@ -1,5 +1,5 @@
 //! Changes of the current trades. Only `distinct_names` takes memory.
-ghost use Rattle.std.specs.Prelude.{◌≡◌, ◌+◌, ◌≤◌, ◌<◌, ◌^◌, ℕ, List, length, not, position, false, IfOk};
+ghost use Rattle.std.specs.Prelude.{◌≡◌, ◌+◌, ◌≤◌, ◌<◌, ℕ, List, length, not, position, false, IfOk};
 ghost use Rattle.std.specs.List.{list_any, filter};
 ghost use Rattle.indexmap.specs.IndexMap.{spare};
 ghost use Rattle.book_margin.specs.SimmKinds.Order.{same_name};

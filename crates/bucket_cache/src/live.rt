@@ -1,7 +1,7 @@
 mod copies;
 mod tables;
 
-ghost use Rattle.std.specs.Prelude.{◌≡◌, ◌+◌, ◌^◌, ◌<◌, ◌≤◌, ◌++◌, [], length, map, None, Some, Err, IsOk, IfOk, IfSome, OnOk, OnErr, ℕ, pos, ◌≤ℤ◌, ◌<ℤ◌, true, false, is_some};
+ghost use Rattle.std.specs.Prelude.{◌≡◌, ◌+◌, ◌^◌, ◌<◌, ◌≤◌, [], length, None, Some, Err, IsOk, IfOk, IfSome, OnOk, OnErr, ℕ, pos, ◌≤ℤ◌, ◌<ℤ◌, true, false, is_some};
 ghost use Rattle.std.specs.Option.{option_copied};
 ghost use Rattle.book_margin.specs.SimmKinds.Batch.{rows_of};
 ghost use Rattle.book_margin.specs.SimmRules.declared.values.RangeFault.{RangeFault as Fault};

@@ -4,12 +4,8 @@ ghost use Rattle.book_margin.specs.SimmKinds.Batch.{IsBatch, rows_of};
 ghost use Rattle.book_margin.specs.SimmKinds.Order.{same_name};
 ghost use Rattle.book_margin.specs.SimmKinds.Repeats.{repeats};
 ghost use Rattle.book_margin.specs.SimmRules.Range.{range};
-ghost use Rattle.book_margin.specs.FactorBook.Factors.{factors_of};
-ghost use Rattle.book_margin.specs.KeptBuckets.Touched.{Forgets};
-ghost use Rattle.book_margin.specs.Right.{AreRight};
-ghost use Rattle.bucket_cache.specs.Live.{IsLive, put_trades, without, named, rows_moved};
+ghost use Rattle.bucket_cache.specs.Live.{put_trades, without, named, rows_moved};
 ghost use Rattle.bucket_cache.specs.Entries.{trades_of, lent_names};
-ghost use Rattle.bucket_cache.specs.Sums.{book_sums};
 ghost use Rattle.bucket_cache.specs.Held.{IsSummed, IsMoved};
 
 use crate::exchanging::exchange;

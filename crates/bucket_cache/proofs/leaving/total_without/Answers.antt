@@ -1,4 +1,4 @@
-use Rattle.std.proofs.Common.{◌≡◌, ◌∙◌, ◌+◌, ◌≤◌, [], ◌∷◌, List, sym, ap, subst, arith}
+use Rattle.std.proofs.Common.{[], ◌∷◌, sym, ap, subst, arith}
 use Rattle.book_margin.specs.SimmKinds.declared.margin_side.MarginSide.TheVariants.{Collect}
 use Rattle.book_margin.specs.SimmKinds.Batch.{rows_of}
 use Rattle.book_margin.specs.SimmRules.declared.values.Breakdown.{Breakdown}
