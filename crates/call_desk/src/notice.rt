@@ -13,7 +13,7 @@ use std::alloc::{AllocError, Global};
 pub struct Notice {
     /// The netting set.
     pub set: Name,
-    /// The number of the call in its set.
+    /// The number of the call in its set, among those of the side that the set collects.
     pub number: u32,
     /// Whether collateral is delivered or returned.
     pub flow: Flow,
