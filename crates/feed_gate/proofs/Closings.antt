@@ -3,13 +3,13 @@ use Rattle.std.proofs.Common.{◌≡◌, ℕ, zero, suc, ◌+◌, arith, List, [
 use Rattle.std.specs.List.{slice_get}
 use Rattle.std.proofs.lemmas.Option.{none-some, same_Some}
 use Rattle.std.proofs.lemmas.List.{same_from_push, take_all}
-use Rattle.set_core.specs.HeldCell.declared.entry.Entry.{Entry}
-use Rattle.set_core.specs.HeldCell.Entries.{own_of}
-use Rattle.set_core.specs.HeldCell.Seats.{IsJoined}
-use Rattle.set_core.proofs.HeldCell.Owns.{own_within}
-use Rattle.set_core.specs.declared.event.Event.{Event}
-use Rattle.set_core.specs.declared.reply.Reply.{Reply}
-use Rattle.set_core.specs.Set.{Set}
+use Rattle.feed_events.specs.SetCore.HeldCell.declared.entry.Entry.{Entry}
+use Rattle.feed_events.specs.SetCore.HeldCell.Entries.{own_of}
+use Rattle.feed_events.specs.SetCore.HeldCell.Seats.{IsJoined}
+use Rattle.feed_events.proofs.SetCore.HeldCell.Owns.{own_within}
+use Rattle.feed_events.specs.SetCore.declared.event.Event.{Event}
+use Rattle.feed_events.specs.SetCore.declared.reply.Reply.{Reply}
+use Rattle.feed_events.specs.SetCore.Set.{Set}
 use Rattle.feed_gate.specs.Seats.{Cell, Seat}
 use Rattle.feed_gate.specs.Share.{IsFor, AreCellRows, AreLasts, AreCut, Holds, Gathers, AreKeptIn}
 use Rattle.feed_runs.proofs.Zips.{zip_get, zip_length, behind_front}

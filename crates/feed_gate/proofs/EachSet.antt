@@ -6,19 +6,20 @@ use Rattle.std.specs.declared.alloc.AllocError.{AllocError}
 use Rattle.std.proofs.lemmas.Bool.{cases_lt}
 use Rattle.std.proofs.lemmas.List.{take_at}
 use Rattle.std.proofs.lemmas.Option.{same_Some, slice_get_within, slice_get-get_or}
-use Rattle.crif_reader.specs.SimmKinds.Order.{same_name}
-use Rattle.feed_reader.specs.declared.message.Fed.{Fed}
-use Rattle.feed_reader.specs.Feed.{Sent}
-use Rattle.set_core.specs.declared.event.Event.{Event}
+use Rattle.feed_events.specs.CrifReader.SimmKinds.Order.{same_name}
+use Rattle.feed_events.specs.FeedReader.declared.message.Fed.{Fed}
+use Rattle.feed_events.specs.FeedReader.Feed.{Sent}
+use Rattle.feed_events.specs.SetCore.declared.event.Event.{Event}
 use Rattle.feed_gate.specs.declared.fate.Call.{Call}
 use Rattle.feed_gate.specs.declared.fate.Fate.{Fate}
 use Rattle.feed_gate.specs.declared.fate.Fate.TheVariants as fate
-use Rattle.feed_gate.specs.declared.block.BlockFault.{BlockFault}
-use Rattle.feed_gate.specs.declared.block.BlockFault.TheVariants as block
+use Rattle.feed_events.specs.declared.block.BlockFault.{BlockFault}
+use Rattle.feed_events.specs.declared.block.BlockFault.TheVariants as block
 use Rattle.feed_gate.specs.declared.report.RefusedMessage.{RefusedMessage}
 use Rattle.feed_gate.specs.declared.report.RefusedMessage.TheVariants as refused
-use Rattle.feed_gate.specs.Calls.{set_of, event_of, call_on}
-use Rattle.set_core.specs.ParamsFile.declared.text_fault.ParamTextFault.TheVariants as text
+use Rattle.feed_events.specs.Events.{set_of, event_of}
+use Rattle.feed_gate.specs.Calls.{call_on}
+use Rattle.feed_events.specs.SetCore.ParamsFile.declared.text_fault.ParamTextFault.TheVariants as text
 use Rattle.feed_gate.specs.Fates.{place_of, refused_block, by_event, by_place, fate_of}
 use Rattle.feed_gate.specs.Seats.{Cell, Seat, AreNamed, AreSeats, Sees, FindsFull, AllSee, ChangesOne, OfEachSet}
 use Rattle.feed_gate.specs.Met.{Met, MayBeFull, IsMetBy, IsMet, CallsSeat, MeetsFate, IsWithin, StepsBy, Steps}

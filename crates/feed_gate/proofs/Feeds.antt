@@ -2,16 +2,16 @@
 use Rattle.std.proofs.Common.{◌≡◌, ℕ, ◌+◌, ◌<◌, arith, List, [], ◌++◌, length, Bool, true, false, Option, Some, None, refl, sym, ap, ◌∙◌, subst, append_assoc, append-nil}
 use Rattle.std.specs.Io.KnownBytes.{append_known, prepend_known}
 use Rattle.std.proofs.lemmas.Bool.{false≢true}
-use Rattle.feed_reader.specs.MhIo.Source.{SourceSeen}
-use Rattle.feed_reader.specs.MhIo.Source as taking
-use Rattle.feed_reader.specs.MhIo.Lines as cut
-use Rattle.feed_reader.specs.MhIo.Lines.{lines, lines_behind}
-use Rattle.feed_reader.specs.MhIo.Lined.{Lined, CanCome, Took, is_ended, lines_now}
-use Rattle.feed_reader.specs.MhIo.declared.lines_answer.Supply.{Supply}
-use Rattle.feed_reader.specs.MhIo.declared.lines_answer.Supply.TheVariants as supply
-use Rattle.feed_reader.specs.Feed as message
-use Rattle.feed_reader.specs.Feed.{Item, FeedRun, AreItems, items_of, feed}
-use Rattle.feed_reader.specs.Answers.{TellsItems, ComesTo, GoesOn}
+use Rattle.feed_events.specs.FeedReader.MhIo.Source.{SourceSeen}
+use Rattle.feed_events.specs.FeedReader.MhIo.Source as taking
+use Rattle.feed_events.specs.FeedReader.MhIo.Lines as cut
+use Rattle.feed_events.specs.FeedReader.MhIo.Lines.{lines, lines_behind}
+use Rattle.feed_events.specs.FeedReader.MhIo.Lined.{Lined, CanCome, Took, is_ended, lines_now}
+use Rattle.feed_events.specs.FeedReader.MhIo.declared.lines_answer.Supply.{Supply}
+use Rattle.feed_events.specs.FeedReader.MhIo.declared.lines_answer.Supply.TheVariants as supply
+use Rattle.feed_events.specs.FeedReader.Feed as message
+use Rattle.feed_events.specs.FeedReader.Feed.{Item, FeedRun, AreItems, items_of, feed}
+use Rattle.feed_events.specs.FeedReader.Answers.{TellsItems, ComesTo, GoesOn}
 use Rattle.feed_runs.specs.Untaken.{fresh}
 use Rattle.feed_runs.specs.declared.feed_end.FeedEnd.{FeedEnd}
 use Rattle.feed_runs.specs.declared.feed_end.FeedEnd.TheVariants as end_at

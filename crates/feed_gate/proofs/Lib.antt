@@ -8,3 +8,4 @@ pub mod Starting
 pub mod Shares
 pub mod Closings
 pub mod Sources
+pub use Rattle.feed_events.proofs.SetCore as SetCore

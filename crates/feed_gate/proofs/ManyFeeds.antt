@@ -5,12 +5,12 @@ use Rattle.std.specs.Option.{is_none}
 use Rattle.std.proofs.lemmas.List.{map-append}
 use Rattle.std.proofs.lemmas.List.Elements.{filter_map-append}
 use Rattle.std.proofs.lemmas.List.Sums.{sum_by-append}
-use Rattle.feed_reader.specs.MhIo.Source.{SourceSeen}
-use Rattle.feed_reader.specs.MhIo.Lined.{Lined}
-use Rattle.crif_reader.specs.SimmKinds.Order.{same_name}
-use Rattle.feed_reader.specs.declared.message.Fed.{Fed}
-use Rattle.feed_reader.specs.Feed.{Item, Sent, BadAt, line_of}
-use Rattle.feed_reader.specs.Answers.{TellsItems, ComesTo}
+use Rattle.feed_events.specs.FeedReader.MhIo.Source.{SourceSeen}
+use Rattle.feed_events.specs.FeedReader.MhIo.Lined.{Lined}
+use Rattle.feed_events.specs.CrifReader.SimmKinds.Order.{same_name}
+use Rattle.feed_events.specs.FeedReader.declared.message.Fed.{Fed}
+use Rattle.feed_events.specs.FeedReader.Feed.{Item, Sent, BadAt, line_of}
+use Rattle.feed_events.specs.FeedReader.Answers.{TellsItems, ComesTo}
 use Rattle.feed_gate.specs.declared.fate.Fate.{Fate}
 use Rattle.feed_gate.specs.declared.report.RefusedMessage.{RefusedMessage}
 use Rattle.feed_gate.specs.declared.report.RefusedMessage.TheVariants as refused

@@ -6,7 +6,7 @@ use Rattle.std.proofs.lemmas.List.Quantifiers.{position-Some}
 use Rattle.std.proofs.lemmas.Slice.Eq.{bytes_eq-Decides}
 use Rattle.std.proofs.lemmas.Map.Text.{is_eq-slice_cmp}
 use Rattle.std.proofs.lemmas.Cmp.{eq_by_cmp_equiv, nat_list_cmp_total}
-use Rattle.crif_reader.specs.SimmKinds.Order.{same_name}
+use Rattle.feed_events.specs.CrifReader.SimmKinds.Order.{same_name}
 use Rattle.feed_gate.specs.Fates.{place_of}
 
 -- names that compare equal are equal

@@ -5,13 +5,13 @@ use Rattle.std.specs.Option.{is_none}
 use Rattle.std.proofs.lemmas.List.{map-append}
 use Rattle.std.proofs.lemmas.List.Elements.{filter_map-append}
 use mathlib.Core.List.{IsPrefix}
-use Rattle.set_core.specs.HeldCell.declared.entry.Entry.{Entry}
-use Rattle.set_core.specs.HeldCell.Entries.{entry, own_of}
-use Rattle.set_core.specs.HeldCell.Seats.{HasOwn}
-use Rattle.set_core.specs.HeldCell.Calls.{IsSameSeat}
-use Rattle.set_core.proofs.HeldCell.Begins.{prefix_self, prefix_trans}
-use Rattle.set_core.specs.declared.event.Event.{Event}
-use Rattle.set_core.specs.declared.reply.Reply.{Reply}
+use Rattle.feed_events.specs.SetCore.HeldCell.declared.entry.Entry.{Entry}
+use Rattle.feed_events.specs.SetCore.HeldCell.Entries.{entry, own_of}
+use Rattle.feed_events.specs.SetCore.HeldCell.Seats.{HasOwn}
+use Rattle.feed_events.specs.SetCore.HeldCell.Calls.{IsSameSeat}
+use Rattle.feed_events.proofs.SetCore.HeldCell.Begins.{prefix_self, prefix_trans}
+use Rattle.feed_events.specs.SetCore.declared.event.Event.{Event}
+use Rattle.feed_events.specs.SetCore.declared.reply.Reply.{Reply}
 use Rattle.feed_gate.specs.declared.report.RefusedMessage.{RefusedMessage}
 use Rattle.feed_gate.specs.declared.report.RefusedMessage.TheVariants as refused
 use Rattle.feed_gate.specs.Calls.{call_on}

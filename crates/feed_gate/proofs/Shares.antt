@@ -2,8 +2,8 @@
 use Rattle.std.proofs.Common.{◌≡◌, ℕ, ◌+◌, ◌-◌, ◌<◌, arith, List, [], ◌∷◌, ◌++◌, length, map, drop, get_or, All, refl, sym, ap, ◌∙◌, subst, length-append}
 use Rattle.std.specs.List.{AllZip}
 use Rattle.std.proofs.lemmas.List.{get_or_at, get_or-drop, map-append, length-map}
-use Rattle.set_core.specs.HeldCell.Entries.{own_of}
-use Rattle.set_core.specs.HeldCell.Seats.{left_seat, right_seat}
+use Rattle.feed_events.specs.SetCore.HeldCell.Entries.{own_of}
+use Rattle.feed_events.specs.SetCore.HeldCell.Seats.{left_seat, right_seat}
 use Rattle.feed_gate.specs.Seats.{Cell, Seat}
 use Rattle.feed_gate.specs.Share.{IsUnused, AreRows}
 

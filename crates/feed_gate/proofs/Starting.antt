@@ -4,10 +4,10 @@ use Rattle.std.specs.List.{AllByRecursion, IsDistinct}
 use Rattle.std.proofs.lemmas.Bool.{cases_lt}
 use Rattle.std.proofs.lemmas.List.{length-map, length-take-le, take_all}
 use Rattle.std.proofs.lemmas.List.Elements.{All-nil, All-cons}
-use Rattle.crif_reader.specs.SimmKinds.Order.{same_name}
-use Rattle.set_core.specs.SimmRules.Params.{Params}
-use Rattle.feed_reader.specs.CsaTerms.Terms.{Agreements, AreTerms}
-use Rattle.set_core.specs.Set.{Set, start}
+use Rattle.feed_events.specs.CrifReader.SimmKinds.Order.{same_name}
+use Rattle.feed_events.specs.SetCore.SimmRules.Params.{Params}
+use Rattle.feed_events.specs.FeedReader.CsaTerms.Terms.{Agreements, AreTerms}
+use Rattle.feed_events.specs.SetCore.Set.{Set, start}
 use Rattle.feed_gate.specs.Sets.{AreApart}
 
 same_terms : (p : Params) (agreements : List Agreements) → map (λ s. s.terms.collect.name) (map (start p) agreements) ≡ map (λ t. t.collect.name) agreements

@@ -1,17 +1,17 @@
 -- What a message comes to by its text alone: a call on a set, or a refusal with its cause.
 use Rattle.std.specs.Prelude.{ℕ, List, Option, Some, None, Result, Ok, Err, position}
-use Rattle.crif_reader.specs.SimmKinds.Order.{same_name}
-use Rattle.feed_reader.specs.declared.message.Fed.{Fed}
-use Rattle.feed_reader.specs.Feed.{Item, Sent, BadAt}
-use Rattle.set_core.specs.declared.event.Event.{Event}
-use Rattle.set_core.specs.ParamsFile.declared.text_fault.ParamTextFault.TheVariants as text
-use Rattle.feed_gate.specs.declared.block.BlockFault.{BlockFault}
-use Rattle.feed_gate.specs.declared.block.BlockFault.TheVariants as block
+use Rattle.feed_events.specs.CrifReader.SimmKinds.Order.{same_name}
+use Rattle.feed_events.specs.FeedReader.declared.message.Fed.{Fed}
+use Rattle.feed_events.specs.FeedReader.Feed.{Item, Sent, BadAt}
+use Rattle.feed_events.specs.SetCore.declared.event.Event.{Event}
+use Rattle.feed_events.specs.SetCore.ParamsFile.declared.text_fault.ParamTextFault.TheVariants as text
+use Rattle.feed_events.specs.declared.block.BlockFault.{BlockFault}
+use Rattle.feed_events.specs.declared.block.BlockFault.TheVariants as block
 use Rattle.feed_gate.specs.declared.fate.Fate.{Fate}
 use Rattle.feed_gate.specs.declared.fate.Fate.TheVariants as fate
 use Rattle.feed_gate.specs.declared.report.RefusedMessage.{RefusedMessage}
 use Rattle.feed_gate.specs.declared.report.RefusedMessage.TheVariants as refused
-use Rattle.feed_gate.specs.Calls.{set_of, event_of}
+use Rattle.feed_events.specs.Events.{set_of, event_of}
 
 -- the place of a set, from 0
 abbrev pub place_of : List ℕ → List (List ℕ) → Option ℕ

@@ -2,12 +2,12 @@
 use Rattle.std.specs.Prelude.{◌≡◌, ℕ, List, [], ◌∷◌, ◌++◌, map, Option, Some, None}
 use Rattle.std.specs.List.{AllByRecursion}
 use mathlib.Core.List.{IsPrefix}
-use Rattle.feed_reader.specs.MhIo.Source.{SourceSeen}
-use Rattle.feed_reader.specs.MhIo.Lined.{Lined}
-use Rattle.set_core.specs.HeldCell.Seats.{HasOwn}
-use Rattle.set_core.specs.HeldCell.Calls.{IsSameSeat}
-use Rattle.feed_reader.specs.Feed.{Item, line_of}
-use Rattle.feed_reader.specs.Answers.{TellsItems}
+use Rattle.feed_events.specs.FeedReader.MhIo.Source.{SourceSeen}
+use Rattle.feed_events.specs.FeedReader.MhIo.Lined.{Lined}
+use Rattle.feed_events.specs.SetCore.HeldCell.Seats.{HasOwn}
+use Rattle.feed_events.specs.SetCore.HeldCell.Calls.{IsSameSeat}
+use Rattle.feed_events.specs.FeedReader.Feed.{Item, line_of}
+use Rattle.feed_events.specs.FeedReader.Answers.{TellsItems}
 use Rattle.feed_gate.specs.declared.report.RefusedMessage.{RefusedMessage}
 use Rattle.feed_runs.specs.declared.feed_end.FeedEnd.{FeedEnd}
 use Rattle.feed_runs.specs.declared.feed_end.FeedEnd.TheVariants as end_at

@@ -1,6 +1,5 @@
 pub mod Numbers
 pub mod Calls
-pub mod Blocks
 pub mod Sets
 pub mod Run
 pub mod Fates
@@ -9,4 +8,6 @@ pub mod Met
 pub mod Jobs
 pub mod Share
 pub mod SetsRun
-pub use Rattle.feed_reader.specs as FeedReader
+pub use Rattle.feed_events.specs as FeedEvents
+pub use Rattle.feed_events.specs.FeedReader as FeedReader
+pub use Rattle.feed_events.specs.SetCore as SetCore

@@ -2,12 +2,12 @@
 use Rattle.std.specs.Prelude.{◌≡◌, ℕ, ◌<◌, List, [], ◌∷◌, ◌++◌, length, map, Option, Some, None, is_none, if◌then◌else◌}
 use Rattle.std.specs.List.{filter_map, count_by}
 use mathlib.Core.List.{IsPrefix}
-use Rattle.set_core.specs.HeldCell.declared.entry.Entry.{Entry}
-use Rattle.set_core.specs.HeldCell.Entries.{own_of}
-use Rattle.feed_reader.specs.Feed.{Item}
-use Rattle.set_core.specs.declared.event.Event.{Event}
-use Rattle.set_core.specs.declared.reply.Reply.{Reply}
-use Rattle.set_core.specs.Room.{journal_rows, IsFull}
+use Rattle.feed_events.specs.SetCore.HeldCell.declared.entry.Entry.{Entry}
+use Rattle.feed_events.specs.SetCore.HeldCell.Entries.{own_of}
+use Rattle.feed_events.specs.FeedReader.Feed.{Item}
+use Rattle.feed_events.specs.SetCore.declared.event.Event.{Event}
+use Rattle.feed_events.specs.SetCore.declared.reply.Reply.{Reply}
+use Rattle.feed_events.specs.SetCore.Room.{journal_rows, IsFull}
 use Rattle.feed_gate.specs.declared.fate.Call.{Call}
 use Rattle.feed_gate.specs.declared.fate.Fate.{Fate}
 use Rattle.feed_gate.specs.declared.fate.Fate.TheVariants as fate

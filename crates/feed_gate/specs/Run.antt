@@ -1,14 +1,14 @@
 -- The report of a feed, and how a feed ends.
 use Rattle.std.specs.Prelude.{◌≡◌, ℕ, ◌+◌, List, [], ◌∷◌, ◌++◌, length, Bool, Option, Some, None}
-use Rattle.feed_reader.specs.MhIo.Source.{SourceSeen}
-use Rattle.feed_reader.specs.MhIo.Lines as cut
-use Rattle.feed_reader.specs.MhIo.Lines.{lines}
-use Rattle.feed_reader.specs.MhIo.Lined.{Lined}
-use Rattle.feed_reader.specs.MhIo.declared.lines_answer.Supply.TheVariants as supply
-use Rattle.feed_reader.specs.MhIo.Limits.{most_bytes}
-use Rattle.feed_reader.specs.Feed as message
-use Rattle.feed_reader.specs.Feed.{Item, items_of, feed}
-use Rattle.feed_reader.specs.Answers.{ComesTo, ReadsFeed, GoesOn}
+use Rattle.feed_events.specs.FeedReader.MhIo.Source.{SourceSeen}
+use Rattle.feed_events.specs.FeedReader.MhIo.Lines as cut
+use Rattle.feed_events.specs.FeedReader.MhIo.Lines.{lines}
+use Rattle.feed_events.specs.FeedReader.MhIo.Lined.{Lined}
+use Rattle.feed_events.specs.FeedReader.MhIo.declared.lines_answer.Supply.TheVariants as supply
+use Rattle.feed_events.specs.FeedReader.MhIo.Limits.{most_bytes}
+use Rattle.feed_events.specs.FeedReader.Feed as message
+use Rattle.feed_events.specs.FeedReader.Feed.{Item, items_of, feed}
+use Rattle.feed_events.specs.FeedReader.Answers.{ComesTo, ReadsFeed, GoesOn}
 use Rattle.feed_gate.specs.declared.report.RefusedMessage.{RefusedMessage}
 use Rattle.feed_runs.specs.declared.feed_end.FeedEnd.{FeedEnd}
 use Rattle.feed_runs.specs.declared.feed_end.FeedEnd.TheVariants as end_at

@@ -1,14 +1,14 @@
 -- The seats by which a feed calls its sets, one for each set, and what one call makes of a seat.
 use Rattle.std.specs.Prelude.{◌≡◌, ◌≢◌, ℕ, ◌≤◌, List, length, Some, slice_get}
 use Rattle.std.specs.List.{IsDistinct}
-use Rattle.crif_reader.specs.SimmKinds.Order.{same_name}
-use Rattle.set_core.specs.SimmRules.Params.{Params}
-use Rattle.feed_reader.specs.CsaTerms.Terms.{Agreements}
-use Rattle.set_core.specs.HeldCell.Seats.{CellState, SeatState, IsSeatOf, HasOwn}
-use Rattle.set_core.specs.HeldCell.Calls.{SeesMore, AddsCall}
-use Rattle.set_core.specs.declared.event.Event.{Event}
-use Rattle.set_core.specs.declared.reply.Reply.{Reply}
-use Rattle.set_core.specs.Room.{journal_rows, IsFull}
+use Rattle.feed_events.specs.CrifReader.SimmKinds.Order.{same_name}
+use Rattle.feed_events.specs.SetCore.SimmRules.Params.{Params}
+use Rattle.feed_events.specs.FeedReader.CsaTerms.Terms.{Agreements}
+use Rattle.feed_events.specs.SetCore.HeldCell.Seats.{CellState, SeatState, IsSeatOf, HasOwn}
+use Rattle.feed_events.specs.SetCore.HeldCell.Calls.{SeesMore, AddsCall}
+use Rattle.feed_events.specs.SetCore.declared.event.Event.{Event}
+use Rattle.feed_events.specs.SetCore.declared.reply.Reply.{Reply}
+use Rattle.feed_events.specs.SetCore.Room.{journal_rows, IsFull}
 
 -- the cell of a netting set, and a seat of it
 abbrev pub Cell : Type 0

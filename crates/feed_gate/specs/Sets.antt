@@ -1,8 +1,8 @@
 -- Sets that feeds can call: at most sixteen, of different names.
 use Rattle.std.specs.Prelude.{List, ◌≤◌, length, map}
 use Rattle.std.specs.List.{IsDistinct}
-use Rattle.crif_reader.specs.SimmKinds.Order.{same_name}
-use Rattle.set_core.specs.Set.{Set}
+use Rattle.feed_events.specs.CrifReader.SimmKinds.Order.{same_name}
+use Rattle.feed_events.specs.SetCore.Set.{Set}
 
 pub record AreApart (sets : List Set) : Type 0 where
   pub few : length sets ≤ 16

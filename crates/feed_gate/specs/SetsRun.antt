@@ -1,12 +1,12 @@
 -- What running feeds side by side on sets does, from each feed's first byte to its end.
 use Rattle.std.specs.Prelude.{◌≡◌, ℕ, List, [], length, map, Bool}
 use Rattle.std.specs.List.{AllByRecursion, AllZip}
-use Rattle.feed_reader.specs.MhIo.Source.{SourceSeen}
-use Rattle.set_core.specs.HeldCell.declared.entry.Entry.{Entry}
-use Rattle.set_core.specs.HeldCell.Entries.{own_of}
-use Rattle.set_core.specs.declared.event.Event.{Event}
-use Rattle.set_core.specs.declared.reply.Reply.{Reply}
-use Rattle.set_core.specs.Set.{Set, IsSet}
+use Rattle.feed_events.specs.FeedReader.MhIo.Source.{SourceSeen}
+use Rattle.feed_events.specs.SetCore.HeldCell.declared.entry.Entry.{Entry}
+use Rattle.feed_events.specs.SetCore.HeldCell.Entries.{own_of}
+use Rattle.feed_events.specs.SetCore.declared.event.Event.{Event}
+use Rattle.feed_events.specs.SetCore.declared.reply.Reply.{Reply}
+use Rattle.feed_events.specs.SetCore.Set.{Set, IsSet}
 use Rattle.feed_gate.specs.declared.report.FeedReport.{FeedReport}
 use Rattle.feed_runs.specs.Ran.{RanFrom, EachRan}
 use Rattle.feed_gate.specs.Run.{IsEnd}

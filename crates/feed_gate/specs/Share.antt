@@ -2,12 +2,12 @@
 use Rattle.std.specs.Prelude.{◌≡◌, ℕ, ◌+◌, List, [], ◌∷◌, ◌++◌, Some, slice_get}
 use Rattle.std.specs.List.{AllZip}
 use mathlib.Core.List.{IsPrefix}
-use Rattle.set_core.specs.HeldCell.declared.entry.Entry.{Entry}
-use Rattle.set_core.specs.HeldCell.Entries.{own_of}
-use Rattle.set_core.specs.HeldCell.Seats.{IsSeatOf}
-use Rattle.set_core.specs.declared.event.Event.{Event}
-use Rattle.set_core.specs.declared.reply.Reply.{Reply}
-use Rattle.set_core.specs.Set.{Set, base_of, IsSet}
+use Rattle.feed_events.specs.SetCore.HeldCell.declared.entry.Entry.{Entry}
+use Rattle.feed_events.specs.SetCore.HeldCell.Entries.{own_of}
+use Rattle.feed_events.specs.SetCore.HeldCell.Seats.{IsSeatOf}
+use Rattle.feed_events.specs.SetCore.declared.event.Event.{Event}
+use Rattle.feed_events.specs.SetCore.declared.reply.Reply.{Reply}
+use Rattle.feed_events.specs.SetCore.Set.{Set, base_of, IsSet}
 use Rattle.feed_gate.specs.Seats.{Cell, Seat}
 
 -- ---- before the first call

@@ -4,12 +4,12 @@ ghost use Rattle.std.specs.List.{AllZip};
 ghost use Rattle.std.specs.Vec.{vec_len};
 ghost use Rattle.std.specs.VecDeque.{deque_len, deque_capacity};
 ghost use mathlib.Core.List.{IsPrefix};
-ghost use Rattle.set_core.specs.HeldCell.Entries.{own_of};
-ghost use Rattle.set_core.specs.HeldCell.Seats.{IsSeatOf, HasOwn};
+ghost use Rattle.feed_events.specs.SetCore.HeldCell.Entries.{own_of};
+ghost use Rattle.feed_events.specs.SetCore.HeldCell.Seats.{IsSeatOf, HasOwn};
 ghost use Rattle.feed_gate.specs.Share.{AreCellRows, AreLasts, AreCut, Gathers, Closes, AreKeptIn};
 
-use set_core::SetState;
-use set_core::held_cell::{HeldCell, Seat};
+use feed_events::set_core::SetState;
+use feed_events::set_core::held_cell::{HeldCell, Seat};
 use std::collections::VecDeque;
 
 /// Closes the cells, of which each caller has a seat in its row. `room` has room for the sets, and none of them.

@@ -1,20 +1,19 @@
 //! What a message comes to, before any set is called.
 ghost use Rattle.std.specs.Prelude.{◌≡◌, ◌≤◌, false, length, IfOk, OnOk};
-ghost use Rattle.set_core.specs.ParamsFile.Faults.{is_memory as is_param_memory};
-ghost use Rattle.feed_reader.specs.Feed.{Sent};
-ghost use Rattle.feed_gate.specs.Blocks.{Gives, is_batch_memory, is_memory};
+ghost use Rattle.feed_events.specs.SetCore.ParamsFile.Faults.{is_memory as is_param_memory};
+ghost use Rattle.feed_events.specs.FeedReader.Feed.{Sent};
+ghost use Rattle.feed_events.specs.Blocks.{is_batch_memory, is_memory};
 ghost use Rattle.feed_gate.specs.declared.fate.Fate.TheVariants as fate;
 ghost use Rattle.feed_gate.specs.declared.report.RefusedMessage.TheVariants as refused;
-ghost use Rattle.feed_gate.specs.Calls.{set_of, event_of};
 ghost use Rattle.feed_gate.specs.Fates.{place_of, fate_of, refused_block};
 
 use crate::RefusedMessage;
-use crate::block::{BlockFault, submit_of, tables_of};
-use crif_reader::CrifFault;
-use crif_reader::simm_kinds::Name;
-use feed_reader::{Fed, Message};
-use set_core::Event;
-use set_core::params_file::{ParamFault, ParamTextFault};
+use feed_events::crif_reader::CrifFault;
+use feed_events::crif_reader::simm_kinds::Name;
+use feed_events::feed_reader::Fed;
+use feed_events::set_core::Event;
+use feed_events::set_core::params_file::{ParamFault, ParamTextFault};
+use feed_events::{BlockFault, event_of, set_of};
 use std::alloc::{AllocError, Global};
 
 /// A call on the set at a place, from 0, of the message that begins in a line.
@@ -50,34 +49,10 @@ pub(crate) fn fate_of(alloc: Global, names: &[Name], fed: Fed) -> Result<Fate, A
     }
 }
 
-/// The set that a message names.
-fn set_of(message: &Message) -> &Name
-    ensures { result.now ≡ set_of message.now }
-{
-    match message {
-        Message::Crif { set, .. }
-        | Message::Tables { set, .. }
-        | Message::Withdraw { set, .. }
-        | Message::OnSide { set, .. } => set,
-    }
-}
-
 fn find_set(names: &[Name], name: &Name) -> Option<usize>
     ensures { result ≡ place_of name.now names.now }
 {
     names.iter().position(|known| name.cmp(known).is_eq())
-}
-
-/// The event of a message; the fault is that of its block, which is no batch or no tables.
-fn event_of(alloc: Global, message: Message) -> Result<Event, BlockFault>
-    ensures { Gives result (event_of message) }
-{
-    match message {
-        Message::Crif { block, .. } => submit_of(alloc, &block),
-        Message::Tables { block, .. } => tables_of(alloc, block),
-        Message::Withdraw { names, .. } => Ok(Event::Withdraw(names)),
-        Message::OnSide { side, event, .. } => Ok(Event::OnSide { side, event }),
-    }
 }
 
 /// Refuses a block for the first fault of its grammar. Want of memory is none of these.

@@ -1,8 +1,8 @@
 //! A feed from its next line to its end.
 ghost use Rattle.std.specs.Prelude.{◌≡◌, ◌^◌, ◌-◌, ◌<◌, ◌≤◌, List, None, Some};
-ghost use Rattle.feed_reader.specs.MhIo.Lined.{Lined};
-ghost use Rattle.feed_reader.specs.Feed.{Item, Sent};
-ghost use Rattle.feed_reader.specs.Answers.{TellsItems};
+ghost use Rattle.feed_events.specs.FeedReader.MhIo.Lined.{Lined};
+ghost use Rattle.feed_events.specs.FeedReader.Feed.{Item, Sent};
+ghost use Rattle.feed_events.specs.FeedReader.Answers.{TellsItems};
 ghost use Rattle.feed_gate.specs.declared.report.RefusedMessage.TheVariants as refused;
 ghost use Rattle.feed_gate.specs.Seats.{AreNamed, AreSeats};
 ghost use Rattle.feed_gate.specs.Run.{Reports};
@@ -11,12 +11,12 @@ ghost use Rattle.feed_gate.specs.Jobs.{Takes, Meets, RanFeed};
 use crate::fate::fate_of;
 use crate::set_call::make_call;
 use crate::{FeedJob, FeedReport, RefusedMessage};
-use crif_reader::simm_kinds::Name;
-use feed_reader::mh_io::Source;
-use feed_reader::{Fed, FeedFault, next_message};
+use feed_events::crif_reader::simm_kinds::Name;
+use feed_events::feed_reader::mh_io::Source;
+use feed_events::feed_reader::{Fed, FeedFault, next_message};
+use feed_events::set_core::SetState;
+use feed_events::set_core::held_cell::HeldCell;
 use feed_runs::{FeedEnd, Gate};
-use set_core::SetState;
-use set_core::held_cell::HeldCell;
 use std::alloc::Global;
 use std::sync::Wait;
 

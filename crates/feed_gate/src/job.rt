@@ -2,9 +2,9 @@ ghost use Rattle.std.specs.Prelude.{◌≡◌};
 ghost use Rattle.feed_gate.specs.Run.{no_report};
 
 use crate::FeedReport;
-use feed_reader::mh_io::{Lines, Source};
-use set_core::SetState;
-use set_core::held_cell::Seat;
+use feed_events::feed_reader::mh_io::{Lines, Source};
+use feed_events::set_core::SetState;
+use feed_events::set_core::held_cell::Seat;
 use std::alloc::Global;
 
 /// A feed that is to be run, or was.

@@ -6,11 +6,11 @@ ghost use Rattle.feed_gate.specs.Jobs.{RanFeed};
 
 use crate::FeedJob;
 use crate::feed::run_feed;
-use crif_reader::simm_kinds::Name;
-use feed_reader::mh_io::Source;
+use feed_events::crif_reader::simm_kinds::Name;
+use feed_events::feed_reader::mh_io::Source;
+use feed_events::set_core::SetState;
+use feed_events::set_core::held_cell::HeldCell;
 use feed_runs::Gate;
-use set_core::SetState;
-use set_core::held_cell::HeldCell;
 use std::alloc::Global;
 use std::sync::Wait;
 use std::thread::{Threads, for_each_mut};

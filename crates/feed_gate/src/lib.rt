@@ -4,7 +4,6 @@
 //! What a feed did is told set by set and by its own entries, whatever the other feeds did.
 #![tactic(auto)]
 
-mod block;
 mod close;
 mod fate;
 mod feed;
@@ -23,4 +22,4 @@ pub use sets_run::{SetsRun, run_on_sets};
 pub use start::make_sets;
 
 // what the crates above reach through this one
-pub use feed_reader;
+pub use feed_events::{feed_reader, set_core};

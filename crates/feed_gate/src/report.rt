@@ -2,10 +2,10 @@ ghost use Rattle.std.specs.Prelude.{◌≡◌};
 ghost use Rattle.feed_gate.specs.Numbers.{refused_number};
 ghost use Rattle.feed_gate.specs.Run.{no_report};
 
-use crif_reader::CrifFault;
-use crif_reader::simm_kinds::Listed;
+use feed_events::crif_reader::CrifFault;
+use feed_events::crif_reader::simm_kinds::Listed;
+use feed_events::set_core::params_file::ParamFault;
 use feed_runs::FeedEnd;
-use set_core::params_file::ParamFault;
 use std::alloc::Global;
 
 /// A message that made no call. `line` is the number of its first line, from 1.

@@ -1,14 +1,14 @@
 //! A call on the set of a message, by the feed's seat of it.
 ghost use Rattle.std.specs.Prelude.{IfOk, OnErr, length};
-ghost use Rattle.set_core.specs.HeldCell.Seats.{IsSeatOf};
+ghost use Rattle.feed_events.specs.SetCore.HeldCell.Seats.{IsSeatOf};
 ghost use Rattle.feed_gate.specs.Seats.{AreSeats, AllSee, Sees};
 ghost use Rattle.feed_gate.specs.Met.{MayBeFull, CallsSeat, MeetsFate, IsWithin};
 
 use crate::RefusedMessage;
 use crate::fate::{Call, Fate};
+use feed_events::set_core::SetState;
+use feed_events::set_core::held_cell::{HeldCell, Outcome, Seat};
 use feed_runs::Gate;
-use set_core::SetState;
-use set_core::held_cell::{HeldCell, Outcome, Seat};
 use std::alloc::AllocError;
 use std::sync::Wait;
 

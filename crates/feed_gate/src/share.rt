@@ -1,12 +1,12 @@
 //! Netting sets that callers share: a cell for each set, and a seat of each cell for every caller.
 ghost use Rattle.std.specs.Prelude.{◌≡◌, ◌<◌, ◌≤◌, [], length, map, All, IfOk};
 ghost use Rattle.std.specs.List.{AllZip};
-ghost use Rattle.set_core.specs.HeldCell.Seats.{IsSeatOf, left_seat, right_seat};
+ghost use Rattle.feed_events.specs.SetCore.HeldCell.Seats.{IsSeatOf, left_seat, right_seat};
 ghost use Rattle.feed_gate.specs.Share.{Starts, IsUnused, AreRows};
 
-use crif_reader::simm_kinds::Name;
-use set_core::SetState;
-use set_core::held_cell::{HeldCell, Seat};
+use feed_events::crif_reader::simm_kinds::Name;
+use feed_events::set_core::SetState;
+use feed_events::set_core::held_cell::{HeldCell, Seat};
 use std::alloc::{AllocError, Global};
 use std::collections::VecDeque;
 

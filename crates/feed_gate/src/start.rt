@@ -1,11 +1,11 @@
 //! Netting sets before their first call.
 ghost use Rattle.std.specs.Prelude.{◌≡◌, map, IfOk};
 ghost use Rattle.feed_gate.specs.Sets.{AreApart};
-ghost use Rattle.set_core.specs.Set.{start};
+ghost use Rattle.feed_events.specs.SetCore.Set.{start};
 
-use feed_reader::csa_terms::{BothTerms, Terms};
-use set_core::SetState;
-use set_core::simm_params::Params;
+use feed_events::feed_reader::csa_terms::{BothTerms, Terms};
+use feed_events::set_core::SetState;
+use feed_events::set_core::simm_params::Params;
 use std::alloc::{AllocError, Global};
 
 /// A set without calls.

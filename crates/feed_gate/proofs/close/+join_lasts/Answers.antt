@@ -1,6 +1,6 @@
 use Rattle.std.proofs.Common.{◌≡◌, ◌+◌, arith, map, sym, ap, ◌∙◌, subst}
 use Rattle.std.proofs.lemmas.List.{same_from_push}
-use Rattle.set_core.proofs.HeldCell.Begins.{prefix_trans}
+use Rattle.feed_events.proofs.SetCore.HeldCell.Begins.{prefix_trans}
 use Rattle.feed_gate.specs.Share.{IsFor, AreLasts, Gathers}
 use Rattle.feed_gate.proofs.Closings.{JoinedOwn, joined_own, holds_last}
 use Rattle.feed_gate.proofs.close.+join_lasts.Goals as goal

@@ -3,7 +3,7 @@ use Rattle.std.specs.List.{AllZip}
 use Rattle.std.specs.Vec.{vec_len}
 use Rattle.std.proofs.lemmas.List.{take_at, length-map}
 use Rattle.std.proofs.lemmas.Option.{slice_get_within, get_or_from_slice_get}
-use Rattle.set_core.specs.HeldCell.Entries.{own_of}
+use Rattle.feed_events.specs.SetCore.HeldCell.Entries.{own_of}
 use Rattle.feed_gate.specs.Share.{IsCut, AreLasts, AreCut, Gathers, Closes, AreKeptIn}
 use Rattle.feed_runs.proofs.Zips.{map_lengths, zip_length}
 use Rattle.feed_gate.proofs.Closings.{last_open, lasts_of, cut_rows, kept_more, kept_none, all_of, none_dropped}

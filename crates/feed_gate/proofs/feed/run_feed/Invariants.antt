@@ -1,5 +1,5 @@
 use Rattle.std.proofs.Common.{◌≡◌, ◌-◌, ◌≤◌, List}
-use Rattle.feed_reader.specs.MhIo.Limits.{most_bytes}
+use Rattle.feed_events.specs.FeedReader.MhIo.Limits.{most_bytes}
 use Rattle.feed_gate.specs.Met.{Met}
 use Rattle.feed_gate.specs.Jobs.{RanTo}
 use Rattle.feed_gate.proofs.feed.run_feed.Given as goal

@@ -1,6 +1,6 @@
 use Rattle.std.proofs.Common.{Some, Ok, Err, refl, subst}
-use Rattle.feed_reader.specs.Feed.{Sent, BadAt}
-use Rattle.feed_reader.specs.Answers.{Answers, Follows, StopsLines}
+use Rattle.feed_events.specs.FeedReader.Feed.{Sent, BadAt}
+use Rattle.feed_events.specs.FeedReader.Answers.{Answers, Follows, StopsLines}
 use Rattle.feed_gate.specs.declared.report.RefusedMessage.TheVariants as refused
 use Rattle.feed_gate.specs.Run.{Reports}
 use Rattle.feed_gate.proofs.EachSet.{all_see_self}

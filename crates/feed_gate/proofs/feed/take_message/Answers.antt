@@ -1,5 +1,5 @@
 use Rattle.std.proofs.Common.{◌≡◌, arith, length, Some, None, refl, sym, subst}
-use Rattle.feed_reader.specs.Feed.{Sent}
+use Rattle.feed_events.specs.FeedReader.Feed.{Sent}
 use Rattle.feed_gate.specs.Seats.{AllSee, OfEachSet}
 use Rattle.feed_gate.specs.Met.{IsWithin, MeetsFate, Steps}
 use Rattle.feed_gate.proofs.EachSet.{all_see_self, fate_within, meets_set, put_back}

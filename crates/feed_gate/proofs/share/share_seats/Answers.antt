@@ -1,7 +1,7 @@
 use Rattle.std.proofs.Common.{◌≡◌, ◌+◌, ◌-◌, ◌<◌, arith, length, map, sym, ap, ◌∙◌, subst}
 use Rattle.std.specs.List.{AllZip}
 use Rattle.std.proofs.lemmas.List.{length_push}
-use Rattle.set_core.specs.HeldCell.Seats.{IsSeatOf, right_seat}
+use Rattle.feed_events.specs.SetCore.HeldCell.Seats.{IsSeatOf, right_seat}
 use Rattle.feed_gate.specs.Share.{IsUnused, AreRows}
 use Rattle.feed_runs.proofs.Zips.{zip_weaker}
 use Rattle.feed_gate.proofs.Shares.{left_unused, right_unused, rows_more}

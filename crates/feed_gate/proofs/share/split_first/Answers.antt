@@ -1,7 +1,7 @@
 use Rattle.std.proofs.Common.{◌≡◌, ◌<◌, arith, [], ◌∷◌, ◌++◌, length, length-drop, map, take, drop, get_or, IfSome, refl, sym, ap, ◌∙◌, subst}
 use Rattle.std.proofs.lemmas.List.{drop-drop, take_all, map_more}
 use Rattle.std.proofs.lemmas.Option.{slice_get_read}
-use Rattle.set_core.specs.HeldCell.Seats.{IsSeatOf, left_seat, right_seat}
+use Rattle.feed_events.specs.SetCore.HeldCell.Seats.{IsSeatOf, left_seat, right_seat}
 use Rattle.feed_gate.specs.Seats.{Cell, Seat}
 use Rattle.feed_runs.proofs.Zips.{zip_length, zip_at}
 use Rattle.feed_gate.proofs.Shares.{first_behind}

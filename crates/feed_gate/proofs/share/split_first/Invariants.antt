@@ -1,5 +1,5 @@
 use Rattle.std.proofs.Common.{◌≡◌, map, take, drop}
-use Rattle.set_core.specs.HeldCell.Seats.{left_seat, right_seat}
+use Rattle.feed_events.specs.SetCore.HeldCell.Seats.{left_seat, right_seat}
 use Rattle.feed_gate.proofs.share.split_first.Given as goal
 
 abbrev pub invariant-loop-cell : goal.invariant-loop-cell

@@ -1,7 +1,7 @@
 use Rattle.std.proofs.Common.{◌≡◌, List, ◌++◌}
 use Rattle.std.specs.List.{AllZip}
 use Rattle.std.specs.VecDeque.{deque_len}
-use Rattle.set_core.specs.Set.{Set}
+use Rattle.feed_events.specs.SetCore.Set.{Set}
 use Rattle.feed_gate.specs.Share.{Starts, IsUnused}
 use Rattle.feed_gate.proofs.share.start_cells.Given as goal
 

@@ -1,5 +1,5 @@
 use Rattle.std.proofs.Common.{◌∙◌, ap, map, take}
-use Rattle.set_core.specs.Set.{start}
+use Rattle.feed_events.specs.SetCore.Set.{start}
 use Rattle.feed_gate.proofs.Starting.{apart_part}
 use Rattle.feed_gate.proofs.start.make_sets.Goals as goal
 

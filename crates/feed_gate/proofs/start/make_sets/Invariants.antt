@@ -1,5 +1,5 @@
 use Rattle.std.proofs.Common.{◌≡◌, map, take}
-use Rattle.set_core.specs.Set.{start}
+use Rattle.feed_events.specs.SetCore.Set.{start}
 use Rattle.feed_gate.proofs.start.make_sets.Given as goal
 
 abbrev pub invariant-loop-agreement : goal.invariant-loop-agreement

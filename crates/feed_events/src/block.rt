@@ -1,7 +1,7 @@
 //! The event that the block of a message is, as a file of its own.
 ghost use Rattle.std.specs.Prelude.{◌≡◌};
-ghost use Rattle.feed_gate.specs.Blocks.{Gives};
-ghost use Rattle.feed_gate.specs.Calls.{submit_of, tables_of};
+ghost use Rattle.feed_events.specs.Blocks.{Gives};
+ghost use Rattle.feed_events.specs.Events.{submit_of, tables_of};
 
 use crif_reader::{CrifFault, read_batch};
 use feed_reader::mh_units::Bytes;
@@ -11,7 +11,7 @@ use std::alloc::Global;
 
 /// Why a block gives no event, or want of memory.
 #[derive(Drop)]
-pub(crate) enum BlockFault {
+pub enum BlockFault {
     /// It is no batch.
     Batch(CrifFault),
     /// It is no tables.
@@ -19,7 +19,7 @@ pub(crate) enum BlockFault {
 }
 
 impl From<CrifFault> for BlockFault {
-    ghost use Rattle.feed_gate.specs.declared.block.BlockFault.TheVariants.{Batch};
+    ghost use Rattle.feed_events.specs.declared.block.BlockFault.TheVariants.{Batch};
 
     ghost from_gives = { λ crif fault. fault ≡ Batch crif };
 
@@ -29,7 +29,7 @@ impl From<CrifFault> for BlockFault {
 }
 
 impl From<ParamTextFault> for BlockFault {
-    ghost use Rattle.feed_gate.specs.declared.block.BlockFault.TheVariants.{Tables};
+    ghost use Rattle.feed_events.specs.declared.block.BlockFault.TheVariants.{Tables};
 
     ghost from_gives = { λ text fault. fault ≡ Tables text };
 

@@ -5,8 +5,8 @@ use Rattle.crif_reader.specs.declared.fault.CrifFault.TheVariants as crif
 use Rattle.set_core.specs.ParamsFile.TomlValues.Answers.{Answers}
 use Rattle.set_core.specs.ParamsFile.Texts.{is_text_memory}
 use Rattle.set_core.specs.declared.event.Event.{Event}
-use Rattle.feed_gate.specs.declared.block.BlockFault.{BlockFault}
-use Rattle.feed_gate.specs.declared.block.BlockFault.TheVariants as block
+use Rattle.feed_events.specs.declared.block.BlockFault.{BlockFault}
+use Rattle.feed_events.specs.declared.block.BlockFault.TheVariants as block
 
 abbrev pub is_batch_memory : CrifFault → Bool
 is_batch_memory crif.Memory = true

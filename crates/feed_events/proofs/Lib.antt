@@ -1,0 +1,1 @@
+pub use Rattle.set_core.proofs as SetCore
