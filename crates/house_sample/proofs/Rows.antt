@@ -8,7 +8,7 @@ use Rattle.std.proofs.lemmas.Nat.{mod_below}
 use Rattle.std.proofs.lemmas.Fmt.{length-decimal-le}
 use Rattle.std.proofs.lemmas.List.Folds.{list_all-append}
 use Rattle.simm_params.specs.MhUnits.Grammar.{IsDigit}
-use Rattle.simm_params.specs.SimmKinds.NameText.{IsName, is_printable, is_trimmed}
+use Rattle.simm_params.specs.SimmKinds.NameText.{IsName, is_trimmed}
 use Rattle.simm_params.specs.SimmKinds.Batch.{IsBatch, is_amount}
 use Rattle.crif_writer.proofs.Plain.{is_visible, plain_visible}
 use Rattle.crif_writer.proofs.Numerals.{decimal_written}
@@ -82,16 +82,6 @@ name_short feed batch few less =
     let dash : length (codes "-") ≡ 1 = refl in
     omega (arith, f, b, first, dash, length-name feed batch)
 
-visible_printable : (xs : List ℕ) → list_all is_visible xs ≡ true → list_all is_printable xs ≡ true
-visible_printable [] h = refl
-visible_printable (b ∷ bs) h =
-    let both = and_parts (is_visible b) (list_all is_visible bs) h in
-    let within = and_parts (nat_le 33 b) (nat_le b 126) both.0 in
-    let low : 33 ≤ b = leb-true 33 b within.0 in
-    let high : b ≤ 126 = leb-true b 126 within.1 in
-    let del : (b == 127) ≡ false = ne_eqb b 127 (omega (arith, high)) in
-    and_from (is_printable b) (list_all is_printable bs) (and_from (nat_le 32 b) (not (b == 127)) (le-leb 32 b (omega (arith, low))) (ap not del)) (visible_printable bs both.1)
-
 visible_at : (xs : List ℕ) (i : ℕ) → list_all is_visible xs ≡ true → i < length xs → (get_or xs i 0 == 32) ≡ false
 visible_at [] i h within = absurd (omega (arith, within))
 visible_at (b ∷ bs) zero h within =
@@ -109,7 +99,8 @@ visible_trimmed (b ∷ bs) h =
 -- visible ASCII text is a name
 pub visible_name : (xs : List ℕ) → list_all is_visible xs ≡ true → length xs ≤ 64 → IsName xs
 visible_name xs h short =
-    rw (le-ltb 64 (length xs) short, (plain_visible xs h).text, visible_printable xs h, visible_trimmed xs h) refl
+    let plain = plain_visible xs h short in
+    rw (le-ltb 64 (length xs) short, plain.text, plain.prints, visible_trimmed xs h) refl
 
 pub name_is : (feed batch : ℕ) (text : List ℕ) → text ≡ trade_name feed batch → feed < 32 → batch < 50 → IsName text
 name_is feed batch text same few less =

@@ -4,23 +4,23 @@ use Rattle.std.specs.List.{AllByRecursion, IsDistinct}
 use Rattle.std.proofs.lemmas.Bool.{or_parts, or_from}
 use Rattle.std.proofs.lemmas.Grind.{flat_map-append}
 use Rattle.book_range.proofs.Lists.{each_append, each_parts}
-use Rattle.set_core.specs.BucketCache.Live.{put_trade, first_unadmitted, is_current as has_trade}
+use Rattle.feed_gate.specs.SetCore.BucketCache.Live.{put_trade, first_unadmitted, is_current as has_trade}
 use Rattle.simm_kinds.specs.declared.row.TradeRows.{TradeRows}
 use Rattle.simm_kinds.specs.Batch.{rows_of}
 use Rattle.simm_kinds.specs.Order.{same_name}
 use Rattle.simm_rules.specs.Range.{range}
-use Rattle.feed_reader.specs.CsaTerms.Terms.{Agreements}
+use Rattle.feed_gate.specs.FeedReader.CsaTerms.Terms.{Agreements}
 use Rattle.held_cell.specs.declared.entry.Entry.{Entry}
 use Rattle.held_cell.specs.Entries.{entry}
-use Rattle.set_core.specs.declared.event.Event.{Event}
-use Rattle.set_core.specs.declared.event.Event.TheVariants as event
-use Rattle.set_core.specs.declared.reply.Reply.{Reply}
-use Rattle.set_core.specs.declared.reply.Reply.TheVariants as reply
-use Rattle.set_core.specs.Answer.{if_admitted, book_with, answer_by, IsLegal}
-use Rattle.set_core.specs.Book.{Silent, is_accepted, word, trades_of_event, accepted_trades, book}
-use Rattle.set_core.specs.Kept.{AreDifferent}
-use Rattle.set_core.proofs.Books.{book-submitted, book-silent}
-use Rattle.set_core.proofs.Names.{same_name_sym}
+use Rattle.feed_gate.specs.SetCore.declared.event.Event.{Event}
+use Rattle.feed_gate.specs.SetCore.declared.event.Event.TheVariants as event
+use Rattle.feed_gate.specs.SetCore.declared.reply.Reply.{Reply}
+use Rattle.feed_gate.specs.SetCore.declared.reply.Reply.TheVariants as reply
+use Rattle.feed_gate.specs.SetCore.Answer.{if_admitted, book_with, answer_by, IsLegal}
+use Rattle.feed_gate.specs.SetCore.Book.{Silent, is_accepted, word, trades_of_event, accepted_trades, book}
+use Rattle.feed_gate.specs.SetCore.Kept.{AreDifferent}
+use Rattle.feed_gate.proofs.SetCore.Books.{book-submitted, book-silent}
+use Rattle.feed_gate.proofs.SetCore.Names.{same_name_sym}
 use Rattle.house_sample.specs.Parameters.{sample_params}
 use Rattle.house_sample.specs.Trades.{rows_from, row_from}
 use Rattle.house_sample.proofs.InRange.{IsDrawn, drawn_in_range}

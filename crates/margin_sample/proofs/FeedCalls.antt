@@ -11,15 +11,16 @@ use Rattle.simm_kinds.specs.Batch.{rows_of}
 use Rattle.simm_kinds.specs.declared.margin_side.MarginSide.TheVariants.{Collect}
 use Rattle.simm_kinds.specs.Order.{same_name}
 use Rattle.book_range.proofs.Lists.{each_append}
-use Rattle.feed_reader.specs.SideEvents.declared.side_event.SideEvent.TheVariants as side
-use Rattle.feed_reader.specs.declared.message.Message.TheVariants as message
-use Rattle.feed_reader.specs.Feed.{Item, Sent}
-use Rattle.set_core.specs.declared.event.Event.{Event}
-use Rattle.set_core.specs.declared.event.Event.TheVariants as event
-use Rattle.set_core.specs.Room.{event_rows}
+use Rattle.feed_gate.specs.FeedReader.SideEvents.declared.side_event.SideEvent.TheVariants as side
+use Rattle.feed_gate.specs.FeedReader.declared.message.Message.TheVariants as message
+use Rattle.feed_gate.specs.FeedReader.Feed.{Item, Sent}
+use Rattle.feed_gate.specs.SetCore.declared.event.Event.{Event}
+use Rattle.feed_gate.specs.SetCore.declared.event.Event.TheVariants as event
+use Rattle.feed_gate.specs.SetCore.Room.{event_rows}
 use Rattle.feed_gate.specs.declared.report.RefusedMessage.{RefusedMessage}
 use Rattle.feed_gate.specs.declared.report.RefusedMessage.TheVariants as refused
-use Rattle.feed_gate.specs.Calls.{submit_of, call_on}
+use Rattle.feed_gate.specs.FeedEvents.Events.{submit_of}
+use Rattle.feed_gate.specs.Calls.{call_on}
 use Rattle.feed_gate.specs.Fates.{by_event}
 use Rattle.feed_gate.specs.Met.{IsMetBy, IsMet}
 use Rattle.house_sample.specs.CrifWriter.Text.{batch_text}

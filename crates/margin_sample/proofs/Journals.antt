@@ -18,12 +18,12 @@ use Rattle.simm_kinds.specs.Batch.{rows_of}
 use Rattle.simm_rules.specs.Params.{Params}
 use Rattle.held_cell.specs.declared.entry.Entry.{Entry}
 use Rattle.held_cell.specs.Entries.{own_of}
-use Rattle.set_core.specs.declared.event.Event.{Event}
-use Rattle.set_core.specs.declared.event.Event.TheVariants as event
-use Rattle.set_core.specs.declared.reply.Reply.{Reply}
-use Rattle.set_core.specs.Book.{is_accepted, trades_of_event}
-use Rattle.set_core.specs.Tables.{tables_of_event, tables}
-use Rattle.set_core.specs.Room.{event_rows, journal_rows, IsFull}
+use Rattle.feed_gate.specs.SetCore.declared.event.Event.{Event}
+use Rattle.feed_gate.specs.SetCore.declared.event.Event.TheVariants as event
+use Rattle.feed_gate.specs.SetCore.declared.reply.Reply.{Reply}
+use Rattle.feed_gate.specs.SetCore.Book.{is_accepted, trades_of_event}
+use Rattle.feed_gate.specs.SetCore.Tables.{tables_of_event, tables}
+use Rattle.feed_gate.specs.SetCore.Room.{event_rows, journal_rows, IsFull}
 use Rattle.feed_gate.specs.declared.report.RefusedMessage.{RefusedMessage}
 use Rattle.feed_gate.specs.declared.report.RefusedMessage.TheVariants as refused
 use Rattle.feed_gate.specs.Calls.{call_on}

@@ -5,9 +5,9 @@ use Rattle.std.specs.Io.KnownBytes.{IsAtEnd}
 use Rattle.std.proofs.lemmas.Bool.{and_parts, cases_lt}
 use Rattle.mh_io.specs.Memory.{MemorySource, source_seen}
 use Rattle.mh_io.specs.Source.{Takes}
-use Rattle.feed_reader.specs.Feed.{Whole, FeedRun, feed}
-use Rattle.feed_reader.specs.CsaTerms.Terms.{Agreements}
-use Rattle.set_core.specs.Set.{Set, start}
+use Rattle.feed_gate.specs.FeedReader.Feed.{Whole, FeedRun, feed}
+use Rattle.feed_gate.specs.FeedReader.CsaTerms.Terms.{Agreements}
+use Rattle.feed_gate.specs.SetCore.Set.{Set, start}
 use Rattle.feed_runs.specs.declared.feed_end.FeedEnd.{FeedEnd}
 use Rattle.feed_runs.specs.declared.feed_end.FeedEnd.TheVariants as end_at
 use Rattle.feed_gate.specs.declared.report.FeedReport.{FeedReport}

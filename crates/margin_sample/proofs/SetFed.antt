@@ -9,13 +9,13 @@ use Rattle.simm_kinds.specs.declared.row.TradeRows.{TradeRows}
 use Rattle.simm_kinds.specs.Batch.{rows_of}
 use Rattle.simm_rules.specs.Simm.{simm}
 use Rattle.held_cell.specs.declared.entry.Entry.{Entry}
-use Rattle.set_core.specs.declared.event.Event.{Event}
-use Rattle.set_core.specs.declared.reply.Reply.{Reply}
-use Rattle.set_core.specs.Answer.{IsLegal}
-use Rattle.set_core.specs.Book.{book}
-use Rattle.set_core.specs.Tables.{tables}
-use Rattle.set_core.specs.Set.{Set, start}
-use Rattle.set_core.proofs.Names.{same_name_sym}
+use Rattle.feed_gate.specs.SetCore.declared.event.Event.{Event}
+use Rattle.feed_gate.specs.SetCore.declared.reply.Reply.{Reply}
+use Rattle.feed_gate.specs.SetCore.Answer.{IsLegal}
+use Rattle.feed_gate.specs.SetCore.Book.{book}
+use Rattle.feed_gate.specs.SetCore.Tables.{tables}
+use Rattle.feed_gate.specs.SetCore.Set.{Set, start}
+use Rattle.feed_gate.proofs.SetCore.Names.{same_name_sym}
 use Rattle.feed_gate.specs.SetsRun.{IsRun}
 use Rattle.house_sample.specs.Parameters.{sample_params}
 use Rattle.house_sample.specs.Agreements.{set_name, agreements}

@@ -3,12 +3,12 @@ use Rattle.std.proofs.Common.{◌≡◌, ℕ, ◌+◌, ◌*◌, List, [], ◌∷
 use Rattle.std.specs.Fmt.{decimal}
 use Rattle.simm_kinds.specs.declared.margin_side.MarginSide.TheVariants.{Collect}
 use Rattle.simm_rules.specs.declared.values.Breakdown.{Breakdown}
-use Rattle.set_core.specs.Set.{Set}
-use Rattle.feed_reader.specs.CsaTerms.Terms.{Agreements}
-use Rattle.feed_reader.specs.SideEvents.declared.side_event.SideEvent.TheVariants as side
+use Rattle.feed_gate.specs.SetCore.Set.{Set}
+use Rattle.feed_gate.specs.FeedReader.CsaTerms.Terms.{Agreements}
+use Rattle.feed_gate.specs.FeedReader.SideEvents.declared.side_event.SideEvent.TheVariants as side
 use Rattle.held_cell.specs.Entries.{entry}
-use Rattle.set_core.specs.declared.event.Event.TheVariants as event
-use Rattle.set_core.specs.declared.reply.Reply.TheVariants as reply
+use Rattle.feed_gate.specs.SetCore.declared.event.Event.TheVariants as event
+use Rattle.feed_gate.specs.SetCore.declared.reply.Reply.TheVariants as reply
 use Rattle.fault_text.specs.Fields.{field, last_field}
 use Rattle.breakdown_text.specs.Margins.{margin_text}
 use Rattle.house_sample.specs.Agreements.{set_name}

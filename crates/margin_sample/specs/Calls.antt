@@ -1,9 +1,9 @@
 -- The calls that a feed of a sample makes on a set.
 use Rattle.std.specs.Prelude.{ℕ, zero, suc, ◌==◌, List, [], ◌∷◌, ◌++◌, if◌then◌else◌}
 use Rattle.simm_kinds.specs.declared.margin_side.MarginSide.TheVariants.{Collect}
-use Rattle.set_core.specs.declared.event.Event.{Event}
-use Rattle.set_core.specs.declared.event.Event.TheVariants as event
-use Rattle.feed_reader.specs.SideEvents.declared.side_event.SideEvent.TheVariants as side
+use Rattle.feed_gate.specs.SetCore.declared.event.Event.{Event}
+use Rattle.feed_gate.specs.SetCore.declared.event.Event.TheVariants as event
+use Rattle.feed_gate.specs.FeedReader.SideEvents.declared.side_event.SideEvent.TheVariants as side
 use Rattle.house_sample.specs.Trades.{batch_at, place_of, batches}
 
 -- a question after the margin that is collected

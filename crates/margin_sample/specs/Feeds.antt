@@ -1,7 +1,7 @@
 -- The feeds of a sample before they run, and that each ran to its end.
 use Rattle.std.specs.Prelude.{◌≡◌, ℕ, ◌+◌, ◌<◌, List, [], ◌∷◌, Bool, true, false}
 use Rattle.mh_io.specs.Memory.{MemorySource}
-use Rattle.feed_reader.specs.Feed.{Whole, feed}
+use Rattle.feed_gate.specs.FeedReader.Feed.{Whole, feed}
 use Rattle.feed_runs.specs.declared.feed_end.FeedEnd.{FeedEnd}
 use Rattle.feed_runs.specs.declared.feed_end.FeedEnd.TheVariants as end_at
 use Rattle.house_sample.specs.Feeds.{messages_of}

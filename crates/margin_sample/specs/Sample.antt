@@ -7,12 +7,12 @@ use Rattle.simm_kinds.specs.declared.margin_side.MarginSide.TheVariants.{Collect
 use Rattle.simm_rules.specs.declared.values.Breakdown.{Breakdown}
 use Rattle.simm_rules.specs.Simm.{simm}
 use Rattle.held_cell.specs.Entries.{entry}
-use Rattle.set_core.specs.declared.event.Event.TheVariants as event
-use Rattle.feed_reader.specs.SideEvents.declared.side_event.SideEvent.TheVariants as side
-use Rattle.set_core.specs.declared.reply.Reply.TheVariants as reply
-use Rattle.set_core.specs.Book.{book}
-use Rattle.set_core.specs.Tables.{tables}
-use Rattle.set_core.specs.Set.{Set, IsSet}
+use Rattle.feed_gate.specs.SetCore.declared.event.Event.TheVariants as event
+use Rattle.feed_gate.specs.FeedReader.SideEvents.declared.side_event.SideEvent.TheVariants as side
+use Rattle.feed_gate.specs.SetCore.declared.reply.Reply.TheVariants as reply
+use Rattle.feed_gate.specs.SetCore.Book.{book}
+use Rattle.feed_gate.specs.SetCore.Tables.{tables}
+use Rattle.feed_gate.specs.SetCore.Set.{Set, IsSet}
 use Rattle.fault_text.specs.Fields.{field, last_field}
 use Rattle.breakdown_text.specs.Margins.{margin_text}
 use Rattle.command_files.specs.declared.status.Status.{Status}

@@ -6,13 +6,13 @@ use Rattle.simm_rules.specs.declared.values.Breakdown.{Breakdown}
 use Rattle.simm_rules.specs.Simm.{simm}
 use Rattle.held_cell.specs.declared.entry.Entry.{Entry}
 use Rattle.held_cell.specs.Entries.{own_of}
-use Rattle.set_core.specs.declared.event.Event.{Event}
-use Rattle.set_core.specs.declared.event.Event.TheVariants as event
-use Rattle.set_core.specs.declared.reply.Reply.{Reply}
-use Rattle.set_core.specs.declared.reply.Reply.TheVariants as reply
-use Rattle.set_core.specs.Book.{book}
-use Rattle.set_core.specs.Tables.{tables}
-use Rattle.set_core.specs.Set.{Set, IsSet}
+use Rattle.feed_gate.specs.SetCore.declared.event.Event.{Event}
+use Rattle.feed_gate.specs.SetCore.declared.event.Event.TheVariants as event
+use Rattle.feed_gate.specs.SetCore.declared.reply.Reply.{Reply}
+use Rattle.feed_gate.specs.SetCore.declared.reply.Reply.TheVariants as reply
+use Rattle.feed_gate.specs.SetCore.Book.{book}
+use Rattle.feed_gate.specs.SetCore.Tables.{tables}
+use Rattle.feed_gate.specs.SetCore.Set.{Set, IsSet}
 use Rattle.feed_gate.specs.Met.{events_of}
 use Rattle.house_sample.specs.Parameters.{sample_params}
 use Rattle.house_sample.specs.Agreements.{set_name, agreements}

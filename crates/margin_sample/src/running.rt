@@ -2,18 +2,18 @@
 ghost use Rattle.std.specs.Prelude.{◌≡◌, ◌≤◌, ◌<◌, [], map, length, All, IfOk};
 ghost use Rattle.std.specs.List.{list_all};
 ghost use Rattle.feed_gate.specs.Sets.{AreApart};
-ghost use Rattle.set_core.specs.Set.{start};
+ghost use Rattle.feed_gate.specs.SetCore.Set.{start};
 ghost use Rattle.house_sample.specs.Parameters.{sample_params};
 ghost use Rattle.house_sample.specs.Agreements.{sample_terms};
 ghost use Rattle.margin_sample.specs.Feeds.{AreFeeds, IsFeed, is_whole};
 ghost use Rattle.margin_sample.specs.Sets.{AreFed};
 
 use crate::plan::SamplePlan;
+use feed_gate::set_core::SetState;
 use feed_gate::{FeedReport, SetsRun, make_sets, run_on_sets};
 use feed_runs::{FeedEnd, Gate};
 use house_sample::{sample_feed, sample_params, sample_terms};
 use mh_io::MemSource;
-use set_core::SetState;
 use std::alloc::{AllocError, Global};
 use std::sync::Wait;
 use std::thread::Threads;

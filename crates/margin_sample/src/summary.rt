@@ -1,15 +1,15 @@
 //! The text of a sample.
 ghost use Rattle.std.specs.Prelude.{◌≡◌, ℕ, List, ◌++◌, IfOk, OnOk};
 ghost use Rattle.simm_rules.specs.declared.values.Breakdown.{Breakdown};
-ghost use Rattle.set_core.specs.Set.{Set};
+ghost use Rattle.feed_gate.specs.SetCore.Set.{Set};
 ghost use Rattle.margin_sample.specs.Sample.{IsAsked, asked_text, AreSummed, head_text};
 
 use crate::plan::SamplePlan;
 use breakdown_text::margin_lines;
 use fault_text::{push_field, push_last_number, push_number};
+use feed_gate::set_core::side_events::SideEvent;
+use feed_gate::set_core::{Event, Reply, SetState, SharedMargin};
 use mh_units::Text;
-use set_core::side_events::SideEvent;
-use set_core::{Event, Reply, SetState, SharedMargin};
 use simm_kinds::MarginSide;
 use std::alloc::{AllocError, Global};
 use std::collections::VecDeque;

@@ -1,9 +1,9 @@
 -- One step of the loop that prints a journal's entries.
 use Rattle.std.proofs.Common.{◌≡◌, ℕ, zero, suc, ◌+◌, ◌<◌, List, [], ◌∷◌, ◌++◌, length, drop, Option, Some, None, slice_get, ap, ◌∙◌, sym, subst, append_assoc, add-one, arith}
 use Rattle.held_cell.specs.declared.entry.Entry.{Entry}
-use Rattle.set_core.specs.declared.event.Event.{Event}
-use Rattle.set_core.specs.declared.reply.Reply.{Reply}
-use Rattle.set_core.specs.Set.{entry_at}
+use Rattle.feed_gate.specs.SetCore.declared.event.Event.{Event}
+use Rattle.feed_gate.specs.SetCore.declared.reply.Reply.{Reply}
+use Rattle.feed_gate.specs.SetCore.Set.{entry_at}
 use Rattle.margin_text.specs.Journal.{entry_lines, numbered_lines}
 
 drop_got : (log : List (Entry Event Reply)) (i : ℕ) (e : Entry Event Reply) → slice_get log i ≡ Some e → drop i log ≡ e ∷ drop (suc i) log

@@ -12,11 +12,11 @@ use Rattle.simm_kinds.specs.declared.margin_side.MarginSide.{MarginSide}
 use Rattle.simm_kinds.specs.declared.margin_side.MarginSide.TheVariants as margin_side
 use Rattle.side_events.specs.declared.side_event.SideEvent.{SideEvent}
 use Rattle.side_events.specs.declared.side_event.SideEvent.TheVariants as side
-use Rattle.set_core.specs.declared.event.Event.{Event}
-use Rattle.set_core.specs.declared.event.Event.TheVariants as event
-use Rattle.set_core.specs.declared.reply.Reply.{Reply}
-use Rattle.set_core.specs.declared.reply.Reply.TheVariants as reply
-use Rattle.set_core.specs.Text.{reply_text}
+use Rattle.feed_gate.specs.SetCore.declared.event.Event.{Event}
+use Rattle.feed_gate.specs.SetCore.declared.event.Event.TheVariants as event
+use Rattle.feed_gate.specs.SetCore.declared.reply.Reply.{Reply}
+use Rattle.feed_gate.specs.SetCore.declared.reply.Reply.TheVariants as reply
+use Rattle.feed_gate.specs.SetCore.Text.{reply_text}
 use Rattle.breakdown_text.specs.Margins.{part_lines}
 use Rattle.fault_text.specs.Fields.{field, last_field}
 use Rattle.margin_text.specs.Rows.{trade_lines}

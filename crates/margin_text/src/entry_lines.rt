@@ -6,8 +6,8 @@ use crate::event_fields::push_event;
 use crate::trade_lines::push_trades;
 use breakdown_text::push_margin_parts;
 use fault_text::{push_field, push_number};
+use feed_gate::set_core::{Entry, Event, Reply, push_reply};
 use mh_units::Text;
-use set_core::{Entry, Event, Reply, push_reply};
 use std::alloc::AllocError;
 
 /// Adds the lines of an event under its entry's line.

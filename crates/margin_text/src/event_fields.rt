@@ -7,8 +7,8 @@ ghost use Rattle.margin_text.specs.Journal.{currency_word, side_fields, event_fi
 
 use csa_terms::{LotCurrency, Moment, push_moment};
 use fault_text::{push_amount, push_field, push_number};
+use feed_gate::set_core::Event;
 use mh_units::Text;
-use set_core::Event;
 use side_events::SideEvent;
 use simm_kinds::{MarginSide, Name};
 use std::alloc::AllocError;

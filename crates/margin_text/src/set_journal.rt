@@ -3,8 +3,8 @@ ghost use Rattle.margin_text.specs.Journal.{numbered_lines, journal_text};
 
 use crate::entry_lines::push_entry;
 use fault_text::{push_field, push_last_number};
+use feed_gate::set_core::SetState;
 use mh_units::Text;
-use set_core::SetState;
 use simm_kinds::Name;
 use std::alloc::{AllocError, Global};
 
