@@ -1,5 +1,5 @@
 -- The text of a batch reads back as just this batch.
-use Rattle.std.proofs.Common.{◌≡◌, ◌==◌, not, ◌||◌, nat_lt, ℕ, ◌+◌, ◌≤◌, ◌≢◌, Bool, true, false, cond, List, [], ◌∷◌, ◌++◌, length, map, Option, Some, None, Result, Ok, Err, IfOk, refl, sym, ap, ◌∙◌, subst, arith, append_assoc, length-append}
+use Rattle.std.proofs.Common.{◌≡◌, ◌==◌, not, ◌||◌, nat_lt, ℕ, ◌+◌, ◌≤◌, ◌≢◌, Bool, true, false, cond, List, [], ◌∷◌, ◌++◌, length, map, Option, Some, None, Result, Ok, Err, IfOk, OnOk, refl, sym, ap, ◌∙◌, subst, arith, append_assoc, length-append}
 use Rattle.std.specs.List.{flat_map, list_any, list_all, AllByRecursion}
 use Rattle.std.proofs.lemmas.Bool.{and_parts, ltb-false, ne_eqb, eqb-false, not-false, eqb-true, or_parts}
 use Rattle.std.proofs.lemmas.List.{append-nil, map-append, nil_from_length}
@@ -33,20 +33,20 @@ use Rattle.crif_writer.proofs.Texts.{places, header_read}
 
 -- ---- what a batch is
 
-record IsWhole (trades : List TradeRows) : Type 0 where
-  some : (length trades == 0) ≡ false
-  names : repeats same_name (map (λ t. t.trade) trades) ≡ false
-  once : IsOnce (rows_of trades)
-  few : nat_lt 100000 (length (rows_of trades)) ≡ false
-  place : list_any is_misplaced trades ≡ false
-  rows : list_any (λ t. length t.rows == 0) trades ≡ false
-  range : list_all is_in_range (rows_of trades) ≡ true
+pub record IsWhole (trades : List TradeRows) : Type 0 where
+  pub some : (length trades == 0) ≡ false
+  pub names : repeats same_name (map (λ t. t.trade) trades) ≡ false
+  pub once : IsOnce (rows_of trades)
+  pub few : nat_lt 100000 (length (rows_of trades)) ≡ false
+  pub place : list_any is_misplaced trades ≡ false
+  pub rows : list_any (λ t. length t.rows == 0) trades ≡ false
+  pub range : list_all is_in_range (rows_of trades) ≡ true
 
 no_fault : (b : Bool) (f : MakeFault) (rest : Option MakeFault) → cond b (Some f) rest ≡ None → (b ≡ false) × (rest ≡ None)
 no_fault true f rest e = cc
 no_fault false f rest e = (refl, e)
 
-whole : (trades : List TradeRows) → IsBatch trades → IsWhole trades
+pub whole : (trades : List TradeRows) → IsBatch trades → IsWhole trades
 whole trades h =
     let p1 = no_fault (length trades == 0) fault.Empty _ h in
     let p2 = no_fault (has_repeats trades) fault.Same _ p1.1 in
@@ -71,7 +71,7 @@ whole trades h =
 full : (trade : List ℕ) → IsName trade → (length trade == 0) ≡ false → is_full_name trade ≡ true
 full trade name some = rw (some, name) refl
 
-placed : (trade : List ℕ) (r : CrifRow) → IsName trade → is_astray trade r ≡ false → IsPlaced trade r
+pub placed : (trade : List ℕ) (r : CrifRow) → IsName trade → is_astray trade r ≡ false → IsPlaced trade r
 placed trade (row.Sensitivity key amount) name h = full trade name (or_parts (length trade == 0) false h).0
 placed trade (row.Notional qualifier amount) name h = full trade name (or_parts (length trade == 0) false h).0
 placed trade (row.FixedAmount amount) name h = nil_from_length trade (eqb-true (length trade) 0 (not-false _ h))
@@ -209,3 +209,8 @@ pub text_reads_back : {E : Type 0} (answer : Result (List ℕ) E) (trades : List
     → IfOk answer (λ text. crif_of text ≡ Ok (record { trades = trades; passed_over = 0 }))
 text_reads_back (Ok text) trades e batch parts = ap crif_of e ∙ reads_back trades batch parts
 text_reads_back (Err d) trades e batch parts = tt
+
+-- what holds anyway holds where the answer is Ok
+pub on_ok : {A E : Type 0} (answer : Result A E) (P : Type 0) → P → OnOk answer P
+on_ok (Ok x) P h = h
+on_ok (Err e) P h = tt

@@ -4,7 +4,7 @@ use Rattle.std.specs.List.{list_all}
 use Rattle.std.specs.Char.{to_ascii_lowercase}
 use Rattle.std.specs.Result.{result_map_both}
 use Rattle.std.specs.Fmt.{decimal}
-use Rattle.std.proofs.lemmas.Bool.{and_parts, cases_Bool, eqb-true, le-leb, leb-true, ltb-true, ltb-false}
+use Rattle.std.proofs.lemmas.Bool.{and_parts, cases_Bool, le-leb, leb-true, ltb-true, ltb-false}
 use Rattle.std.proofs.lemmas.Fmt.{decimal_digit, decimal_step_wide}
 use Rattle.std.proofs.lemmas.List.{take_at, drop_at}
 use Rattle.crif_reader.specs.MhUnits.declared.quantities.Cents.{Cents}
@@ -46,7 +46,7 @@ use Rattle.crif_writer.specs.Amounts.{rate_text}
 use Rattle.crif_writer.specs.Parts.{qualifier_text, bucket_field, label1_text, label2_text, pair_text, IsBucket, IsQualified, IsBucketed, IsLabelled, HasParts}
 use Rattle.crif_writer.specs.Rows.{row_fields, HasRowParts}
 use Rattle.crif_writer.proofs.Numerals.{money_reads, rate_reads}
-use Rattle.crif_writer.proofs.Plain.{IsPlain, plain_empty, plain_name, plain_full_name, plain_product, plain_kind, plain_tenor, plain_sub, plain_usd, plain_currency, plain_pair, plain_money, plain_rate, plain_number, plain_bucket, pair_parts}
+use Rattle.crif_writer.proofs.Plain.{IsPlain, plain_empty, plain_name, plain_full_name, plain_product, plain_kind, plain_tenor, plain_sub, plain_usd, plain_currency, plain_pair, plain_money, plain_rate, plain_number, plain_bucket, pair_parts, currency_length}
 use Rattle.crif_writer.proofs.Texts.{places, fields_in, texts_read, text_read, ArePlain}
 
 -- ---- words
@@ -124,9 +124,6 @@ currency_reads : (c : List ℕ) → is_currency c ≡ true → currency_text c �
 currency_reads c h =
     let same = upper_stays c (and_parts (length c == 3) (list_all is_upper c) h).1 in
     ap (λ x. cond (is_currency x) (Some x) None) same ∙ rw h refl
-
-currency_length : (c : List ℕ) → is_currency c ≡ true → length c ≡ 3
-currency_length c h = eqb-true (length c) 3 (and_parts (length c == 3) (list_all is_upper c) h).0
 
 pair_reads : (p : Pair) → is_pair p ≡ true → pair_named (pair_text p) ≡ Some p
 pair_reads p h =
@@ -450,7 +447,7 @@ plain_add_on trade k qualifier amount usd name q a u =
       no_model = refl;
     }
 
-plain_row : (trade : List ℕ) (r : CrifRow) → IsName trade → IsSound trade r → ArePlain (row_texts trade r)
+pub plain_row : (trade : List ℕ) (r : CrifRow) → IsName trade → IsSound trade r → ArePlain (row_texts trade r)
 plain_row trade (row.Sensitivity key amount) name s =
     let money = plain_cents amount s.range in
     record {

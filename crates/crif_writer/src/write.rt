@@ -1,4 +1,5 @@
 ghost use Rattle.std.specs.Prelude.{◌≡◌, ℕ, List, ◌∷◌, [], IfOk, OnOk, Ok};
+ghost use Rattle.std.specs.List.{AllByRecursion};
 ghost use Rattle.crif_reader.specs.Grammar.{crif_of};
 ghost use Rattle.crif_writer.specs.Text.{header_fields, trade_records, batch_text, HasWritten, WritesMore, HasTradeParts};
 
@@ -31,6 +32,7 @@ const COLUMNS: [Column; 10] = [
 /// The only error is want of memory.
 pub fn write_batch(alloc: Global, batch: &Batch) -> Result<Text, AllocError>
     ensures text { IfOk result (λ text. text ≡ batch_text batch.now) }
+    ensures parts { OnOk result (AllByRecursion HasTradeParts batch.now) }
     ensures reads_back { IfOk result (λ text. crif_of text ≡ Ok (record { trades = batch.now; passed_over = 0 })) }
 {
     let mut writer = open(alloc);

@@ -15,10 +15,11 @@ mod words;
 
 pub use block::skip_to_line;
 pub use fault::FeedFault;
-pub use message::{Fed, Message};
-pub use read::next_message;
+pub use line::read_line;
+pub use message::{BlockKind, Fed, Meaning, Message};
+pub use read::{block_message, next_message};
 pub use values::{cents_in, number_in};
-pub use words::is_word;
+pub use words::{is_end, is_passed_over, is_word};
 
 // what the crates above reach through this one
 pub use mh_io;

@@ -16,9 +16,9 @@ fn read_fields(alloc: Global, fields: &mut Fields<'_>) -> Result<Meaning, Unread
     read_by_word(alloc, word, fields)
 }
 
-/// What a line outside a block is.
+/// What a line outside a block is, where it isn't passed over. The only error is want of memory.
 #[tactic(auto, unfolding(crate::specs::Line::meaning_of))]
-pub(crate) fn read_line(alloc: Global, line: &[u8]) -> Result<Meaning, AllocError>
+pub fn read_line(alloc: Global, line: &[u8]) -> Result<Meaning, AllocError>
     ensures { IfOk result (λ meaning. meaning ≡ meaning_of line.now) }
 {
     let mut fields = Fields::of(line);

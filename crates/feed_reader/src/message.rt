@@ -42,7 +42,7 @@ pub struct Fed {
 
 /// What the lines of a block are.
 #[derive(Clone, Copy)]
-pub(crate) enum BlockKind {
+pub enum BlockKind {
     /// A CRIF file.
     Crif,
     /// A parameter file.
@@ -50,7 +50,7 @@ pub(crate) enum BlockKind {
 }
 
 /// What a line outside a block is, where it isn't passed over.
-pub(crate) enum Meaning {
+pub enum Meaning {
     /// A block of this kind begins, for this set.
     Opens { kind: BlockKind, set: Name },
     /// It is this message.

@@ -31,7 +31,7 @@ fn feed_fault(fault: LineFault, next: u32, first: u32) -> FeedFault
 }
 
 /// The message that a block of a set is.
-fn block_message(kind: BlockKind, set: Name, block: Bytes) -> Message
+pub fn block_message(kind: BlockKind, set: Name, block: Bytes) -> Message
     ensures { result ≡ block_message kind set block }
 {
     match kind {

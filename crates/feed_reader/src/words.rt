@@ -84,14 +84,14 @@ pub fn is_word(bytes: &[u8], word: &str) -> bool
 }
 
 /// Whether the line ends a block.
-pub(crate) fn is_end(line: &[u8]) -> bool
+pub fn is_end(line: &[u8]) -> bool
     ensures { result ≡ is_end line.now }
 {
     is_word(line, END)
 }
 
 /// Whether the line is passed over outside a block: it is empty or begins with `#`.
-pub(crate) fn is_passed_over(line: &[u8]) -> bool
+pub fn is_passed_over(line: &[u8]) -> bool
     ensures { result ≡ is_passed_over line.now }
 {
     matches!(line, [] | [b'#', ..])

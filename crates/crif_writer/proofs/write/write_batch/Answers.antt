@@ -4,7 +4,7 @@ use Rattle.std.proofs.lemmas.Grind.{flat_map-append}
 use Rattle.std.proofs.lemmas.List.{append-nil, take_all}
 use Rattle.crif_reader.proofs.SimmKinds.Repeated.{take_next}
 use Rattle.crif_writer.specs.Text.{header_fields, trade_records, batch_text, HasWritten, HasTradeParts}
-use Rattle.crif_writer.proofs.ReadsBack.{text_reads_back}
+use Rattle.crif_writer.proofs.ReadsBack.{on_ok, text_reads_back}
 use Rattle.crif_reader.proofs.All.{all_more}
 use Rattle.crif_writer.proofs.Writes.{after_nothing, after_records}
 use Rattle.crif_writer.proofs.write.write_batch.Goals as goal
@@ -33,3 +33,11 @@ returns-clause-reads_back c =
     let text : HasWritten c.loop-trade.writer (batch_text trades) = rw all at c.loop-trade.invariant.text in
     let parts : AllByRecursion HasTradeParts trades = rw all at c.loop-trade.invariant.parts in
     text_reads_back c.close.result trades (c.close.ensures (batch_text trades) text) items.batch parts
+
+pub returns-clause-parts : goal.returns-clause-parts
+returns-clause-parts c =
+    let trades = c.args.batch.now in
+    let items = c.trades-trade-items.ensures in
+    let all = take_all c.loop-trade.trade-index trades (omega (arith, ap length items.value)) in
+    let parts : AllByRecursion HasTradeParts trades = rw all at c.loop-trade.invariant.parts in
+    on_ok c.close.result (AllByRecursion HasTradeParts trades) parts
