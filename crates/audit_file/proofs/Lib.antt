@@ -1,0 +1,16 @@
+pub mod Fronts
+pub mod Numbers
+pub mod Messages
+pub mod EntriesTold
+pub mod Answering
+pub mod Readings
+pub mod ReplyLines
+pub mod Replays
+pub mod Texts
+pub mod Tellings
+pub mod Legals
+pub mod Oks
+pub mod FactorParts
+pub mod RowParts
+pub mod BatchParts
+pub mod EventsTold

@@ -1,0 +1,9 @@
+pub mod Faults
+pub mod Replies
+pub mod Rules
+pub mod Fields
+pub mod Steps
+pub mod Verdict
+pub mod Written
+pub mod Told
+pub mod Replays
