@@ -7,5 +7,6 @@ pub mod Printed
 pub mod Texts
 pub mod Ending
 pub mod AfterParams
+pub mod Inputs
 pub mod Complete
 pub mod StatusCode

@@ -7,6 +7,7 @@
 mod fault;
 mod fault_line;
 mod file;
+mod inputs;
 mod printing;
 mod status;
 mod texts;
@@ -15,6 +16,7 @@ mod value_files;
 pub use fault::{Fault, FileFault, InputFile};
 pub use fault_line::FaultLine;
 pub use file::read_file;
+pub use inputs::{Inputs, read_inputs};
 pub use printing::{end_at_fault, print_line, print_text};
 pub use status::Status;
 pub use texts::{Printed, put_texts};

@@ -4,7 +4,7 @@ use Rattle.std.specs.List.{AllZip}
 use Rattle.std.proofs.lemmas.List.{length-map}
 use Rattle.mh_io.specs.Source.{SourceSeen}
 use Rattle.mh_io.specs.Folder.{FolderSeen}
-use Rattle.set_core.specs.Set.{Set}
+use Rattle.feed_gate.specs.SetCore.Set.{Set}
 use Rattle.feed_gate.specs.declared.report.FeedReport.{FeedReport}
 use Rattle.feed_gate.specs.SetsRun.{IsRun, RanOver, RanSource, RanOnSets}
 use Rattle.feed_runs.proofs.Zips.{zip_length}

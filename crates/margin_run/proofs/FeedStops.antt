@@ -4,9 +4,9 @@ use Rattle.std.specs.List.{list_any, before_first, position_or_len}
 use Rattle.mh_io.specs.Lines as cut
 use Rattle.mh_io.specs.Lines.{lines}
 use Rattle.mh_io.specs.Limits.{most_bytes}
-use Rattle.feed_reader.specs.Line.{is_passed_over, meaning_of, is_end}
-use Rattle.feed_reader.specs.Messages.{block_message}
-use Rattle.feed_reader.specs.Feed.{Sent, FeedStop, FeedRun, Whole, Cut, LineLong, TooLong, Open, no_items, with_items, stop_outside, stop_inside, block_of, block_at, by_meaning, items_of, feed}
+use Rattle.feed_gate.specs.FeedReader.Line.{is_passed_over, meaning_of, is_end}
+use Rattle.feed_gate.specs.FeedReader.Messages.{block_message}
+use Rattle.feed_gate.specs.FeedReader.Feed.{Sent, FeedStop, FeedRun, Whole, Cut, LineLong, TooLong, Open, no_items, with_items, stop_outside, stop_inside, block_of, block_at, by_meaning, items_of, feed}
 use Rattle.feed_files.proofs.LongLines.{whole_ended, over_long, line_stays_long}
 
 -- how the lines stop of a feed that stops so

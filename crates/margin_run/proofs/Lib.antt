@@ -6,3 +6,6 @@ pub mod NoticeLemmas
 pub mod PrintingLemmas
 pub mod RunEndLemmas
 pub mod RunComplete
+pub mod SetNames
+pub mod Tellable
+pub mod Auditing

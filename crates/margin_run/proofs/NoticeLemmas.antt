@@ -5,13 +5,13 @@ use Rattle.std.proofs.lemmas.List.{take_more, flat_map_more}
 use Rattle.std.proofs.lemmas.List.Concat.{length-flat_map}
 use Rattle.std.proofs.lemmas.List.Sums.{sum_by-le}
 use Rattle.std.proofs.lemmas.Option.{slice_get_within, slice_get_cases, get_or_from_slice_get}
-use Rattle.held_cell.specs.declared.entry.Entry.{Entry}
-use Rattle.simm_kinds.specs.declared.margin_side.MarginSide.TheVariants.{Collect}
-use Rattle.set_core.specs.declared.event.Event.{Event}
-use Rattle.set_core.specs.declared.event.Event.TheVariants as event
-use Rattle.set_core.specs.declared.reply.Reply.{Reply}
-use Rattle.set_core.specs.declared.reply.Reply.TheVariants as reply
-use Rattle.set_core.specs.Set.{entry_at}
+use Rattle.feed_gate.specs.SetCore.HeldCell.declared.entry.Entry.{Entry}
+use Rattle.csa_terms.specs.SimmKinds.declared.margin_side.MarginSide.TheVariants.{Collect}
+use Rattle.feed_gate.specs.SetCore.declared.event.Event.{Event}
+use Rattle.feed_gate.specs.SetCore.declared.event.Event.TheVariants as event
+use Rattle.feed_gate.specs.SetCore.declared.reply.Reply.{Reply}
+use Rattle.feed_gate.specs.SetCore.declared.reply.Reply.TheVariants as reply
+use Rattle.feed_gate.specs.SetCore.Set.{entry_at}
 use Rattle.call_desk.specs.declared.notice.Notice.{Notice}
 use Rattle.margin_run.specs.Notices.{notices_by}
 

@@ -5,9 +5,9 @@ use Rattle.mh_io.specs.Faults.{Rises}
 use Rattle.mh_io.specs.Sink.{SinkSeen}
 use Rattle.mh_io.specs.Folder.{Telling, Reading, FolderSeen}
 use Rattle.mh_io.specs.Limits.{most_bytes}
-use Rattle.feed_reader.specs.Feed as message
-use Rattle.feed_reader.specs.Feed.{Item, FeedRun, feed}
-use Rattle.set_core.specs.Set.{Set}
+use Rattle.feed_gate.specs.FeedReader.Feed as message
+use Rattle.feed_gate.specs.FeedReader.Feed.{Item, FeedRun, feed}
+use Rattle.feed_gate.specs.SetCore.Set.{Set}
 use Rattle.feed_runs.specs.declared.feed_end.FeedEnd.{FeedEnd}
 use Rattle.feed_runs.specs.declared.feed_end.FeedEnd.TheVariants as end_at
 use Rattle.feed_gate.specs.declared.report.FeedReport.{FeedReport}
@@ -25,6 +25,7 @@ use Rattle.feed_files.specs.CommandFiles.Grammars.{RefusesParams, RefusesTerms}
 use Rattle.feed_files.specs.CommandFiles.Ending.{status_of}
 use Rattle.margin_run.specs.Notices.{notices}
 use Rattle.margin_run.specs.Desks.{Desks}
+use Rattle.margin_run.specs.declared.account.Account.{Account}
 use Rattle.margin_run.specs.Run.{HasRun, RunCause, RunLeaves, RunEnds, end_of}
 use Rattle.feed_files.specs.CommandFiles.Complete.{EndsWell}
 use Rattle.margin_run.specs.Complete.{IsWellFeed, IsWellRun}
@@ -101,25 +102,25 @@ module _ {B : Type 0} {pn tn : List ℕ} {fns : List (List ℕ)} {old new : Fold
       0 fns reports fed.readings (well_after deeds w.t fns w.feeds) fed.feeds e
 
   -- what a run that reached its feeds leaves
-  leaves_well : (sets : List Set) (reports : List FeedReport) (s : Status) → HasRun pn tn fns old new sets reports
-      → RunLeaves sets reports out_old out_new d s → EndsWell s
-  leaves_well sets reports status.Done run h = tt
-  leaves_well sets reports status.Memory run h = tt
-  leaves_well sets reports status.Write run h = absurd (w.puts_stood (h.1).rose)
-  leaves_well sets reports status.Feed run h = absurd (to_the_end sets reports run h.0)
-  leaves_well sets reports status.Read run h =
+  leaves_well : (account : Account) (sets : List Set) (reports : List FeedReport) (s : Status) → HasRun pn tn fns old new sets reports
+      → RunLeaves account sets reports out_old out_new d s → EndsWell s
+  leaves_well account sets reports status.Done run h = tt
+  leaves_well account sets reports status.Memory run h = tt
+  leaves_well account sets reports status.Write run h = absurd (w.puts_stood (h.1).rose)
+  leaves_well account sets reports status.Feed run h = absurd (to_the_end sets reports run h.0)
+  leaves_well account sets reports status.Read run h =
       let fed = run.fed in
       let failed = read_failed (λ r. r.end) (IsFed run.mid new sets) (Rises (run.mid).read_faults new.read_faults) (λ feed name r reading one is. (one.failed is).1) 0 fns reports fed.readings fed.feeds h.0 in
       absurd (w.reads_stood (rises_earlier old.read_faults (run.mid).read_faults new.read_faults (run.inputs).reads failed))
-  leaves_well sets reports status.Desk run h =
+  leaves_well account sets reports status.Desk run h =
       let one = h.2 in
       let told = one.told in
       absurd (none_failed (notices sets) d told.published told.outcomes told.publishes w.desks_stay one.o one.there one.failed)
-  leaves_well sets reports _ run h = absurd h
+  leaves_well account sets reports _ run h = absurd h
 
   -- no other status than Done and Memory comes
-  pub run_ends_well : (s : Status) → RunEnds pn tn fns old new out_old out_new d s → EndsWell s
-  run_ends_well s (inl h) = leaves_well h.sets h.reports s h.run h.leaves
-  run_ends_well s (inr h) =
+  pub run_ends_well : (account : Account) (s : Status) → RunEnds account pn tn fns old new out_old out_new d s → EndsWell s
+  run_ends_well account s (inl h) = leaves_well account h.sets h.reports s h.run h.leaves
+  run_ends_well account s (inr h) =
       let fails = h.0 in
       subst EndsWell (sym (only_memory fails.f fails.cause) ∙ fails.status) tt

@@ -1,13 +1,11 @@
 -- The stages of a run, one after the other.
-use Rattle.std.proofs.Common.{◌≡◌, ℕ, ◌≤◌, arith, List, [], ◌∷◌, map, length, Result, Ok, Err, IsErrAnd, Some, refl, sym, ap, ◌∙◌, subst}
+use Rattle.std.proofs.Common.{◌≡◌, ℕ, ◌≤◌, arith, List, [], ◌∷◌, map, length, Result, Ok, Err, IsErrAnd, refl, sym, ap, ◌∙◌, subst}
 use Rattle.std.specs.List.{AllZip}
 use Rattle.std.proofs.lemmas.List.{length-map}
 use Rattle.mh_io.specs.Folder.{FolderSeen}
-use Rattle.simm_rules.specs.Params.{Params}
-use Rattle.params_file.specs.Grammar.{params_of}
-use Rattle.csa_terms.specs.Grammar.{terms_of}
+use Rattle.feed_gate.specs.SetCore.SimmRules.Params.{Params}
 use Rattle.csa_terms.specs.Terms.{Agreements}
-use Rattle.set_core.specs.Set.{Set, start}
+use Rattle.feed_gate.specs.SetCore.Set.{Set, start}
 use Rattle.feed_gate.specs.declared.report.FeedReport.{FeedReport}
 use Rattle.feed_gate.specs.Sets.{AreApart}
 use Rattle.feed_gate.specs.SetsRun.{IsRun}
@@ -15,28 +13,11 @@ use Rattle.margin_run.specs.declared.run_files.Outcome.{Outcome}
 use Rattle.feed_files.specs.CommandFiles.declared.fault.InputFile.TheVariants as input
 use Rattle.feed_files.specs.CommandFiles.declared.fault.Fault.{Fault}
 use Rattle.feed_files.specs.CommandFiles.declared.fault.Fault.TheVariants as fault
-use Rattle.feed_files.specs.CommandFiles.Files.{no_deeds, with_reading, IsRead}
 use Rattle.feed_files.specs.Unrun.{FeedsFail}
 use Rattle.margin_run.specs.Fed.{AreFed}
-use Rattle.margin_run.specs.Run.{HasInputs, HasRun, RunCause}
+use Rattle.feed_files.specs.CommandFiles.Inputs.{HasInputs, InputsCause}
+use Rattle.margin_run.specs.Run.{HasRun, RunCause}
 use Rattle.margin_run.specs.RunStages.{RunFilesEnd}
-use Rattle.feed_files.proofs.CommandFiles.FileLemmas.{did_more}
-use Rattle.feed_files.proofs.CommandFiles.AfterParamsLemmas.{whole_before}
-
--- both files were read
-pub inputs_read : (old mid new : FolderSeen) (pn tn : List ℕ) (p : Params) (agreements : List Agreements) → IsRead old mid no_deeds pn (λ bytes. params_of bytes ≡ Some p) → IsRead mid new no_deeds tn (λ bytes. terms_of bytes ≡ Ok agreements) → old.find_faults ≤ new.find_faults → old.read_faults ≤ new.read_faults → HasInputs pn tn old new p agreements
-inputs_read old mid new pn tn p agreements first second finds reads = record {
-  param_bytes = first.bytes;
-  param_faults = first.faults;
-  terms_bytes = second.bytes;
-  terms_faults = second.faults;
-  did = did_more old mid new pn first.bytes first.faults (with_reading no_deeds tn second.bytes second.faults) first.did second.did;
-  params = record { whole = first.whole; values = first.so };
-  whole = whole_before old mid (with_reading no_deeds pn first.bytes first.faults) tn second.bytes first.did second.whole;
-  terms = second.so;
-  finds = finds;
-  reads = reads;
-}
 
 -- ---- the sets
 
@@ -67,6 +48,12 @@ no_run old mid new pn tn fns p agreements (fault.OfFile input.Feed name f) input
 no_run old mid new pn tn fns p agreements (fault.OfFile _ name f) inputs fails = absurd fails
 no_run old mid new pn tn fns p agreements (fault.Refused line) inputs fails = absurd fails
 no_run old mid new pn tn fns p agreements fault.Memory inputs fails = record { p = p; agreements = agreements; mid = mid; inputs = inputs; fails = fails }
+
+-- there was nothing to run
+pub no_inputs : (old new : FolderSeen) (pn tn : List ℕ) (fns : List (List ℕ)) (f : Fault) → InputsCause pn tn old new f → RunCause pn tn fns old new f
+no_inputs old new pn tn fns (fault.OfFile input.Params name f) cause = cause
+no_inputs old new pn tn fns (fault.OfFile input.Terms name f) cause = cause
+no_inputs old new pn tn fns _ cause = absurd cause
 
 pub failed_run : (old new : FolderSeen) (pn tn : List ℕ) (fns : List (List ℕ)) (f : Fault) (result : Result Outcome Fault) → IsErrAnd result (λ e. e ≡ f) → RunCause pn tn fns old new f → RunFilesEnd pn tn fns old new result
 failed_run old new pn tn fns f (Ok run) is cause = absurd is

@@ -5,11 +5,11 @@ use Rattle.mh_io.specs.Faults.{Rises}
 use Rattle.mh_io.specs.Sink.{SinkSeen}
 use Rattle.mh_io.specs.Folder.{Telling, file_of, FolderSeen}
 use Rattle.mh_io.specs.Limits.{most_bytes}
-use Rattle.simm_rules.specs.Params.{Params}
-use Rattle.params_file.specs.Grammar.{params_of}
+use Rattle.feed_gate.specs.SetCore.SimmRules.Params.{Params}
+use Rattle.feed_gate.specs.SetCore.ParamsFile.Grammar.{params_of}
 use Rattle.csa_terms.specs.Grammar.{terms_of}
 use Rattle.csa_terms.specs.Terms.{Agreements}
-use Rattle.feed_reader.specs.Feed.{Whole, feed}
+use Rattle.feed_gate.specs.FeedReader.Feed.{Whole, feed}
 use Rattle.margin_run.specs.Desks.{Desks}
 
 -- the folder has a feed of this name, which isn't too long and stops whole

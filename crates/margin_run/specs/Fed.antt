@@ -2,7 +2,7 @@
 use Rattle.std.specs.Prelude.{ℕ, List, length}
 use Rattle.std.specs.List.{AllZip}
 use Rattle.mh_io.specs.Folder.{Reading, FolderSeen}
-use Rattle.set_core.specs.Set.{Set}
+use Rattle.feed_gate.specs.SetCore.Set.{Set}
 use Rattle.feed_gate.specs.declared.report.FeedReport.{FeedReport}
 use Rattle.feed_gate.specs.SetsRun.{IsRun, RanOver}
 use Rattle.feed_files.specs.CommandFiles.Files.{Did}

@@ -2,12 +2,12 @@
 -- (ISDA 2016 Credit Support Annex for Initial Margin: the demand for a Delivery Amount or a Return Amount is given to the other side.)
 use Rattle.std.specs.Prelude.{List, [], ◌∷◌, ℕ}
 use Rattle.std.specs.List.{flat_map}
-use Rattle.simm_kinds.specs.declared.margin_side.MarginSide.TheVariants.{Collect}
-use Rattle.set_core.specs.declared.event.Event.{Event}
-use Rattle.set_core.specs.declared.event.Event.TheVariants as event
-use Rattle.set_core.specs.declared.reply.Reply.{Reply}
-use Rattle.set_core.specs.declared.reply.Reply.TheVariants as reply
-use Rattle.set_core.specs.Set.{Set}
+use Rattle.csa_terms.specs.SimmKinds.declared.margin_side.MarginSide.TheVariants.{Collect}
+use Rattle.feed_gate.specs.SetCore.declared.event.Event.{Event}
+use Rattle.feed_gate.specs.SetCore.declared.event.Event.TheVariants as event
+use Rattle.feed_gate.specs.SetCore.declared.reply.Reply.{Reply}
+use Rattle.feed_gate.specs.SetCore.declared.reply.Reply.TheVariants as reply
+use Rattle.feed_gate.specs.SetCore.Set.{Set}
 use Rattle.call_desk.specs.declared.notice.Notice.{Notice}
 
 -- of an event and its reply in the set of this name: one where it makes a call of what the set

@@ -1,45 +1,32 @@
 -- What a run does: for each status what happened, what was printed, and which desks were told.
-use Rattle.std.specs.Prelude.{ℕ, ◌≡◌, ◌+◌, ◌≤◌, List, [], ◌∷◌, ◌++◌, map, Ok, ◌⊎◌}
-use Rattle.std.specs.List.{flat_map}
+use Rattle.std.specs.Prelude.{ℕ, ◌≡◌, List, map, ◌⊎◌}
 use Rattle.mh_io.specs.Sink.{SinkSeen}
 use Rattle.mh_io.specs.Folder.{FolderSeen}
-use Rattle.simm_rules.specs.Params.{Params}
-use Rattle.csa_terms.specs.Grammar.{terms_of}
+use Rattle.feed_gate.specs.SetCore.SimmRules.Params.{Params}
 use Rattle.csa_terms.specs.Terms.{Agreements}
-use Rattle.set_core.specs.Set.{Set, start}
+use Rattle.feed_gate.specs.SetCore.Set.{Set, start}
 use Rattle.feed_runs.specs.declared.feed_end.FeedEnd.{FeedEnd}
 use Rattle.feed_runs.specs.declared.feed_end.FeedEnd.TheVariants as end_at
 use Rattle.feed_gate.specs.declared.report.FeedReport.{FeedReport}
-use Rattle.margin_text.specs.Journal.{journal_text}
-use Rattle.margin_text.specs.Feeds.{feed_text}
 use Rattle.feed_files.specs.CommandFiles.declared.status.Status.{Status}
 use Rattle.feed_files.specs.CommandFiles.declared.status.Status.TheVariants as status
 use Rattle.feed_files.specs.CommandFiles.declared.fault.InputFile.TheVariants as input
 use Rattle.feed_files.specs.CommandFiles.declared.fault.Fault.{Fault}
 use Rattle.feed_files.specs.CommandFiles.declared.fault.Fault.TheVariants as fault
-use Rattle.feed_files.specs.CommandFiles.Files.{no_deeds, with_reading, Did, IsWhole, NoValue}
+use Rattle.feed_files.specs.CommandFiles.Files.{no_deeds, NoValue}
 use Rattle.feed_files.specs.Ends.{status_of_end, first_end}
 use Rattle.feed_files.specs.Unrun.{FeedsFail}
+use Rattle.margin_run.specs.declared.account.Account.{Account}
+use Rattle.margin_run.specs.Accounts.{account_text}
+use Rattle.margin_run.specs.Audits.{CanBeVerified}
 use Rattle.margin_run.specs.Fed.{AreFed}
 use Rattle.feed_files.specs.CommandFiles.Grammars.{RefusesParams, RefusesTerms}
 use Rattle.margin_run.specs.Notices.{notices}
 use Rattle.margin_run.specs.Desks.{Desks, AreUntold, AreTold, AllAreTold, OneFailed, OneWanted}
 use Rattle.feed_files.specs.CommandFiles.Printed.{Got, GotFront, GotLine}
 use Rattle.feed_files.specs.CommandFiles.Ending.{EndsAtFault}
-use Rattle.feed_files.specs.CommandFiles.AfterParams.{HasParams, FailsAfterParams}
-
--- the parameter file and then the terms file were read whole, with these values, and no count of faults fell
-pub record HasInputs (params_name terms_name : List ℕ) (old new : FolderSeen) (p : Params) (agreements : List Agreements) : Type 0 where
-  pub param_bytes : List ℕ
-  pub param_faults : ℕ
-  pub terms_bytes : List ℕ
-  pub terms_faults : ℕ
-  pub did : Did old new (with_reading (with_reading no_deeds params_name param_bytes param_faults) terms_name terms_bytes terms_faults)
-  pub params : HasParams old params_name param_bytes p
-  pub whole : IsWhole old terms_name terms_bytes
-  pub terms : terms_of terms_bytes ≡ Ok agreements
-  pub finds : old.find_faults ≤ new.find_faults
-  pub reads : old.read_faults ≤ new.read_faults
+use Rattle.feed_files.specs.CommandFiles.AfterParams.{FailsAfterParams}
+use Rattle.feed_files.specs.CommandFiles.Inputs.{HasInputs}
 
 -- Both files were read, and the feeds were run on the sets of the terms.
 pub record HasRun (params_name terms_name : List ℕ) (feed_names : List (List ℕ)) (old new : FolderSeen) (sets : List Set) (reports : List FeedReport) : Type 0 where
@@ -48,21 +35,6 @@ pub record HasRun (params_name terms_name : List ℕ) (feed_names : List (List �
   pub mid : FolderSeen
   pub inputs : HasInputs params_name terms_name old mid p agreements
   pub fed : AreFed feed_names mid new (map (start p) agreements) sets reports
-
--- what became of the feeds, one after another
-abbrev pub feeds_text : ℕ → List (List ℕ) → List FeedReport → List ℕ
-feeds_text from names [] = []
-feeds_text from names (r ∷ reports) = feed_text from names r.done r.refused r.end ++ feeds_text (from + 1) names reports
-
--- the printed journal of a set
-abbrev pub journal_of : Set → List ℕ
-journal_of set = journal_text set.terms.collect.name set.journal
-
--- all that is printed: the sets' journals in the order of the terms, and then what became of the feeds in the order of the words
-abbrev pub run_text : List Set → List FeedReport → List ℕ
-run_text sets reports =
-    flat_map journal_of sets
-    ++ feeds_text 0 (map (λ s. s.terms.collect.name) sets) reports
 
 -- how the first feed ended that didn't end whole, or that all did
 abbrev pub end_of : List FeedReport → FeedEnd
@@ -92,43 +64,44 @@ RunCause params_name terms_name feed_names old new fault.Memory = RunFails param
 -- ---- the ends of a run, by its status
 
 -- Want of memory at the end: for the text, of which then nothing is printed, or for the notices. No desk was told.
-pub record IsStarvedAtEnd {B : Type 0} (sets : List Set) (reports : List FeedReport) (old new : SinkSeen) (d : Desks B) : Type 0 where
-  pub printed : (new.holds ≡ old.holds) ⊎ GotLine old new (run_text sets reports)
+pub record IsStarvedAtEnd {B : Type 0} (account : Account) (sets : List Set) (reports : List FeedReport) (old new : SinkSeen) (d : Desks B) : Type 0 where
+  pub printed : (new.holds ≡ old.holds) ⊎ GotLine old new (account_text account sets reports)
   pub untold : AreUntold d
 
 -- the first feed that didn't end whole is one for which memory ran out: all is printed that the sink takes, and the desks are told
-pub record IsFedShort {B : Type 0} (sets : List Set) (reports : List FeedReport) (old new : SinkSeen) (d : Desks B) : Type 0 where
+pub record IsFedShort {B : Type 0} (account : Account) (sets : List Set) (reports : List FeedReport) (old new : SinkSeen) (d : Desks B) : Type 0 where
   pub short : status_of_end (end_of reports) ≡ status.Memory
-  pub printed : GotLine old new (run_text sets reports)
+  pub printed : GotLine old new (account_text account sets reports)
   pub told : AreTold (notices sets) d
 
 -- all is well but for a desk that found no memory
-pub record IsToldShort {B : Type 0} (sets : List Set) (reports : List FeedReport) (old new : SinkSeen) (d : Desks B) : Type 0 where
+pub record IsToldShort {B : Type 0} (account : Account) (sets : List Set) (reports : List FeedReport) (old new : SinkSeen) (d : Desks B) : Type 0 where
   pub whole : end_of reports ≡ end_at.End
-  pub printed : Got old new (run_text sets reports)
+  pub printed : Got old new (account_text account sets reports)
   pub told : OneWanted (notices sets) d
 
 -- What printing a run and telling the desks its calls do, by the run's status. That is want of memory where there was none
 -- for the text or the notices; else that of the first feed that didn't end whole; else Write where the sink failed; else Desk
 -- where a desk failed; else want of memory where a desk found none. But for the first of these each desk was told.
-abbrev pub RunLeaves : {B : Type 0} → List Set → List FeedReport → SinkSeen → SinkSeen → Desks B → Status → Type 0
-RunLeaves sets reports old new d status.Done = (end_of reports ≡ end_at.End) × Got old new (run_text sets reports) × AllAreTold (notices sets) d
-RunLeaves sets reports old new d status.Write = (end_of reports ≡ end_at.End) × GotFront old new (run_text sets reports) × AreTold (notices sets) d
-RunLeaves sets reports old new d status.Feed = (status_of_end (end_of reports) ≡ status.Feed) × GotLine old new (run_text sets reports) × AreTold (notices sets) d
-RunLeaves sets reports old new d status.Read = (end_of reports ≡ end_at.ReadFault) × GotLine old new (run_text sets reports) × AreTold (notices sets) d
-RunLeaves sets reports old new d status.Desk = (end_of reports ≡ end_at.End) × Got old new (run_text sets reports) × OneFailed (notices sets) d
-RunLeaves sets reports old new d status.Memory = IsStarvedAtEnd sets reports old new d ⊎ (IsFedShort sets reports old new d ⊎ IsToldShort sets reports old new d)
-RunLeaves sets reports old new d _ = ⊥
+abbrev pub RunLeaves : {B : Type 0} → Account → List Set → List FeedReport → SinkSeen → SinkSeen → Desks B → Status → Type 0
+RunLeaves account sets reports old new d status.Done = (end_of reports ≡ end_at.End) × Got old new (account_text account sets reports) × AllAreTold (notices sets) d
+RunLeaves account sets reports old new d status.Write = (end_of reports ≡ end_at.End) × GotFront old new (account_text account sets reports) × AreTold (notices sets) d
+RunLeaves account sets reports old new d status.Feed = (status_of_end (end_of reports) ≡ status.Feed) × GotLine old new (account_text account sets reports) × AreTold (notices sets) d
+RunLeaves account sets reports old new d status.Read = (end_of reports ≡ end_at.ReadFault) × GotLine old new (account_text account sets reports) × AreTold (notices sets) d
+RunLeaves account sets reports old new d status.Desk = (end_of reports ≡ end_at.End) × Got old new (account_text account sets reports) × OneFailed (notices sets) d
+RunLeaves account sets reports old new d status.Memory = IsStarvedAtEnd account sets reports old new d ⊎ (IsFedShort account sets reports old new d ⊎ IsToldShort account sets reports old new d)
+RunLeaves account sets reports old new d _ = ⊥
 
 -- the run reached its feeds
-pub record EndsRun {B : Type 0} (params_name terms_name : List ℕ) (feed_names : List (List ℕ)) (old new : FolderSeen) (out_old out_new : SinkSeen) (d : Desks B) (s : Status) : Type 0 where
+pub record EndsRun {B : Type 0} (account : Account) (params_name terms_name : List ℕ) (feed_names : List (List ℕ)) (old new : FolderSeen) (out_old out_new : SinkSeen) (d : Desks B) (s : Status) : Type 0 where
   pub sets : List Set
   pub reports : List FeedReport
   pub run : HasRun params_name terms_name feed_names old new sets reports
-  pub leaves : RunLeaves sets reports out_old out_new d s
+  pub audit : CanBeVerified run.p run.agreements sets
+  pub leaves : RunLeaves account sets reports out_old out_new d s
 
 -- what a run with this status did; where it ended before its feeds no desk was told
-abbrev pub RunEnds : {B : Type 0} → List ℕ → List ℕ → List (List ℕ) → FolderSeen → FolderSeen → SinkSeen → SinkSeen → Desks B → Status → Type 0
-RunEnds params_name terms_name feed_names old new out_old out_new d s =
-    EndsRun params_name terms_name feed_names old new out_old out_new d s
+abbrev pub RunEnds : {B : Type 0} → Account → List ℕ → List ℕ → List (List ℕ) → FolderSeen → FolderSeen → SinkSeen → SinkSeen → Desks B → Status → Type 0
+RunEnds account params_name terms_name feed_names old new out_old out_new d s =
+    EndsRun account params_name terms_name feed_names old new out_old out_new d s
     ⊎ (EndsAtFault (RunCause params_name terms_name feed_names old new) out_old out_new s × AreUntold d)

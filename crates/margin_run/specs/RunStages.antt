@@ -1,13 +1,12 @@
 -- The stages of a run, each by itself.
 use Rattle.std.specs.Prelude.{ℕ, ◌≡◌, ◌≤◌, List, length, map, Result, Ok, Err, nat_lt, if◌then◌else◌}
 use Rattle.mh_io.specs.Folder.{FolderSeen}
-use Rattle.set_core.specs.Set.{Set}
+use Rattle.feed_gate.specs.SetCore.Set.{Set}
 use Rattle.feed_runs.specs.declared.feed_end.FeedEnd.{FeedEnd}
 use Rattle.call_desk.specs.declared.publishing.Published.{Published}
 use Rattle.feed_files.specs.CommandFiles.declared.status.Status.{Status}
 use Rattle.feed_files.specs.CommandFiles.declared.status.Status.TheVariants as status
 use Rattle.margin_run.specs.declared.feeds_run.FeedsRun.{FeedsRun}
-use Rattle.margin_run.specs.declared.run_files.Inputs.{Inputs}
 use Rattle.margin_run.specs.declared.run_files.Outcome.{Outcome}
 use Rattle.feed_files.specs.CommandFiles.declared.fault.Fault.{Fault}
 use Rattle.feed_files.specs.CommandFiles.declared.texts.Printed.{Printed}
@@ -15,17 +14,12 @@ use Rattle.feed_files.specs.CommandFiles.declared.texts.Printed.TheVariants as p
 use Rattle.feed_files.specs.Ends.{status_of_end}
 use Rattle.feed_files.specs.Unrun.{FeedsFail}
 use Rattle.margin_run.specs.Fed.{AreFed}
-use Rattle.margin_run.specs.Run.{HasInputs, HasRun, RunCause}
+use Rattle.margin_run.specs.Run.{HasRun, RunCause}
 
 -- what running the feeds does
 abbrev pub FeedsEnd : FolderSeen → FolderSeen → List (List ℕ) → List Set → Result FeedsRun Fault → Type 0
 FeedsEnd old new names sets (Ok run) = AreFed names old new sets run.sets.items run.reports.items
 FeedsEnd old new names sets (Err f) = FeedsFail names old new f
-
--- what reading both files does: what they say, or why there is nothing to run
-abbrev pub InputsEnd : List ℕ → List ℕ → List (List ℕ) → FolderSeen → FolderSeen → Result Inputs Fault → Type 0
-InputsEnd params_name terms_name feed_names old new (Ok inputs) = HasInputs params_name terms_name old new inputs.params inputs.terms
-InputsEnd params_name terms_name feed_names old new (Err f) = RunCause params_name terms_name feed_names old new f
 
 -- what the files of a run do; there are at most sixteen sets, and they keep their terms
 abbrev pub RunFilesEnd : List ℕ → List ℕ → List (List ℕ) → FolderSeen → FolderSeen → Result Outcome Fault → Type 0

@@ -7,10 +7,10 @@ ghost use Rattle.margin_run.specs.RunStages.{FeedsEnd};
 
 use feed_files::command_files::Fault;
 use feed_files::{find_feeds, take_all_back};
+use feed_gate::set_core::SetState;
 use feed_gate::{FeedReport, SetsRun, run_on_sets};
 use feed_runs::Gate;
 use mh_io::Folder;
-use set_core::SetState;
 use std::alloc::Global;
 use std::sync::Wait;
 use std::thread::Threads;

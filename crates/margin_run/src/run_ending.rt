@@ -5,6 +5,7 @@ ghost use Rattle.margin_run.specs.Desks.{desks_of};
 ghost use Rattle.margin_run.specs.Run.{end_of, RunLeaves};
 ghost use Rattle.margin_run.specs.RunStages.{status_of_desks, status_at_end};
 
+use crate::account::Account;
 use crate::run_files::Outcome;
 use crate::run_printing::print_run;
 use crate::telling::tell_desks;
@@ -53,11 +54,12 @@ fn status_at_end(end: FeedEnd, printed: Printed, published: Published) -> Status
     }
 }
 
-/// Prints a run, tells each desk the calls that it made, and answers its status. Where the sink fails the desks are told all
+/// Prints a run by its account, tells each desk the calls that it made, and answers its status. Where the sink fails the desks are told all
 /// the same; where there is no memory for the text or the notices none is.
 pub(crate) fn end_run<R: Threads + Sync, K: Sink>(
     rt: &R,
     alloc: Global,
+    account: Account,
     out: &mut K,
     desks: &mut Vec<Box<dyn Desk>>,
     retired: &mut Vec<Box<dyn Desk>>,
@@ -68,10 +70,10 @@ pub(crate) fn end_run<R: Threads + Sync, K: Sink>(
     requires few_sets { length run.now.sets.items ≤ 16 }
     requires few_feeds { length run.now.reports.items ≤ 32 }
     ensures count { (K.seen out.old).faults ≤ (K.seen out.new).faults }
-    ensures leaves { RunLeaves run.now.sets.items run.now.reports.items (K.seen out.old) (K.seen out.new)
+    ensures leaves { RunLeaves account run.now.sets.items run.now.reports.items (K.seen out.old) (K.seen out.new)
         (desks_of (λ desk. (Desk-box desk).seen desk.value) desks.old.items desks.new.items retired.old.items retired.new.items) result }
 {
-    let Ok(printed) = print_run(rt, alloc, out, run) else {
+    let Ok(printed) = print_run(rt, alloc, account, out, run) else {
         return Status::Memory;
     };
     match tell_desks(alloc, desks, retired, &run.sets) {

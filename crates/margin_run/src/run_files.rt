@@ -2,16 +2,15 @@
 ghost use Rattle.std.specs.Prelude.{◌≤◌, length, map};
 ghost use Rattle.std.specs.String.{string_bytes};
 ghost use Rattle.feed_files.specs.CommandFiles.Files.{KeepsCounts};
-ghost use Rattle.margin_run.specs.RunStages.{InputsEnd, RunFilesEnd};
+ghost use Rattle.margin_run.specs.RunStages.{RunFilesEnd};
 
 use crate::feeds_run::{FeedsRun, run_feed_files};
 use csa_terms::Terms;
-use feed_files::command_files::{Fault, InputFile, read_param_file, read_terms_file};
+use feed_files::command_files::{Fault, Inputs, read_inputs};
+use feed_gate::set_core::SetState;
 use feed_gate::{FeedReport, make_sets};
 use feed_runs::Gate;
 use mh_io::Folder;
-use set_core::SetState;
-use simm_params::Params;
 use std::alloc::Global;
 use std::sync::Wait;
 use std::thread::Threads;
@@ -35,39 +34,6 @@ pub(crate) struct Outcome {
     pub reports: Vec<FeedReport>,
 }
 
-/// What both files of a run say.
-pub(crate) struct Inputs {
-    pub params: Params,
-    pub terms: Terms,
-}
-
-/// Reads the parameter file, and then the terms file.
-fn read_inputs<'a, F: Folder>(
-    alloc: Global,
-    files: RunFiles<'a>,
-    folder: &mut F,
-) -> Result<Inputs, Fault<'a>>
-    ensures counts { KeepsCounts (F.seen folder.old) (F.seen folder.new) }
-    ensures ends { InputsEnd files.entry.params.now files.entry.terms.now (map string_bytes files.entry.feeds.now) (F.seen folder.old) (F.seen folder.new) result }
-{
-    let params = match read_param_file(alloc, folder, files.params) {
-        Ok(params) => params,
-        Err(why) => return Err(Fault::OfFile {
-            file: InputFile::Params,
-            name: files.params,
-            why,
-        }),
-    };
-    match read_terms_file(alloc, folder, files.terms) {
-        Ok(terms) => Ok(Inputs { params, terms }),
-        Err(why) => Err(Fault::OfFile {
-            file: InputFile::Terms,
-            name: files.terms,
-            why,
-        }),
-    }
-}
-
 /// Reads both files, and runs the feeds on the sets of the terms.
 pub(crate) fn run_files<'a, R: Threads + Wait + Sync, F: Folder, G: Gate>(
     rt: &R,
@@ -80,7 +46,7 @@ pub(crate) fn run_files<'a, R: Threads + Wait + Sync, F: Folder, G: Gate>(
     ensures counts { KeepsCounts (F.seen folder.old) (F.seen folder.new) }
     ensures ends { RunFilesEnd files.entry.params.now files.entry.terms.now (map string_bytes files.entry.feeds.now) (F.seen folder.old) (F.seen folder.new) result }
 {
-    let Inputs { params, terms } = read_inputs(alloc, files, folder)?;
+    let Inputs { params, terms } = read_inputs(alloc, folder, files.params, files.terms)?;
     let sets = make_sets(alloc, &params, &terms);
     // the sets hold them
     drop(params);

@@ -5,8 +5,8 @@ ghost use Rattle.call_desk.specs.Publish.{Outcome, Publishes};
 ghost use Rattle.margin_run.specs.Notices.{notices_by, set_notices, notices};
 
 use call_desk::{Desk, Notice, Published, publish};
-use set_core::{Entry, Event, Reply, SetState};
-use simm_kinds::{MarginSide, Name};
+use csa_terms::simm_kinds::{MarginSide, Name};
+use feed_gate::set_core::{Entry, Event, Reply, SetState};
 use std::alloc::{AllocError, Global};
 
 /// Adds the notice of an entry in the set of this name, where it made a call of what the set

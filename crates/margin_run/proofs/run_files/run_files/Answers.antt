@@ -3,9 +3,14 @@ use Rattle.std.specs.String.{string_bytes}
 use Rattle.mh_io.specs.Folder.{FolderSeen}
 use Rattle.feed_files.specs.CommandFiles.declared.fault.Fault.TheVariants as fault
 use Rattle.feed_gate.proofs.Starting.{none_called}
-use Rattle.margin_run.proofs.RunLemmas.{no_run, failed_run, has_run}
+use Rattle.margin_run.proofs.RunLemmas.{no_inputs, no_run, failed_run, has_run}
 use Rattle.feed_files.proofs.CommandFiles.FileLemmas.{did_nothing}
 use Rattle.margin_run.proofs.run_files.run_files.Goals as goal
+
+pub returns-in_err-params-clause-ends : goal.returns-in_err-params-clause-ends
+returns-in_err-params-clause-ends g c =
+    failed_run _ _ c.args.files.params.now c.args.files.terms.now (map string_bytes c.args.files.feeds.now) c.in_err-params.field-0.0 c.from_residual.result c.from_residual.ensures.1
+    (no_inputs _ _ c.args.files.params.now c.args.files.terms.now (map string_bytes c.args.files.feeds.now) c.in_err-params.field-0.0 c.in_err-params.ensures.ends)
 
 pub returns-in_default-clause-ends : goal.returns-in_default-clause-ends
 returns-in_default-clause-ends g c =

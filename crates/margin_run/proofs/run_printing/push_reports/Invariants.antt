@@ -1,5 +1,5 @@
 use Rattle.std.proofs.Common.{◌≡◌, ◌++◌, drop, map}
-use Rattle.margin_run.specs.Run.{feeds_text}
+use Rattle.margin_run.specs.Accounts.{feeds_text}
 use Rattle.margin_run.proofs.run_printing.push_reports.Given as goal
 
 -- the text so far and what is left to add are the whole
