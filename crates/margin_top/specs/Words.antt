@@ -16,6 +16,8 @@ pub data Form : Type 0 where
   WhatIf : (params crif candidate : List ℕ) (names : List (List ℕ)) → Form
   Sample : (feeds seed : ℕ) → Form
   Run : (params terms : List ℕ) (feeds : List (List ℕ)) → Form
+  Audit : (params terms : List ℕ) (feeds : List (List ℕ)) → Form
+  Verify : (params terms audit : List ℕ) → Form
   Pool : (terms : List ℕ) (total : ℕ) (feeds : List (List ℕ)) → Form
 
 -- a word that names something: it isn't empty, and doesn't begin with `-`
@@ -63,10 +65,12 @@ abbrev pub pool_form : List ℕ → Option ℕ → List (List ℕ) → Option Fo
 pool_form terms None feeds = None
 pool_form terms (Some total) feeds = Some (Pool terms total feeds)
 
--- `run PARAMS TERMS FEED..`, and `pool TERMS TOTAL FEED..` with a total of 1 to 10^15 cents, each with 1 to 32 feeds
+-- `run PARAMS TERMS FEED..`, `audit PARAMS TERMS FEED..`, and `pool TERMS TOTAL FEED..` with a total of 1 to 10^15 cents, each with
+-- 1 to 32 feeds
 abbrev pub feeds_form : List ℕ → List ℕ → List ℕ → List (List ℕ) → Option Form
 feeds_form command first second feeds =
     if bytes_eq command (codes "run") && is_name_word first && is_name_word second && are_feed_words feeds then Some (Run first second feeds)
+    else if bytes_eq command (codes "audit") && is_name_word first && is_name_word second && are_feed_words feeds then Some (Audit first second feeds)
     else if bytes_eq command (codes "pool") && is_name_word first && are_feed_words feeds then pool_form first (some_amount second) feeds
     else None
 
@@ -80,10 +84,18 @@ what_if_form params crif [] = None
 what_if_form params crif (candidate ∷ names) =
     if is_name_word params && is_name_word crif && is_name_word candidate && are_trade_words names then Some (WhatIf params crif candidate names) else None
 
--- four words or more: a what-if, or feeds
+-- `verify PARAMS TERMS AUDIT`
+abbrev pub verify_form : List ℕ → List ℕ → List (List ℕ) → Option Form
+verify_form params terms (audit ∷ []) =
+    if is_name_word params && is_name_word terms && is_name_word audit then Some (Verify params terms audit) else None
+verify_form params terms _ = None
+
+-- four words or more: a what-if, a verification, or feeds
 abbrev pub long_form : List ℕ → List ℕ → List ℕ → List (List ℕ) → Option Form
 long_form command first second rest =
-    if bytes_eq command (codes "whatif") then what_if_form first second rest else feeds_form command first second rest
+    if bytes_eq command (codes "whatif") then what_if_form first second rest
+    else if bytes_eq command (codes "verify") then verify_form first second rest
+    else feeds_form command first second rest
 
 -- these; all other words are no form
 abbrev pub form_of : List (List ℕ) → Option Form

@@ -14,9 +14,10 @@ use margin_calc::calc;
 use margin_calc::command_files::{FaultLine, Status, print_line};
 use margin_explain::explain;
 use margin_pool::pool;
-use margin_run::run;
+use margin_run::{Account, run};
 use margin_sample::sample;
 use margin_schedule::schedule;
+use margin_verify::verify;
 use margin_whatif::whatif;
 use mh_io::{Folder, Sink};
 use std::alloc::Global;
@@ -28,7 +29,10 @@ use std::thread::Threads;
 /// margin of a portfolio by the standard schedule on a day, as `schedule` says; `whatif PARAMS CRIF CANDIDATE NAME..` prints the
 /// margin of a batch before and after a candidate comes and 0 to 100 trades leave, as `whatif` says; `run PARAMS TERMS FEED..`
 /// runs 1 to 32 feeds at the same time on the netting sets of the terms, prints the journals and what became of the feeds,
-/// and tells each desk the calls of what they collect; `pool TERMS TOTAL FEED..` runs 1 to 32 feeds at the same time on a total that
+/// and tells each desk the calls of what they collect; `audit PARAMS TERMS FEED..` does the same, and prints the audit text of each
+/// set in place of these, which together are verified by the same parameters and terms where they aren't longer than 33,554,432 bytes;
+/// `verify PARAMS TERMS AUDIT` works out each reply of an audit file anew, as `verify` says: where all are right the file tells
+/// a legal journal of each set; `pool TERMS TOTAL FEED..` runs 1 to 32 feeds at the same time on a total that
 /// the netting sets of the terms share, and prints what each was replied, as `pool` says. Words that are no form of a command
 /// are status `Words`, with one fault line; then the folder isn't asked for anything. The gate is called before and after each
 /// call of a feed on a set.
@@ -66,7 +70,29 @@ pub fn margin_house<R: Threads + Wait + Sync, F: Folder, K: Sink, G: Gate>(
         Some(Command::Schedule(files)) => schedule(alloc, files.day, files.crif, folder, out),
         Some(Command::WhatIf(files)) => whatif(alloc, files, folder, out),
         Some(Command::Sample(plan)) => sample(rt, alloc, plan, out, gate),
-        Some(Command::Run(files)) => run(rt, alloc, files, folder, out, desks, retired, gate),
+        Some(Command::Run(files)) => run(
+            rt,
+            alloc,
+            Account::Journals,
+            files,
+            folder,
+            out,
+            desks,
+            retired,
+            gate,
+        ),
+        Some(Command::Audit(files)) => run(
+            rt,
+            alloc,
+            Account::Audits,
+            files,
+            folder,
+            out,
+            desks,
+            retired,
+            gate,
+        ),
+        Some(Command::Verify(files)) => verify(alloc, files, folder, out),
         Some(Command::Pool(files)) => pool(rt, alloc, files, folder, out, gate),
         None => {
             print_line(out, FaultLine::Whole(b"FAULT\tWORDS\n"));

@@ -12,4 +12,5 @@ pub use margin_explain::explain;
 pub use margin_pool::pool;
 pub use margin_run::journal_text;
 pub use margin_schedule::schedule;
+pub use margin_verify::verify;
 pub use margin_whatif::whatif;

@@ -1,7 +1,7 @@
 ghost use Rattle.std.specs.Prelude.{◌≡◌, map, length, true, ◌&&◌, IfSome};
 ghost use Rattle.std.specs.List.{list_all};
 ghost use Rattle.std.specs.String.{string_bytes};
-ghost use Rattle.margin_top.specs.Words.{is_name_word, are_feed_words, margin_form, feeds_form, are_trade_words, what_if_form, long_form, number_of, sample_form, short_form, form_of};
+ghost use Rattle.margin_top.specs.Words.{is_name_word, are_feed_words, margin_form, feeds_form, are_trade_words, what_if_form, verify_form, long_form, number_of, sample_form, short_form, form_of};
 ghost use Rattle.margin_whatif.specs.Words.{is_trade_word, words_in};
 ghost use Rattle.margin_top.specs.WordsRead.{IsForm, IsPlan, AreFew, IsWithin};
 
@@ -10,6 +10,7 @@ use margin_pool::{PoolFiles, amount_in};
 use margin_run::RunFiles;
 use margin_sample::SamplePlan;
 use margin_schedule::EndDate;
+use margin_verify::VerifyFiles;
 use margin_whatif::{WhatIfFiles, is_trade};
 
 /// The files of a margin calculation, and of its explanation.
@@ -82,6 +83,8 @@ pub(crate) enum Command<'a> {
     WhatIf(WhatIfFiles<'a>),
     Sample(SamplePlan),
     Run(RunFiles<'a>),
+    Audit(RunFiles<'a>),
+    Verify(VerifyFiles<'a>),
     Pool(PoolFiles<'a>),
 }
 
@@ -158,12 +161,16 @@ fn feeds_command<'a>(
     if !is_name(first) || !are_feeds(feeds) {
         return None;
     }
+    let run = RunFiles {
+        params: first,
+        terms: second,
+        feeds,
+    };
     if command == "run" && is_name(second) {
-        return Some(Command::Run(RunFiles {
-            params: first,
-            terms: second,
-            feeds,
-        }));
+        return Some(Command::Run(run));
+    }
+    if command == "audit" && is_name(second) {
+        return Some(Command::Audit(run));
     }
     if command == "pool" {
         let total = amount_in(second.as_bytes())?;
@@ -196,7 +203,26 @@ fn what_if_command<'a>(params: &'a str, crif: &'a str, rest: &'a [String]) -> Op
     None
 }
 
-/// The what-if or the run of feeds that four words or more ask for.
+/// The verification of the audit file that these words name.
+fn verify_command<'a>(params: &'a str, terms: &'a str, rest: &'a [String]) -> Option<Command<'a>>
+    ensures form { IsForm result (verify_form params.now terms.now (map string_bytes rest.now)) }
+    ensures within { IsWithin result }
+{
+    let [audit] = rest else {
+        return None;
+    };
+    let audit = audit.as_str();
+    if is_name(params) && is_name(terms) && is_name(audit) {
+        return Some(Command::Verify(VerifyFiles {
+            params,
+            terms,
+            audit,
+        }));
+    }
+    None
+}
+
+/// The what-if, the verification or the run of feeds that four words or more ask for.
 fn long_command<'a>(
     command: &'a str,
     first: &'a str,
@@ -208,6 +234,9 @@ fn long_command<'a>(
 {
     if command == "whatif" {
         return what_if_command(first, second, rest);
+    }
+    if command == "verify" {
+        return verify_command(first, second, rest);
     }
     feeds_command(command, first, second, rest)
 }

@@ -1,0 +1,3 @@
+pub mod Stops
+pub mod Judgings
+pub mod CompleteLemmas

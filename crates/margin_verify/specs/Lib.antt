@@ -1,0 +1,4 @@
+pub mod FaultLines
+pub mod VerdictLines
+pub mod Verify
+pub mod Complete
