@@ -3,7 +3,7 @@ use anyhow::{Context, Result, bail};
 use std::alloc::Global;
 
 /// How a directive begins. Behind a colon stand numbers; for N its range, and for a file how often it has which others.
-const FORMS: [&str; 15] = [
+const FORMS: [&str; 18] = [
     "N: ",
     "any order",
     "bytes of a put: ",
@@ -13,7 +13,10 @@ const FORMS: [&str; 15] = [
     "file ",
     "finds that fail: ",
     "in full",
+    "last bits of ",
     "last lines: ",
+    "line ",
+    "lines of ",
     "no desk",
     "order: ",
     "puts that fail: ",

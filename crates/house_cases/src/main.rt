@@ -7,6 +7,7 @@
 mod cases;
 mod command;
 mod directed;
+mod edited;
 mod ordered;
 mod quiet_desk;
 mod setting;

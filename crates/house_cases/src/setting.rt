@@ -1,5 +1,6 @@
 //! What a command runs over and into, as its directives say.
 use crate::cases::Case;
+use crate::edited::edited;
 use anyhow::{Context, Result};
 use call_desk::MemDesk;
 use mh_io::{MemFolder, MemSink};
@@ -21,7 +22,7 @@ fn size(number: Option<u64>, otherwise: usize) -> Result<usize> {
     }
 }
 
-/// Adds a file to a folder.
+/// Adds a file to a folder, with its lines changed.
 fn add_file(
     alloc: Global,
     folder: &mut MemFolder,
@@ -32,6 +33,7 @@ fn add_file(
     let most = size(case.first_number(alloc, "bytes of a read: ")?, READ)?;
     let reads = format!(in alloc; "reads of {name} that fail: ")?;
     let failing = case.numbers(alloc, reads.as_str())?;
+    let bytes = edited(alloc, case, name, bytes)?;
     folder.add(alloc, name, bytes, most.max(1), failing)?;
     Ok(())
 }
