@@ -15,9 +15,11 @@ use Rattle.simm_params.specs.SimmKinds.Order.{same_product}
 use Rattle.simm_params.specs.SimmRules.AddOns.{multiplier, multiplier_of}
 use Rattle.simm_params.specs.SimmRules.Simm.{products}
 use Rattle.simm_params.specs.SimmRules.Sums.{total_by}
-use Rattle.class_combine.specs.declared.multipliers.ProductAmounts.{ProductAmounts}
+use Rattle.simm_params.specs.MhUnits.declared.quantities.Cents.{Cents}
+use Rattle.simm_params.specs.SimmRules.declared.tables.ByProduct.{ByProduct}
+use Rattle.simm_params.specs.SimmRules.Tables.{product_at}
 use Rattle.class_combine.specs.Classes.{IsProductMargin}
-use Rattle.class_combine.specs.Multipliers.{amount_in, multiplied_in, multiplier_at, IsMultiplier, IsMultiplied}
+use Rattle.class_combine.specs.Multipliers.{multiplied_in, multiplier_at, IsMultiplier, IsMultiplied}
 use Rattle.class_combine.specs.Whole.{IsAddOn}
 use Rattle.class_combine.proofs.Products.{passed, plus, added}
 
@@ -38,8 +40,8 @@ pub record Searched (product : ProductClass) (rows left : List CrifRow) : Type 0
   pub ranged : list_all is_in_range left ≡ true
 
 -- rows with the same multipliers, in their order
-pub same_multipliers : (xs ys : List CrifRow) (m : ProductAmounts) → flat_map multiplier xs ≡ flat_map multiplier ys → multiplied_in xs m ≡ multiplied_in ys m
-same_multipliers xs ys m e = λ i. total_by (λ product. up ((same product i -ℤ pos 10000) *ℤ (amount_in m product).0) (pos 10000)) products
+pub same_multipliers : (xs ys : List CrifRow) (m : ByProduct Cents) → flat_map multiplier xs ≡ flat_map multiplier ys → multiplied_in xs m ≡ multiplied_in ys m
+same_multipliers xs ys m e = λ i. total_by (λ product. up ((same product i -ℤ pos 10000) *ℤ (product_at m product).0) (pos 10000)) products
   where
     same : (product : ProductClass) → multiplier_of xs product ≡ multiplier_of ys product
     same product = rw e refl

@@ -3,10 +3,11 @@ use Rattle.std.proofs.Common.{◌≡◌, ◌+◌, ◌*◌, ◌^◌, ◌≤◌, �
 use Rattle.std.specs.Int.{w128}
 use Rattle.std.proofs.lemmas.Int.{ints}
 use Rattle.simm_params.specs.SimmKinds.declared.kinds.ProductClass.TheVariants as product
+use Rattle.simm_params.specs.MhUnits.declared.quantities.Cents.{Cents}
+use Rattle.simm_params.specs.SimmRules.declared.tables.ByClass.{ByClass}
+use Rattle.simm_params.specs.SimmRules.declared.tables.ByProduct.{ByProduct}
 use Rattle.simm_params.specs.SimmRules.declared.values.Breakdown.{Breakdown}
 use Rattle.class_combine.specs.declared.additional.AddOns.{AddOns}
-use Rattle.class_combine.specs.declared.multipliers.ProductAmounts.{ProductAmounts}
-use Rattle.class_combine.specs.declared.whole.ProductClasses.{ProductClasses}
 use Rattle.class_combine.specs.Classes.{IsProductMargin}
 use Rattle.class_combine.specs.Multipliers.{AreProductMargins}
 use Rattle.class_combine.specs.Whole.{IsAddOn, IsTotal, HasProductMargins, breakdown_of}
@@ -62,7 +63,7 @@ total_of a b c d f n m ma mb mc md mf mn mm =
 
 -- ---- the margins of the product classes in it
 
-pub has_margins : (c : ProductClasses) (m : ProductAmounts) (a : AddOns) (b : Breakdown) → b ≡ breakdown_of c m a → AreProductMargins m → HasProductMargins b
+pub has_margins : (c : ByProduct (ByClass Cents)) (m : ByProduct Cents) (a : AddOns) (b : Breakdown) → b ≡ breakdown_of c m a → AreProductMargins m → HasProductMargins b
 has_margins c m a b is h = subst HasProductMargins (sym is) by
   where
     by : HasProductMargins (breakdown_of c m a)

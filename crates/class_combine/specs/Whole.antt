@@ -1,50 +1,40 @@
 -- A whole margin, by the margins of the risk classes in each product class, of the product classes and the add-ons.
 -- (ISDA SIMM methodology, structure: the margins of product classes add up; additional margins.)
 use Rattle.std.specs.Prelude.{◌*◌, ◌^◌, ℤ, pos, ◌+ℤ◌, ◌≤ℤ◌, ◌<ℤ◌}
+use Rattle.simm_params.specs.MhUnits.declared.quantities.Cents.{Cents}
 use Rattle.simm_params.specs.SimmKinds.declared.kinds.ProductClass.{ProductClass}
-use Rattle.simm_params.specs.SimmKinds.declared.kinds.ProductClass.TheVariants as product
-use Rattle.simm_params.specs.SimmRules.declared.values.ClassMargins.{ClassMargins}
+use Rattle.simm_params.specs.SimmRules.declared.tables.ByClass.{ByClass}
+use Rattle.simm_params.specs.SimmRules.declared.tables.ByProduct.{ByProduct}
+use Rattle.simm_params.specs.SimmRules.declared.values.ProductMargin.{ProductMargin}
 use Rattle.simm_params.specs.SimmRules.declared.values.Breakdown.{Breakdown}
 use Rattle.simm_params.specs.SimmRules.Params.{Params}
 use Rattle.simm_params.specs.SimmRules.Parts.{cents, product_part}
+use Rattle.simm_params.specs.SimmRules.Tables.{product_at, product_table}
 use Rattle.simm_params.specs.SimmRules.Sums.{total_by}
 use Rattle.simm_params.specs.SimmRules.Simm.{products}
-use Rattle.class_combine.specs.declared.whole.ProductClasses.{ProductClasses}
 use Rattle.class_combine.specs.declared.additional.AddOns.{AddOns}
-use Rattle.class_combine.specs.declared.multipliers.ProductAmounts.{ProductAmounts}
 use Rattle.class_combine.specs.Classes.{joined_in, AreClassMargins, IsProductMargin}
-use Rattle.class_combine.specs.Multipliers.{amount_in}
-
-abbrev pub classes_in : ProductClasses → ProductClass → ClassMargins
-classes_in m product.RatesFX = m.rates_fx
-classes_in m product.Credit = m.credit
-classes_in m product.Equity = m.equity
-classes_in m product.Commodity = m.commodity
 
 -- the margins of the product classes: those of their risk classes together
-abbrev pub margins_of : Params → ProductClasses → ProductAmounts
-margins_of p m = record {
-  rates_fx = cents (joined_in p m.rates_fx);
-  credit = cents (joined_in p m.credit);
-  equity = cents (joined_in p m.equity);
-  commodity = cents (joined_in p m.commodity);
-}
+abbrev pub margins_of : Params → ByProduct (ByClass Cents) → ByProduct Cents
+margins_of p m = product_table (λ product. cents (joined_in p (product_at m product)))
+
+-- a product class with its risk classes
+abbrev pub product_margin_of : Cents → ByClass Cents → ProductMargin
+product_margin_of margin classes = record { margin = margin; classes = classes }
 
 -- the product classes with their risk classes, and the total: the sum of the product classes and of the add-ons
-abbrev pub breakdown_of : ProductClasses → ProductAmounts → AddOns → Breakdown
+abbrev pub breakdown_of : ByProduct (ByClass Cents) → ByProduct Cents → AddOns → Breakdown
 breakdown_of c m a = record {
-  rates_fx = record { margin = m.rates_fx; classes = c.rates_fx };
-  credit = record { margin = m.credit; classes = c.credit };
-  equity = record { margin = m.equity; classes = c.equity };
-  commodity = record { margin = m.commodity; classes = c.commodity };
+  products = product_table (λ product. product_margin_of (product_at m product) (product_at c product));
   fixed = a.fixed;
   notional = a.notional;
   multiplier = a.multiplier;
-  total = cents (total_by (λ product. (amount_in m product).0) products +ℤ a.fixed.0 +ℤ a.notional.0 +ℤ a.multiplier.0);
+  total = cents (total_by (λ product. (product_at m product).0) products +ℤ a.fixed.0 +ℤ a.notional.0 +ℤ a.multiplier.0);
 }
 
-abbrev pub AreProductClasses : ProductClasses → Type 0
-AreProductClasses m = (product : ProductClass) → AreClassMargins (classes_in m product)
+abbrev pub AreProductClasses : ByProduct (ByClass Cents) → Type 0
+AreProductClasses m = (product : ProductClass) → AreClassMargins (product_at m product)
 
 -- an add-on, in cents
 pub record IsAddOn (amount : ℤ) : Type 0 where

@@ -5,11 +5,12 @@ ghost use Rattle.class_combine.specs.Multipliers.{multiplied_in, AreProductMargi
 ghost use Rattle.class_combine.specs.Sums.{AreOfBook, StandFor};
 ghost use Rattle.class_combine.specs.Whole.{AreAddOns};
 
-use crate::multipliers::{ProductAmounts, multiplied_margins};
+use crate::multipliers::multiplied_margins;
 use crate::notional::notional_add_on;
 use crate::sums::AddOnSums;
 use simm_params::mh_units::Cents;
 use simm_params::simm_kinds::CrifRow;
+use simm_params::simm_rules::ByProduct;
 
 /// The additional margins of a book.
 #[derive(Clone, Copy)]
@@ -22,15 +23,19 @@ pub struct AddOns {
     pub multiplier: Cents,
 }
 
-/// The additional margins of a book whose product classes have these margins: by the sums of its rows, and by its parameters, the
-/// rows of the trade without a name, which has all factors of notionals and all multipliers. It takes no memory, and costs the
-/// parameters, each the logarithm of the number of qualifiers.
-pub fn add_ons(sums: &AddOnSums, parameters: &[CrifRow], margins: &ProductAmounts) -> AddOns
+/// The additional margins of a book whose product classes have these margins: by the sums of its
+/// rows, and by its parameters, the rows of the trade without a name, which has all factors of
+/// notionals and all multipliers. It takes no memory, and costs the parameters, each the logarithm
+/// of the number of qualifiers.
+pub fn add_ons(sums: &AddOnSums, parameters: &[CrifRow], margins: &ByProduct<Cents>) -> AddOns
     requires book { AreOfBook sums.now parameters.now }
     requires margins { AreProductMargins margins.now }
-    ensures fixed { (held : List Row) → StandFor sums.now parameters.now held → result.fixed.0 ≡ fixed_amounts held }
-    ensures notional { (held : List Row) → StandFor sums.now parameters.now held → result.notional.0 ≡ notional_add_on held }
-    ensures multiplier { (held : List Row) → StandFor sums.now parameters.now held → result.multiplier.0 ≡ multiplied_in held margins.now }
+    ensures fixed { (held : List Row) → StandFor sums.now parameters.now held
+        → result.fixed.0 ≡ fixed_amounts held }
+    ensures notional { (held : List Row) → StandFor sums.now parameters.now held
+        → result.notional.0 ≡ notional_add_on held }
+    ensures multiplier { (held : List Row) → StandFor sums.now parameters.now held
+        → result.multiplier.0 ≡ multiplied_in held margins.now }
     ensures range { AreAddOns result }
 {
     AddOns {

@@ -5,27 +5,17 @@ ghost use Rattle.simm_params.specs.MhUnits.Rounding.{up};
 ghost use Rattle.simm_params.specs.SimmKinds.Batch.{is_in_range};
 ghost use Rattle.simm_params.specs.SimmRules.AddOns.{multiplied, multiplier_of};
 ghost use Rattle.class_combine.specs.Classes.{IsProductMargin};
-ghost use Rattle.class_combine.specs.Multipliers.{multiplier_at, multiplied_in, AreProductMargins, IsMultiplied, IsMultiplier};
+ghost use Rattle.class_combine.specs.Multipliers.{multiplier_at, multiplied_in};
+ghost use Rattle.class_combine.specs.Multipliers.{AreProductMargins, IsMultiplied, IsMultiplier};
 ghost use Rattle.class_combine.specs.Whole.{IsAddOn};
 
 use simm_params::mh_units::{Cents, Rate4, div_up};
 use simm_params::simm_kinds::{CrifRow, ProductClass};
+use simm_params::simm_rules::ByProduct;
 
-/// The margins of the product classes.
-#[derive(Clone, Copy)]
-pub struct ProductAmounts {
-    /// Of rates and foreign exchange.
-    pub rates_fx: Cents,
-    /// Of credit.
-    pub credit: Cents,
-    /// Of equity.
-    pub equity: Cents,
-    /// Of commodities.
-    pub commodity: Cents,
-}
-
-/// What the multipliers among the parameters of a book add to the margins of its product classes, in cents.
-pub fn multiplied_margins(parameters: &[CrifRow], margins: &ProductAmounts) -> Cents
+/// What the multipliers among the parameters of a book add to the margins of its product classes,
+/// in cents.
+pub fn multiplied_margins(parameters: &[CrifRow], margins: &ByProduct<Cents>) -> Cents
     requires amounts { list_all is_in_range parameters.now ≡ true }
     requires margins { AreProductMargins margins.now }
     ensures value { result.0 ≡ multiplied_in parameters.now margins.now }
@@ -48,7 +38,8 @@ fn multiplied(parameters: &[CrifRow], product: ProductClass, margin: Cents) -> C
     multiplier_share(multiplier_of(parameters, product), margin)
 }
 
-/// What a multiplier, in ten-thousandths and from 1 to 10, adds to the margin of its product class: in cents, upwards to the cent.
+/// What a multiplier, in ten-thousandths and from 1 to 10, adds to the margin of its product
+/// class: in cents, upwards to the cent.
 pub fn multiplier_share(factor: Rate4, margin: Cents) -> Cents
     requires factor { IsMultiplier factor.0 }
     requires margin { IsProductMargin margin.0 }

@@ -4,7 +4,8 @@ ghost use Rattle.simm_params.specs.MhUnits.Rounding.{up};
 ghost use Rattle.simm_params.specs.SimmKinds.declared.row.CrifRow.{CrifRow as Row};
 ghost use Rattle.simm_params.specs.SimmKinds.Batch.{is_in_range};
 ghost use Rattle.simm_params.specs.SimmRules.AddOns.{notional_add_on};
-ghost use Rattle.class_combine.specs.Notionals.{share_in, share_of, size_at, AreSizes, IsFactor, IsNotional};
+ghost use Rattle.class_combine.specs.Notionals.{share_in, share_of, size_at};
+ghost use Rattle.class_combine.specs.Notionals.{AreSizes, IsFactor, IsNotional};
 ghost use Rattle.class_combine.specs.Sums.{AreOfBook, StandFor};
 ghost use Rattle.class_combine.specs.Whole.{IsAddOn};
 
@@ -16,10 +17,12 @@ use simm_params::simm_kinds::{CrifRow, Name};
 /// A factor of 100 percent: factors are in percent, in ten-thousandths.
 const WHOLE: i128 = 1_000_000;
 
-/// What the factors among the parameters add for the notionals of their qualifiers, in cents, each upwards to the cent.
+/// What the factors among the parameters add for the notionals of their qualifiers, in cents, each
+/// upwards to the cent.
 pub fn notional_add_on(sums: &AddOnSums, parameters: &[CrifRow]) -> Cents
     requires { AreOfBook sums.now parameters.now }
-    ensures value { (held : List Row) → StandFor sums.now parameters.now held → result.0 ≡ notional_add_on held }
+    ensures value { (held : List Row) → StandFor sums.now parameters.now held
+        → result.0 ≡ notional_add_on held }
     ensures range { IsAddOn result.0 }
 {
     let mut sum = 0;
@@ -55,13 +58,15 @@ pub struct NotionalShare {
     pub amount: Cents,
 }
 
-/// What a factor, in percent, in ten-thousandths and up to 100 percent, comes to over the notionals of its qualifier, where the
-/// sums are those of a book. It takes no memory, and costs the logarithm of the number of qualifiers.
+/// What a factor, in percent, in ten-thousandths and up to 100 percent, comes to over the
+/// notionals of its qualifier, where the sums are those of a book. It takes no memory, and costs
+/// the logarithm of the number of qualifiers.
 pub fn notional_share(sums: &AddOnSums, qualifier: &Name, factor: Rate4) -> NotionalShare
     requires book { (parameters : List Row) × AreOfBook sums.now parameters }
     requires factor { IsFactor factor.0 }
     ensures size { result.size.0 ≡ size_at sums.now.notionals qualifier.now }
-    ensures amount { result.amount.0 ≡ share_of (size_at sums.now.notionals) (record { of = qualifier.now; amount = factor.0 }) }
+    ensures amount { result.amount.0 ≡ share_of (size_at sums.now.notionals)
+        (record { of = qualifier.now; amount = factor.0 }) }
 {
     let size = sums.notionals().size(qualifier);
     NotionalShare {

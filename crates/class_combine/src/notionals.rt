@@ -1,6 +1,7 @@
 ghost use Rattle.std.specs.Prelude.{◌≡◌, IfSome, IsSomeAnd, IfOk, OnOk, OnErr};
 ghost use Rattle.std.specs.FinMap as table;
-ghost use Rattle.class_combine.specs.Summed.{CanGrow, CanShrink, IsSmall, grown, shrunk, size_in, with_left};
+ghost use Rattle.class_combine.specs.Summed.{CanGrow, CanShrink, IsSmall};
+ghost use Rattle.class_combine.specs.Summed.{grown, shrunk, size_in, with_left};
 
 use crate::notional_sum::NotionalSum;
 use simm_params::mh_units::Cents;
@@ -64,7 +65,8 @@ impl Notionals {
     pub fn add(&mut self, alloc: Global, qualifier: &Name, amount: Cents) -> Result<(), AllocError>
         requires room { IfSome (table.get self.old qualifier.now) CanGrow }
         requires amount { IsSmall amount.0 }
-        ensures ok { OnOk result (self.new ≡ table.insert self.old qualifier.now (grown (table.get self.old qualifier.now) amount.0)) }
+        ensures ok { OnOk result (self.new ≡ table.insert self.old qualifier.now
+            (grown (table.get self.old qualifier.now) amount.0)) }
         ensures err { OnErr result (self.new ≡ self.old) }
     {
         match self.by_qualifier.get_mut(qualifier) {
@@ -77,11 +79,13 @@ impl Notionals {
         Ok(())
     }
 
-    /// Takes a notional of a qualifier that is there. A qualifier goes with its last notional. It takes no memory.
+    /// Takes a notional of a qualifier that is there. A qualifier goes with its last notional. It
+    /// takes no memory.
     pub fn take(&mut self, qualifier: &Name, amount: Cents)
         requires held { IsSomeAnd (table.get self.old qualifier.now) CanShrink }
         requires amount { IsSmall amount.0 }
-        ensures { self.new ≡ with_left self.old qualifier.now (shrunk (table.get self.old qualifier.now) amount.0) }
+        ensures { self.new ≡ with_left self.old qualifier.now
+            (shrunk (table.get self.old qualifier.now) amount.0) }
     {
         let Some(sum) = self.by_qualifier.get_mut(qualifier) else {
             return;

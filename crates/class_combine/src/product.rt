@@ -1,19 +1,19 @@
 ghost use Rattle.std.specs.Prelude.{◌≡◌, ◌*◌, ◌^◌, ◌≤◌, pos, ◌≤ℤ◌, unsigned_abs};
-ghost use Rattle.simm_params.specs.SimmKinds.declared.kinds.RiskClass.{RiskClass as Class};
 ghost use Rattle.simm_params.specs.SimmRules.Simm.{classes as each_class, joined};
 ghost use Rattle.simm_params.specs.SimmRules.Sums.{total_by, total_by_pairs};
-ghost use Rattle.class_combine.specs.Classes.{class_in, class_pair, AreClassMargins};
+ghost use Rattle.simm_params.specs.SimmRules.Tables.{class_at};
+ghost use Rattle.class_combine.specs.Classes.{class_pair, AreClassMargins};
 
 use simm_params::Params;
 use simm_params::mh_units::{Cents, div_up, least_root};
 use simm_params::simm_kinds::RiskClass;
-use simm_params::simm_rules::ClassMargins;
+use simm_params::simm_rules::ByClass;
 
-/// The margin of a product class that has these margins of its risk classes: the root of all ordered pairs of them, each by
-/// the correlation of the two classes, upwards to the cent.
-pub fn product_margin(params: &Params, classes: &ClassMargins) -> Cents
+/// The margin of a product class that has these margins of its risk classes: the root of all
+/// ordered pairs of them, each by the correlation of the two classes, upwards to the cent.
+pub fn product_margin(params: &Params, classes: &ByClass<Cents>) -> Cents
     requires { AreClassMargins classes.now }
-    ensures value { result.0 ≡ joined params.now (λ class. (class_in classes.now class).0) }
+    ensures value { result.0 ≡ joined params.now (λ class. (class_at classes.now class).0) }
     ensures low { pos 0 ≤ℤ result.0 }
     ensures size { result.0 ≤ℤ pos (12 * 10 ^ 16) }
 {
@@ -26,7 +26,7 @@ pub fn product_margin(params: &Params, classes: &ClassMargins) -> Cents
 }
 
 // All ordered pairs of classes, in cents squared times 10^4.
-fn pairs(params: &Params, classes: &ClassMargins) -> i128
+fn pairs(params: &Params, classes: &ByClass<Cents>) -> i128
     requires { AreClassMargins classes.now }
     ensures value { result ≡ total_by_pairs (class_pair params.now classes.now) each_class }
     ensures size { unsigned_abs result ≤ 10000 * (12 * 10 ^ 16 * (12 * 10 ^ 16)) }
@@ -40,12 +40,12 @@ fn pairs(params: &Params, classes: &ClassMargins) -> i128
 }
 
 // A class and each class, in cents squared times 10^4. A class without margin adds nothing.
-fn pairs_with(params: &Params, classes: &ClassMargins, class: RiskClass) -> i128
+fn pairs_with(params: &Params, classes: &ByClass<Cents>, class: RiskClass) -> i128
     requires { AreClassMargins classes.now }
     ensures value { result ≡ total_by (class_pair params.now classes.now class) each_class }
     ensures size { unsigned_abs result ≤ 6 * (10000 * (2 * 10 ^ 16 * (2 * 10 ^ 16))) }
 {
-    if margin_of(classes, class).0 == 0 {
+    if classes.of(class).0 == 0 {
         0
     } else {
         each_pair_with(params, classes, class)
@@ -53,7 +53,7 @@ fn pairs_with(params: &Params, classes: &ClassMargins, class: RiskClass) -> i128
 }
 
 // The same, class by class.
-fn each_pair_with(params: &Params, classes: &ClassMargins, class: RiskClass) -> i128
+fn each_pair_with(params: &Params, classes: &ByClass<Cents>, class: RiskClass) -> i128
     requires { AreClassMargins classes.now }
     ensures value { result ≡ total_by (class_pair params.now classes.now class) each_class }
     ensures size { unsigned_abs result ≤ 6 * (10000 * (2 * 10 ^ 16 * (2 * 10 ^ 16))) }
@@ -67,25 +67,11 @@ fn each_pair_with(params: &Params, classes: &ClassMargins, class: RiskClass) -> 
 }
 
 // The product of the margins of two classes and their correlation, in cents squared times 10^4.
-fn pair(params: &Params, classes: &ClassMargins, a: RiskClass, b: RiskClass) -> i128
+fn pair(params: &Params, classes: &ByClass<Cents>, a: RiskClass, b: RiskClass) -> i128
     requires { AreClassMargins classes.now }
     ensures value { result ≡ class_pair params.now classes.now a b }
     ensures size { unsigned_abs result ≤ 10000 * (2 * 10 ^ 16 * (2 * 10 ^ 16)) }
 {
     let correlation = params.psi(a, b);
-    i128::from(correlation.0) * margin_of(classes, a).0 * margin_of(classes, b).0
-}
-
-// The margin of a class.
-fn margin_of(classes: &ClassMargins, class: RiskClass) -> Cents
-    ensures { result ≡ class_in classes.now class }
-{
-    match class {
-        RiskClass::IR => classes.ir,
-        RiskClass::CreditQ => classes.credit_q,
-        RiskClass::CreditNonQ => classes.credit_nonq,
-        RiskClass::Equity => classes.equity,
-        RiskClass::Commodity => classes.commodity,
-        RiskClass::FX => classes.fx,
-    }
+    i128::from(correlation.0) * classes.of(a).0 * classes.of(b).0
 }

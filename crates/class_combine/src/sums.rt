@@ -9,9 +9,10 @@ use simm_params::mh_units::Cents;
 use simm_params::simm_kinds::CrifRow;
 use std::alloc::{AllocError, Global};
 
-/// What the add-ons of a book need of the rows that it holds: the sum of their fixed amounts, and for each qualifier the sum of
-/// the sizes of its notionals. They are those of the rows whatever their order. A row costs the logarithm of the number of
-/// qualifiers, and nothing where it is neither a fixed amount nor a notional.
+/// What the add-ons of a book need of the rows that it holds: the sum of their fixed amounts, and
+/// for each qualifier the sum of the sizes of its notionals. They are those of the rows whatever
+/// their order. A row costs the logarithm of the number of qualifiers, and nothing where it is
+/// neither a fixed amount nor a notional.
 #[derive(Drop)]
 pub struct AddOnSums {
     fixed: Cents,
@@ -29,7 +30,8 @@ impl AddOnSums {
         }
     }
 
-    /// Equal sums, of the same rows. It costs the qualifiers, each of which is copied. The only error is want of memory.
+    /// Equal sums, of the same rows. It costs the qualifiers, each of which is copied. The only
+    /// error is want of memory.
     pub fn copy(&self, alloc: Global) -> Result<AddOnSums, AllocError>
         ensures { IfOk result (λ copy. copy ≡ self.now) }
     {
@@ -39,12 +41,13 @@ impl AddOnSums {
         })
     }
 
-    /// Adds rows, whose amounts are those that a batch can have; fewer than 2^32 rows are held afterwards. A qualifier is
-    /// copied where it is new. For want of memory nothing changes.
+    /// Adds rows, whose amounts are those that a batch can have; fewer than 2^32 rows are held
+    /// afterwards. A qualifier is copied where it is new. For want of memory nothing changes.
     pub fn add_rows(&mut self, alloc: Global, rows: &[CrifRow]) -> Result<(), AllocError>
         requires room { HasRoom self.old (length rows.now) }
         requires amounts { list_all is_in_range rows.now ≡ true }
-        ensures ok { (held : List Row) → self.old ≡ sums_of held → OnOk result (self.new ≡ sums_of (held ++ rows.now)) }
+        ensures ok { (held : List Row) → self.old ≡ sums_of held
+            → OnOk result (self.new ≡ sums_of (held ++ rows.now)) }
         ensures err { OnErr result (self.new ≡ self.old) }
     {
         for (index, row) in rows.iter().enumerate() {
@@ -59,7 +62,8 @@ impl AddOnSums {
     /// Takes rows that are held. A qualifier goes with its last notional. It takes no memory.
     pub fn take_rows(&mut self, rows: &[CrifRow])
         requires { AreHeld rows.now self.old }
-        ensures { (before after : List Row) → self.old ≡ sums_of (before ++ rows.now ++ after) → self.new ≡ sums_of (before ++ after) }
+        ensures { (before after : List Row) → self.old ≡ sums_of (before ++ rows.now ++ after)
+            → self.new ≡ sums_of (before ++ after) }
     {
         self.take_each(rows);
     }
@@ -81,7 +85,8 @@ impl AddOnSums {
     /// Takes rows that are held.
     fn take_each(&mut self, rows: &[CrifRow])
         requires { Holds rows.now self.old }
-        ensures { (rest : List Row) → self.old ≡ sums_of (rows.now ++ rest) → self.new ≡ sums_of rest }
+        ensures { (rest : List Row) → self.old ≡ sums_of (rows.now ++ rest)
+            → self.new ≡ sums_of rest }
     {
         for row in rows {
             self.take_row(row);
@@ -92,7 +97,8 @@ impl AddOnSums {
     fn add_row(&mut self, alloc: Global, row: &CrifRow) -> Result<(), AllocError>
         requires room { HasRoom self.old 1 }
         requires amount { is_in_range row.now ≡ true }
-        ensures ok { (held : List Row) → self.old ≡ sums_of held → OnOk result (self.new ≡ sums_of (row.now ∷ held)) }
+        ensures ok { (held : List Row) → self.old ≡ sums_of held
+            → OnOk result (self.new ≡ sums_of (row.now ∷ held)) }
         ensures err { OnErr result (self.new ≡ self.old) }
     {
         match row {
@@ -112,7 +118,8 @@ impl AddOnSums {
     /// Takes a row that is held.
     fn take_row(&mut self, row: &CrifRow)
         requires { Holds (row.now ∷ []) self.old }
-        ensures { (rest : List Row) → self.old ≡ sums_of (row.now ∷ rest) → self.new ≡ sums_of rest }
+        ensures { (rest : List Row) → self.old ≡ sums_of (row.now ∷ rest)
+            → self.new ≡ sums_of rest }
     {
         match row {
             CrifRow::FixedAmount(amount) => self.fixed = Cents(self.fixed.0 - amount.0),

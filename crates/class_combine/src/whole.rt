@@ -1,34 +1,22 @@
 ghost use Rattle.std.specs.Prelude.{◌≡◌};
 ghost use Rattle.class_combine.specs.Multipliers.{AreProductMargins};
-ghost use Rattle.class_combine.specs.Whole.{margins_of, breakdown_of, AreProductClasses, AreAddOns, IsTotal, HasProductMargins};
+ghost use Rattle.class_combine.specs.Whole.{margins_of, breakdown_of, product_margin_of};
+ghost use Rattle.class_combine.specs.Whole.{AreProductClasses, AreAddOns};
+ghost use Rattle.class_combine.specs.Whole.{IsTotal, HasProductMargins};
 
 use crate::additional::AddOns;
-use crate::multipliers::ProductAmounts;
 use crate::product::product_margin;
 use simm_params::Params;
 use simm_params::mh_units::Cents;
-use simm_params::simm_rules::{Breakdown, ClassMargins, ProductMargin};
-
-/// The margins of the risk classes in each product class.
-#[derive(Clone, Copy)]
-pub struct ProductClasses {
-    /// In rates and foreign exchange.
-    pub rates_fx: ClassMargins,
-    /// In credit.
-    pub credit: ClassMargins,
-    /// In equity.
-    pub equity: ClassMargins,
-    /// In commodities.
-    pub commodity: ClassMargins,
-}
+use simm_params::simm_rules::{Breakdown, ByClass, ByProduct, ProductMargin};
 
 /// The margins of the product classes that have these margins of their risk classes.
-pub fn product_margins(params: &Params, classes: &ProductClasses) -> ProductAmounts
+pub fn product_margins(params: &Params, classes: &ByProduct<ByClass<Cents>>) -> ByProduct<Cents>
     requires { AreProductClasses classes.now }
     ensures value { result ≡ margins_of params.now classes.now }
     ensures range { AreProductMargins result }
 {
-    ProductAmounts {
+    ByProduct {
         rates_fx: product_margin(params, &classes.rates_fx),
         credit: product_margin(params, &classes.credit),
         equity: product_margin(params, &classes.equity),
@@ -36,8 +24,13 @@ pub fn product_margins(params: &Params, classes: &ProductClasses) -> ProductAmou
     }
 }
 
-/// The margin of a book of these margins of its risk classes and of its product classes, with these add-ons.
-pub fn breakdown(classes: &ProductClasses, margins: &ProductAmounts, add_ons: &AddOns) -> Breakdown
+/// The margin of a book of these margins of its risk classes and of its product classes, with
+/// these add-ons.
+pub fn breakdown(
+    classes: &ByProduct<ByClass<Cents>>,
+    margins: &ByProduct<Cents>,
+    add_ons: &AddOns,
+) -> Breakdown
     requires margins { AreProductMargins margins.now }
     requires add_ons { AreAddOns add_ons.now }
     ensures value { result ≡ breakdown_of classes.now margins.now add_ons.now }
@@ -47,10 +40,12 @@ pub fn breakdown(classes: &ProductClasses, margins: &ProductAmounts, add_ons: &A
     let products = margins.rates_fx.0 + margins.credit.0 + margins.equity.0 + margins.commodity.0;
     let total = products + add_ons.fixed.0 + add_ons.notional.0 + add_ons.multiplier.0;
     Breakdown {
-        rates_fx: part(margins.rates_fx, classes.rates_fx),
-        credit: part(margins.credit, classes.credit),
-        equity: part(margins.equity, classes.equity),
-        commodity: part(margins.commodity, classes.commodity),
+        products: ByProduct {
+            rates_fx: part(margins.rates_fx, classes.rates_fx),
+            credit: part(margins.credit, classes.credit),
+            equity: part(margins.equity, classes.equity),
+            commodity: part(margins.commodity, classes.commodity),
+        },
         fixed: add_ons.fixed,
         notional: add_ons.notional,
         multiplier: add_ons.multiplier,
@@ -59,8 +54,8 @@ pub fn breakdown(classes: &ProductClasses, margins: &ProductAmounts, add_ons: &A
 }
 
 // The part of a product class.
-fn part(margin: Cents, classes: ClassMargins) -> ProductMargin
-    ensures { result ≡ record { margin = margin; classes = classes } }
+fn part(margin: Cents, classes: ByClass<Cents>) -> ProductMargin
+    ensures { result ≡ product_margin_of margin classes }
 {
     ProductMargin { margin, classes }
 }

@@ -1,5 +1,6 @@
-//! How concentrated a position is: the concentration factor of a net sensitivity over its threshold, the ratio of two such
-//! factors, and the product of two correlations. All are in millionths, and nothing here takes memory.
+//! How concentrated a position is: the concentration factor of a net sensitivity over its
+//! threshold, the ratio of two such factors, and the product of two correlations. All are in
+//! millionths, and nothing here takes memory.
 //! (ISDA SIMM methodology, concentration risk factors and correlations.)
 #![tactic(auto)]
 
@@ -15,8 +16,9 @@ use simm_rules::mh_units::{Corr6, div_up, least_root, mul_corr};
 // The bits of a guessed quotient.
 const LOW_BITS: u64 = 0xffff_ffff;
 
-/// The concentration factor of a net sensitivity over its threshold, both in cents: the least `c` from 1 on with
-/// `c * c * threshold` at least the size of `net`, to the millionth. Up to the threshold it takes no root.
+/// The concentration factor of a net sensitivity over its threshold, both in cents: the least `c`
+/// from 1 on with `c * c * threshold` at least the size of `net`, to the millionth. Up to the
+/// threshold it takes no root.
 pub fn cr(net: i128, threshold: i64) -> Corr6
     requires positive { pos 1 ≤ℤ threshold }
     requires threshold_in_range { threshold ≤ℤ pos (10 ^ 15) }
@@ -34,8 +36,8 @@ pub fn cr(net: i128, threshold: i64) -> Corr6
     Corr6(Corr6::ONE.0.max(root as i64))
 }
 
-/// The lesser of two concentration factors over the greater, rounded down: how alike two concentrations are. Two equal
-/// factors take no division.
+/// The lesser of two concentration factors over the greater, rounded down: how alike two
+/// concentrations are. Two equal factors take no division.
 pub fn ratio(a: Corr6, b: Corr6) -> Corr6
     requires first_from_one { one ≤ℤ a.0 }
     requires first_below { a.0 <ℤ pos 347000000 }
@@ -89,8 +91,8 @@ fn quotient_below_one(lesser: i64, greater: i64) -> i64
     quotient(lesser, greater)
 }
 
-// The same. A guess costs a part of what a division of 64 bits costs on many processors. It is checked, and the number above it
-// too; a division settles what neither is right on.
+// The same. A guess costs a part of what a division of 64 bits costs on many processors. It is
+// checked, and the number above it too; a division settles what neither is right on.
 fn quotient(lesser: i64, greater: i64) -> i64
     requires low { pos 0 ≤ℤ lesser }
     requires ordered { lesser ≤ℤ greater }
@@ -109,8 +111,9 @@ fn quotient(lesser: i64, greater: i64) -> i64
     number.div_euclid(greater)
 }
 
-// About what a number over another is; nothing is said of it but its size. One division of 32 bits gives about 2^40 over the
-// divisor; most of the number is divided by a product with it, and then what is left.
+// About what a number over another is; nothing is said of it but its size. One division of 32 bits
+// gives about 2^40 over the divisor; most of the number is divided by a product with it, and then
+// what is left.
 fn guessed_quotient(number: u64, divisor: u32) -> i64
     ensures at_least { pos 0 ≤ℤ result }
     ensures at_most { result <ℤ pos (2 ^ 32) }

@@ -29,7 +29,8 @@ fn bucket_at(
     before: &Buckets,
     value: &Value,
 ) -> Result<ClassBucket, ValueFault>
-    ensures value { Gives bucket_view result (bucket_at (map word_of path.now) form.own form.residual count number before.now (view value.now)) }
+    ensures value { Gives bucket_view result (bucket_at (map word_of path.now) form.own
+        form.residual count number before.now (view value.now)) }
     ensures within { IfOk result (λ b. IsClassBucket form.own (bucket_view b)) }
     ensures behind { IfOk result (λ b. is_behind (ids_of before.now) b.terms.id ≡ true) }
 {
@@ -47,7 +48,8 @@ fn read_places(
     places: &[Value],
 ) -> Result<Buckets, ValueFault>
     requires { length places.now ≤ 65 }
-    ensures value { Gives (λ b. b) result (each_of (bucket_at (map word_of path.now) form.own form.residual (items_count (items_view places.now))) 1 [] (items_view places.now)) }
+    ensures value { Gives (λ b. b) result (each_of (bucket_at (map word_of path.now) form.own
+        form.residual (items_count (items_view places.now))) 1 [] (items_view places.now)) }
     ensures count { IfOk result (λ b. length b ≡ length places.now) }
     ensures each { IfOk result (All (IsClassBucket form.own)) }
 {
@@ -73,7 +75,8 @@ fn bucket_places<'a>(
     path: &[Part<'_>],
     value: Option<&'a Value>,
 ) -> Result<&'a [Value], ValueFault>
-    ensures value { Gives (λ a. items_view a.now) result (bucket_places (map word_of path.now) (found value.entry)) }
+    ensures value { Gives (λ a. items_view a.now) result
+        (bucket_places (map word_of path.now) (found value.entry)) }
     ensures some { IfOk result (λ a. 0 < length a.now) }
     ensures few { IfOk result (λ a. length a.now ≤ 65) }
 {
@@ -93,7 +96,8 @@ pub fn read_buckets(
     value: Option<&Value>,
     form: BucketForm,
 ) -> Result<Buckets, ValueFault>
-    ensures value { Gives (λ b. b) result (buckets_of (map word_of path.now) form.own form.residual (found value.entry)) }
+    ensures value { Gives (λ b. b) result
+        (buckets_of (map word_of path.now) form.own form.residual (found value.entry)) }
     ensures within { IfOk result (AreClassBuckets form.own) }
 {
     let places = bucket_places(alloc, path, value)?;

@@ -5,7 +5,8 @@ ghost use Rattle.simm_params.specs.TomlValues.Paths.{word_of};
 ghost use Rattle.simm_params.specs.BucketView.{bucket_view};
 ghost use Rattle.simm_params.specs.Buckets.{is_behind, ids_of};
 ghost use Rattle.params_file.specs.ClassRanges.{IsClassBucket};
-ghost use Rattle.params_file.specs.Classes.{id_named, may_stand, next_id, id_of, curvature_of, bucket_of_id, bucket_of_table};
+ghost use Rattle.params_file.specs.Classes.{id_named, may_stand, next_id, id_of};
+ghost use Rattle.params_file.specs.Classes.{curvature_of, bucket_of_id, bucket_of_table};
 
 use crate::bucket_form::OwnRate;
 use crate::key_rate::key_rate;
@@ -60,7 +61,8 @@ fn read_id(
     residual: bool,
     before: &Buckets,
 ) -> Result<Bucket, ValueFault>
-    ensures value { Gives (λ id. id) result (id_of (map word_of path.now) residual before.now (table_view table.now)) }
+    ensures value { Gives (λ id. id) result
+        (id_of (map word_of path.now) residual before.now (table_view table.now)) }
     ensures behind { IfOk result (λ id. is_behind (ids_of before.now) id ≡ true) }
 {
     let path = key_path(alloc, path, "id")?;
@@ -88,7 +90,8 @@ fn read_bucket_of(
     own: OwnRate,
     id: Bucket,
 ) -> Result<ClassBucket, ValueFault>
-    ensures value { Gives bucket_view result (bucket_of_id (map word_of path.now) own id (table_view table.now)) }
+    ensures value { Gives bucket_view result
+        (bucket_of_id (map word_of path.now) own id (table_view table.now)) }
     ensures within { IfOk result (λ b. IsClassBucket own (bucket_view b)) }
     ensures id { IfOk result (λ b. b.terms.id ≡ id) }
 {
@@ -109,7 +112,8 @@ fn read_bucket_of(
     Ok(ClassBucket { terms, own: rate })
 }
 
-/// The bucket in its table, behind those before it. The residual bucket is one only where it may stand.
+/// The bucket in its table, behind those before it. The residual bucket is one only where it
+/// may stand.
 #[tactic(auto, unfolding(crate::specs::Classes::bucket_of_table))]
 pub fn read_bucket(
     alloc: Global,
@@ -119,7 +123,8 @@ pub fn read_bucket(
     residual: bool,
     before: &Buckets,
 ) -> Result<ClassBucket, ValueFault>
-    ensures value { Gives bucket_view result (bucket_of_table (map word_of path.now) own residual before.now (table_view table.now)) }
+    ensures value { Gives bucket_view result
+        (bucket_of_table (map word_of path.now) own residual before.now (table_view table.now)) }
     ensures within { IfOk result (λ b. IsClassBucket own (bucket_view b)) }
     ensures behind { IfOk result (λ b. is_behind (ids_of before.now) b.terms.id ≡ true) }
 {

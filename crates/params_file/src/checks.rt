@@ -3,7 +3,8 @@ ghost use Rattle.params_file.specs.Faults.{Gives};
 ghost use Rattle.simm_params.specs.FxView.{rows_view};
 ghost use Rattle.simm_params.specs.TablesView.{tables_view};
 ghost use Rattle.simm_params.specs.Symmetry.{IsSymmetric, AreMirrored};
-ghost use Rattle.params_file.specs.Symmetry.{symmetric_psi, symmetric_tenors, symmetric_pairs, symmetric_gamma, symmetric_params, AreSymmetric};
+ghost use Rattle.params_file.specs.Symmetry.{symmetric_psi, symmetric_tenors, symmetric_pairs};
+ghost use Rattle.params_file.specs.Symmetry.{symmetric_gamma, symmetric_params, AreSymmetric};
 ghost use Rattle.params_file.specs.Thickness.{thick_params, AreThick};
 
 use crate::bucket_class::BucketClass;
@@ -66,7 +67,8 @@ pub fn check_symmetry(alloc: Global, tables: &Tables) -> Result<(), ParamFault>
     check_gamma(alloc, BucketClass::Commodity, &classes.commodity.gamma)
 }
 
-/// Refuses a threshold that is too thin beside its weight: those of delta first, and then those of vega.
+/// Refuses a threshold that is too thin beside its weight: those of delta first, and then those
+/// of vega.
 #[tactic(auto, unfolding(crate::specs::Thickness::thick_params))]
 pub fn check_thickness(alloc: Global, tables: &Tables) -> Result<(), ParamFault>
     ensures value { Gives (λ u. u) result (thick_params (tables_view tables.now)) }

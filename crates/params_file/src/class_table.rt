@@ -5,7 +5,8 @@ ghost use Rattle.simm_params.specs.TomlValues.Ranges.{IsWithin};
 ghost use Rattle.simm_params.specs.Ranges.{weights, correlations};
 ghost use Rattle.simm_params.specs.Matrix.{IsMatrix};
 ghost use Rattle.simm_params.specs.Buckets.{AreInOrder, ids_of, numbered_count};
-ghost use Rattle.params_file.specs.Classes.{class_buckets, class_gamma, credit_of, priced_of, base_of};
+ghost use Rattle.params_file.specs.Classes.{class_buckets, class_gamma};
+ghost use Rattle.params_file.specs.Classes.{credit_of, priced_of, base_of};
 ghost use Rattle.simm_params.specs.ClassRanges.{IsRangedCredit, IsRangedPriced};
 ghost use Rattle.params_file.specs.ClassRanges.{AreClassBuckets};
 ghost use Rattle.simm_params.specs.ClassView.{credit_view, priced_view, base_view};
@@ -27,7 +28,8 @@ fn class_buckets(
     table: &Table,
     form: BucketForm,
 ) -> Result<Buckets, ValueFault>
-    ensures value { Gives (λ b. b) result (class_buckets class.now form.own form.residual (table_view table.now)) }
+    ensures value { Gives (λ b. b) result
+        (class_buckets class.now form.own form.residual (table_view table.now)) }
     ensures within { IfOk result (AreClassBuckets form.own) }
 {
     let path = [Part::Key(class), Part::Key("bucket")];
@@ -42,7 +44,8 @@ fn class_gamma(
     table: &Table,
     buckets: &Buckets,
 ) -> Result<Matrix, ValueFault>
-    ensures value { Gives (λ m. m) result (class_gamma class.now buckets.now (table_view table.now)) }
+    ensures value { Gives (λ m. m) result
+        (class_gamma class.now buckets.now (table_view table.now)) }
     ensures matrix { IfOk result (IsMatrix (numbered_count buckets.now) correlations) }
     ensures in_order { AreInOrder (ids_of buckets.now) }
 {
@@ -66,7 +69,8 @@ pub fn read_credit(alloc: Global, class: &str, table: &Table) -> Result<CreditPa
     Ok(CreditParams { buckets, gamma })
 }
 
-/// The parameters of equity or of commodities, by the class's name, in its table. Commodities have no residual bucket.
+/// The parameters of equity or of commodities, by the class's name, in its table. Commodities have
+/// no residual bucket.
 #[tactic(auto, unfolding(crate::specs::Classes::priced_of))]
 pub fn read_priced(
     alloc: Global,

@@ -4,7 +4,8 @@ ghost use Rattle.simm_params.specs.BucketView.{terms_view};
 ghost use Rattle.simm_params.specs.ClassView.{credit_view, priced_view};
 ghost use Rattle.simm_params.specs.TablesView.{classes_view};
 ghost use Rattle.simm_params.specs.Thickness.{AreThickBuckets, credit_terms, priced_terms};
-ghost use Rattle.params_file.specs.Thickness.{each_passes, thick_bucket, thick_buckets, thick_class, thick_classes, AreThickClasses};
+ghost use Rattle.params_file.specs.Thickness.{each_passes, thick_bucket, thick_buckets};
+ghost use Rattle.params_file.specs.Thickness.{thick_class, thick_classes, AreThickClasses};
 
 use crate::bucket_class::BucketClass;
 use crate::fault::ParamFault;
@@ -22,7 +23,8 @@ fn check_bucket(
     number: usize,
     bucket: &ClassBucket,
 ) -> Result<(), ParamFault>
-    ensures { Gives (λ u. u) result (thick_bucket class.now kind number (terms_view bucket.now.terms)) }
+    ensures { Gives (λ u. u) result
+        (thick_bucket class.now kind number (terms_view bucket.now.terms)) }
 {
     let path = [Part::Key(class), Part::Key("bucket"), Part::Place(number)];
     let terms = &bucket.terms;
@@ -35,7 +37,8 @@ fn check_each(
     kind: ThresholdKind,
     buckets: &[ClassBucket],
 ) -> Result<(), ParamFault>
-    ensures { Gives (λ u. u) result (each_passes (thick_bucket class.now kind) 1 (map (λ b. terms_view b.terms) buckets.now)) }
+    ensures { Gives (λ u. u) result
+        (each_passes (thick_bucket class.now kind) 1 (map (λ b. terms_view b.terms) buckets.now)) }
 {
     for (index, bucket) in buckets.iter().enumerate() {
         check_bucket(alloc, class, kind, index + 1, bucket)?;
@@ -51,7 +54,8 @@ pub fn check_buckets(
     kind: ThresholdKind,
     buckets: &Buckets,
 ) -> Result<(), ParamFault>
-    ensures value { Gives (λ u. u) result (thick_buckets class.now kind (map (λ b. b.terms) buckets.now)) }
+    ensures value { Gives (λ u. u) result
+        (thick_buckets class.now kind (map (λ b. b.terms) buckets.now)) }
     ensures thick { OnOk result (AreThickBuckets kind (map (λ b. b.terms) buckets.now)) }
 {
     check_each(alloc, class, kind, buckets.as_slice())
@@ -65,7 +69,8 @@ fn check_credit(
     kind: ThresholdKind,
     class: &CreditParams,
 ) -> Result<(), ParamFault>
-    ensures value { Gives (λ u. u) result (thick_class which kind (credit_terms (credit_view class.now))) }
+    ensures value { Gives (λ u. u) result
+        (thick_class which kind (credit_terms (credit_view class.now))) }
     ensures thick { OnOk result (AreThickBuckets kind (credit_terms (credit_view class.now))) }
 {
     check_buckets(alloc, which.key(), kind, &class.buckets)
@@ -79,7 +84,8 @@ fn check_priced(
     kind: ThresholdKind,
     class: &PricedParams,
 ) -> Result<(), ParamFault>
-    ensures value { Gives (λ u. u) result (thick_class which kind (priced_terms (priced_view class.now))) }
+    ensures value { Gives (λ u. u) result
+        (thick_class which kind (priced_terms (priced_view class.now))) }
     ensures thick { OnOk result (AreThickBuckets kind (priced_terms (priced_view class.now))) }
 {
     check_buckets(alloc, which.key(), kind, &class.buckets)

@@ -4,7 +4,8 @@ ghost use Rattle.simm_params.specs.TomlValues.Answers.{Gives};
 ghost use Rattle.simm_params.specs.TomlValues.Paths.{word_of};
 ghost use Rattle.simm_params.specs.TomlValues.Values.{found};
 ghost use Rattle.simm_params.specs.TomlValues.Places.{each_of};
-ghost use Rattle.params_file.specs.Currencies.{currency_at, currencies_of, new_currency_at, new_currencies_of};
+ghost use Rattle.params_file.specs.Currencies.{currency_at, currencies_of};
+ghost use Rattle.params_file.specs.Currencies.{new_currency_at, new_currencies_of};
 
 use crate::place::place_path;
 use simm_params::CurrencyList;
@@ -20,7 +21,8 @@ fn currency_at(
     number: usize,
     value: &Value,
 ) -> Result<Currency, ValueFault>
-    ensures { Gives (λ c. c) result (currency_at (map word_of path.now) number [] (view value.now)) }
+    ensures { Gives (λ c. c) result
+        (currency_at (map word_of path.now) number [] (view value.now)) }
 {
     let path = place_path(alloc, path, number)?;
     currency(alloc, path.as_slice(), Some(value))
@@ -31,7 +33,8 @@ fn read_places(
     path: &[Part<'_>],
     places: &[Value],
 ) -> Result<CurrencyList, ValueFault>
-    ensures { Gives (λ l. l) result (each_of (currency_at (map word_of path.now)) 1 [] (items_view places.now)) }
+    ensures { Gives (λ l. l) result
+        (each_of (currency_at (map word_of path.now)) 1 [] (items_view places.now)) }
 {
     let mut list = CurrencyList::with_capacity(alloc, places.len())?;
     for (index, value) in places.iter().enumerate() {
@@ -62,7 +65,8 @@ fn new_currency_at(
     list: &CurrencyList,
     value: &Value,
 ) -> Result<Currency, ValueFault>
-    ensures { Gives (λ c. c) result (new_currency_at (map word_of path.now) number (earlier.now ++ list.now) (view value.now)) }
+    ensures { Gives (λ c. c) result (new_currency_at (map word_of path.now) number
+        (earlier.now ++ list.now) (view value.now)) }
 {
     let currency = currency_at(alloc, path, number, value)?;
     if earlier.contains(currency) || list.contains(currency) {
@@ -78,7 +82,8 @@ fn read_new_places(
     earlier: &CurrencyList,
     places: &[Value],
 ) -> Result<CurrencyList, ValueFault>
-    ensures { Gives (λ l. l) result (each_of (new_currency_at (map word_of path.now)) 1 earlier.now (items_view places.now)) }
+    ensures { Gives (λ l. l) result
+        (each_of (new_currency_at (map word_of path.now)) 1 earlier.now (items_view places.now)) }
 {
     let mut list = CurrencyList::with_capacity(alloc, places.len())?;
     for (index, value) in places.iter().enumerate() {
@@ -95,7 +100,8 @@ pub fn new_currencies(
     value: Option<&Value>,
     earlier: &CurrencyList,
 ) -> Result<CurrencyList, ValueFault>
-    ensures { Gives (λ l. l) result (new_currencies_of (map word_of path.now) earlier.now (found value.entry)) }
+    ensures { Gives (λ l. l) result
+        (new_currencies_of (map word_of path.now) earlier.now (found value.entry)) }
 {
     read_new_places(alloc, path, earlier, array(alloc, path, value)?)
 }

@@ -5,8 +5,8 @@ use simm_params::mh_units::Text;
 use simm_params::toml_values::ValueFault;
 use std::alloc::{AllocError, AllocFailed};
 
-/// Why a parameter file was not taken: the first test that fails. A path is the keys joined by points, places counted
-/// from 1, as `fx.weight.2`.
+/// Why a parameter file was not taken: the first test that fails. A path is the keys joined by
+/// points, places counted from 1, as `fx.weight.2`.
 #[derive(Drop)]
 pub enum ParamFault {
     /// The file is not UTF-8 text of a TOML document.
@@ -17,9 +17,11 @@ pub enum ParamFault {
     BadNumber(Text),
     /// The number at the path is out of its range: ten-thousandths, or whole dollars.
     OutOfRange(Text, i128),
-    /// The matrix at the path isn't symmetric, or it is one of correlations and its diagonal isn't 1.
+    /// The matrix at the path isn't symmetric, or it is one of correlations and its diagonal
+    /// isn't 1.
     NotSymmetric(Text),
-    /// The threshold at the path is too thin beside the weight: the weight in ten-thousandths, the threshold in cents.
+    /// The threshold at the path is too thin beside the weight: the weight in ten-thousandths, the
+    /// threshold in cents.
     ThinThreshold(Text, i64, i64),
     /// Memory ran out, which says nothing of the file.
     Memory,

@@ -6,10 +6,13 @@ ghost use Rattle.simm_params.specs.TomlValues.Paths.{joined, word_of};
 ghost use Rattle.simm_params.specs.TomlValues.Ranges.{IsWithin};
 ghost use Rattle.simm_params.specs.TomlValues.Values.{found, rate_of, usd_of};
 ghost use Rattle.simm_params.specs.Ranges.{weights, thresholds};
-ghost use Rattle.simm_params.specs.FxView.{rates_view, thresholds_view, rows_view, volatilities_view, fx_view};
+ghost use Rattle.simm_params.specs.FxView.{rates_view, thresholds_view};
+ghost use Rattle.simm_params.specs.FxView.{rows_view, volatilities_view, fx_view};
 ghost use Rattle.simm_params.specs.FxRanges.{ArePairThresholds};
 ghost use Rattle.params_file.specs.FxRanges.{AreWithin, AreVolatilities, IsRangedFx};
-ghost use Rattle.params_file.specs.Fx.{place_words, fx_currencies, fx_new_currencies, fx_weights, fx_pair_rates, category_thresholds, pair_thresholds, fx_thresholds, fx_vega_thresholds, fx_volatilities, fx_of};
+ghost use Rattle.params_file.specs.Fx.{place_words, fx_currencies, fx_new_currencies, fx_weights};
+ghost use Rattle.params_file.specs.Fx.{fx_pair_rates, category_thresholds, pair_thresholds};
+ghost use Rattle.params_file.specs.Fx.{fx_thresholds, fx_vega_thresholds, fx_volatilities, fx_of};
 
 use crate::currencies::{currencies, new_currencies};
 use crate::key_rate::key_rate;
@@ -33,7 +36,8 @@ fn rate_at(
     value: Option<&Value>,
     range: Range,
 ) -> Result<Rate4, ValueFault>
-    ensures value { Gives (λ r. r.0) result (rate_of (joined (place_words (map word_of path.now) number)) range (found value.entry)) }
+    ensures value { Gives (λ r. r.0) result
+        (rate_of (joined (place_words (map word_of path.now) number)) range (found value.entry)) }
     ensures within { IfOk result (λ r. IsWithin range r.0) }
 {
     let path = place_path(alloc, path, number)?;
@@ -47,7 +51,8 @@ fn usd_at(
     number: usize,
     value: Option<&Value>,
 ) -> Result<i64, ValueFault>
-    ensures value { Gives (λ c. c) result (usd_of (joined (place_words (map word_of path.now) number)) (found value.entry)) }
+    ensures value { Gives (λ c. c) result
+        (usd_of (joined (place_words (map word_of path.now) number)) (found value.entry)) }
     ensures within { IfOk result (IsWithin thresholds) }
 {
     let path = place_path(alloc, path, number)?;
@@ -112,7 +117,8 @@ fn category_thresholds(
     path: &[Part<'_>],
     value: Option<&Value>,
 ) -> Result<FxThresholds, ValueFault>
-    ensures value { Gives thresholds_view result (category_thresholds (map word_of path.now) (found value.entry)) }
+    ensures value { Gives thresholds_view result
+        (category_thresholds (map word_of path.now) (found value.entry)) }
     ensures within { IfOk result (λ t. AreWithin thresholds (thresholds_view t)) }
 {
     let places = array_of_length(alloc, path, value, 3)?;
@@ -133,7 +139,8 @@ fn thresholds_at(
     number: usize,
     value: Option<&Value>,
 ) -> Result<FxThresholds, ValueFault>
-    ensures value { Gives thresholds_view result (category_thresholds (place_words (map word_of path.now) number) (found value.entry)) }
+    ensures value { Gives thresholds_view result
+        (category_thresholds (place_words (map word_of path.now) number) (found value.entry)) }
     ensures within { IfOk result (λ t. AreWithin thresholds (thresholds_view t)) }
 {
     let path = place_path(alloc, path, number)?;
@@ -146,7 +153,8 @@ fn pair_thresholds(
     path: &[Part<'_>],
     value: Option<&Value>,
 ) -> Result<PairThresholds, ValueFault>
-    ensures value { Gives rows_view result (pair_thresholds (map word_of path.now) (found value.entry)) }
+    ensures value { Gives rows_view result
+        (pair_thresholds (map word_of path.now) (found value.entry)) }
     ensures within { IfOk result (λ t. ArePairThresholds (rows_view t)) }
 {
     let places = array_of_length(alloc, path, value, 3)?;

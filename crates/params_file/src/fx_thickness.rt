@@ -4,7 +4,8 @@ ghost use Rattle.simm_params.specs.Fx.{row};
 ghost use Rattle.simm_params.specs.FxView.{fx_view, rows_view, thresholds_view};
 ghost use Rattle.simm_params.specs.Ranges.{IsThick};
 ghost use Rattle.simm_params.specs.Thickness.{IsThickRow, AreThickPairs};
-ghost use Rattle.params_file.specs.Thickness.{thick_category, thick_fx, IsThickFx, thick_pair, thick_row, thick_pairs};
+ghost use Rattle.params_file.specs.Thickness.{thick_category, thick_fx, IsThickFx};
+ghost use Rattle.params_file.specs.Thickness.{thick_pair, thick_row, thick_pairs};
 
 use crate::fault::ParamFault;
 use crate::thickness::check_threshold;
@@ -57,7 +58,8 @@ fn check_pair(alloc: Global, row: usize, column: usize, threshold: i64) -> Resul
 
 #[tactic(auto, unfolding(crate::specs::Thickness::thick_row, crate::specs::Thickness::each_passes))]
 fn check_row(alloc: Global, number: usize, thresholds: &FxThresholds) -> Result<(), ParamFault>
-    ensures value { Gives (λ u. u) result (thick_row number (row (thresholds_view thresholds.now))) }
+    ensures value { Gives (λ u. u) result
+        (thick_row number (row (thresholds_view thresholds.now))) }
     ensures thick { OnOk result (IsThickRow (row (thresholds_view thresholds.now))) }
 {
     check_pair(alloc, number, 1, thresholds.first)?;

@@ -6,7 +6,8 @@ ghost use Rattle.simm_params.specs.TomlValues.Values.{found};
 ghost use Rattle.simm_params.specs.GroupView.{group_view};
 ghost use Rattle.simm_params.specs.Thresholds.{AreThresholds};
 ghost use Rattle.simm_params.specs.ThresholdView.{thresholds_view};
-ghost use Rattle.params_file.specs.Groups.{AreGroups, group_table_of, group_currencies_of, group_thresholds_of, group_of, group_at, groups_of};
+ghost use Rattle.params_file.specs.Groups.{AreGroups, group_table_of, group_currencies_of};
+ghost use Rattle.params_file.specs.Groups.{group_thresholds_of, group_of, group_at, groups_of};
 
 use crate::currencies::new_currencies;
 use crate::threshold_table::read_thresholds;
@@ -30,7 +31,8 @@ fn group_currencies(
     earlier: &CurrencyList,
     group: &Table,
 ) -> Result<CurrencyList, ValueFault>
-    ensures { Gives (λ l. l) result (group_currencies_of number earlier.now (table_view group.now)) }
+    ensures { Gives (λ l. l) result
+        (group_currencies_of number earlier.now (table_view group.now)) }
 {
     let path = [
         Part::Key("ir"),
@@ -43,15 +45,16 @@ fn group_currencies(
 
 #[tactic(auto, unfolding(crate::specs::Groups::group_thresholds_of))]
 fn group_thresholds(alloc: Global, number: usize, group: &Table) -> Result<Thresholds, ValueFault>
-    ensures value { Gives thresholds_view result (group_thresholds_of number (table_view group.now)) }
+    ensures value { Gives thresholds_view result
+        (group_thresholds_of number (table_view group.now)) }
     ensures within { IfOk result (λ t. AreThresholds (thresholds_view t)) }
 {
     let path = [Part::Key("ir"), Part::Key("group"), Part::Place(number)];
     read_thresholds(alloc, &path, group)
 }
 
-/// The group at a place, counted from 1, of the array at `ir.group`: none of its currencies stands twice or among the
-/// earlier ones.
+/// The group at a place, counted from 1, of the array at `ir.group`: none of its currencies stands
+/// twice or among the earlier ones.
 #[tactic(auto, unfolding(crate::specs::Groups::group_of))]
 fn group_at(
     alloc: Global,
@@ -73,7 +76,8 @@ fn group_at(
 
 /// The groups at the places of the array at `ir.group`.
 fn read_places(alloc: Global, places: &[Value]) -> Result<Vec<CurrencyGroup>, ValueFault>
-    ensures value { Gives (λ groups. map group_view groups.items) result (each_of group_at 1 [] (items_view places.now)) }
+    ensures value { Gives (λ groups. map group_view groups.items) result
+        (each_of group_at 1 [] (items_view places.now)) }
     ensures within { IfOk result (λ groups. AreGroups (map group_view groups.items)) }
 {
     let mut groups = Vec::with_capacity(alloc, places.len())?;
@@ -88,7 +92,8 @@ fn read_places(alloc: Global, places: &[Value]) -> Result<Vec<CurrencyGroup>, Va
 
 #[tactic(auto, unfolding(crate::specs::Groups::groups_of))]
 fn read_array(alloc: Global, value: &Value) -> Result<Vec<CurrencyGroup>, ValueFault>
-    ensures value { Gives (λ groups. map group_view groups.items) result (groups_of (Some (view value.now))) }
+    ensures value { Gives (λ groups. map group_view groups.items) result
+        (groups_of (Some (view value.now))) }
     ensures within { IfOk result (λ groups. AreGroups (map group_view groups.items)) }
 {
     let path = [Part::Key("ir"), Part::Key("group")];

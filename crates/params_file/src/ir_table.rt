@@ -6,11 +6,14 @@ ghost use Rattle.simm_params.specs.Ranges.{weights, correlations, vega_weights, 
 ghost use Rattle.simm_params.specs.Matrix.{AreRates, IsMatrix};
 ghost use Rattle.simm_params.specs.ThresholdView.{thresholds_view};
 ghost use Rattle.simm_params.specs.Thresholds.{AreThresholds};
-ghost use Rattle.simm_params.specs.IrView.{curves_view, weights_view, rhos_view, volatility_view, ir_view};
+ghost use Rattle.simm_params.specs.IrView.{curves_view, weights_view};
+ghost use Rattle.simm_params.specs.IrView.{rhos_view, volatility_view, ir_view};
 ghost use Rattle.params_file.specs.IrRate.{rate_range};
 ghost use Rattle.simm_params.specs.IrRanges.{AreCurves};
 ghost use Rattle.params_file.specs.IrRanges.{IsRangedIr};
-ghost use Rattle.params_file.specs.Ir.{ir_rate, ir_currencies, curve_of, curves_of, factor_weights_of, tenor_rhos_of, factor_rhos_of, volatility_rates_of, ir_other_of, ir_of};
+ghost use Rattle.params_file.specs.Ir.{ir_rate, ir_currencies, curve_of, curves_of};
+ghost use Rattle.params_file.specs.Ir.{factor_weights_of, tenor_rhos_of, factor_rhos_of};
+ghost use Rattle.params_file.specs.Ir.{volatility_rates_of, ir_other_of, ir_of};
 
 use crate::currencies::new_currencies;
 use crate::group_array::read_groups;
@@ -68,7 +71,8 @@ fn curves(alloc: Global, ir: &Table) -> Result<CurveWeights, ValueFault>
 #[tactic(auto, unfolding(crate::specs::Ir::factor_weights_of))]
 fn factor_weights(alloc: Global, ir: &Table) -> Result<FactorWeights, ValueFault>
     ensures value { Gives weights_view result (factor_weights_of (table_view ir.now)) }
-    ensures within { IfOk result (λ w. IsWithin weights w.inflation.0 × IsWithin weights w.basis.0) }
+    ensures within { IfOk result (λ w.
+        IsWithin weights w.inflation.0 × IsWithin weights w.basis.0) }
 {
     let inflation = rate_at(alloc, ir, IrRate::InflationWeight)?;
     let basis = rate_at(alloc, ir, IrRate::BasisWeight)?;
@@ -87,7 +91,9 @@ fn tenor_rhos(alloc: Global, ir: &Table) -> Result<Matrix, ValueFault>
 #[tactic(auto, unfolding(crate::specs::Ir::factor_rhos_of))]
 fn factor_rhos(alloc: Global, ir: &Table) -> Result<FactorRhos, ValueFault>
     ensures value { Gives rhos_view result (factor_rhos_of (table_view ir.now)) }
-    ensures within { IfOk result (λ r. IsWithin correlations r.phi.0 × IsWithin correlations r.inflation.0 × IsWithin correlations r.basis.0 × IsWithin correlations r.gamma.0) }
+    ensures within { IfOk result (λ r.
+        IsWithin correlations r.phi.0 × IsWithin correlations r.inflation.0
+        × IsWithin correlations r.basis.0 × IsWithin correlations r.gamma.0) }
 {
     let phi = rate_at(alloc, ir, IrRate::Phi)?;
     let inflation = rate_at(alloc, ir, IrRate::InflationRho)?;

@@ -7,7 +7,8 @@ ghost use Rattle.simm_params.specs.ThresholdKinds.{threshold_in, weight_beside};
 ghost use Rattle.simm_params.specs.ThresholdView.{thresholds_view};
 ghost use Rattle.simm_params.specs.GroupView.{group_view};
 ghost use Rattle.simm_params.specs.IrView.{ir_view};
-ghost use Rattle.params_file.specs.Thickness.{each_passes, least_weight, thick_other, thick_group, thick_ir, IsThickIr};
+ghost use Rattle.params_file.specs.Thickness.{each_passes, least_weight, thick_other};
+ghost use Rattle.params_file.specs.Thickness.{thick_group, thick_ir, IsThickIr};
 
 use crate::fault::ParamFault;
 use crate::thickness::check_kind;
@@ -33,7 +34,8 @@ fn check_other(
     other: Thresholds,
 ) -> Result<(), ParamFault>
     ensures value { Gives (λ u. u) result (thick_other kind weight.0 (thresholds_view other)) }
-    ensures thick { OnOk result (IsThick (weight_beside kind weight.0) (threshold_in kind (thresholds_view other))) }
+    ensures thick { OnOk result
+        (IsThick (weight_beside kind weight.0) (threshold_in kind (thresholds_view other))) }
 {
     let path = [Part::Key("ir"), Part::Key("other")];
     check_kind(alloc, &path, kind, weight, other)
@@ -60,7 +62,8 @@ fn check_groups(
     weight: Rate4,
     groups: &[CurrencyGroup],
 ) -> Result<(), ParamFault>
-    ensures { Gives (λ u. u) result (each_passes (thick_group kind weight.0) 1 (map group_view groups.now)) }
+    ensures { Gives (λ u. u) result
+        (each_passes (thick_group kind weight.0) 1 (map group_view groups.now)) }
 {
     for (index, group) in groups.iter().enumerate() {
         check_group(alloc, kind, weight, index + 1, group)?;
@@ -68,7 +71,8 @@ fn check_groups(
     Ok(())
 }
 
-/// Refuses a threshold of interest rates that is too thin: of the currencies in no group, and then of each group.
+/// Refuses a threshold of interest rates that is too thin: of the currencies in no group, and then
+/// of each group.
 #[tactic(auto, unfolding(crate::specs::Thickness::thick_ir))]
 pub fn check_ir(alloc: Global, kind: ThresholdKind, ir: &IrParams) -> Result<(), ParamFault>
     ensures value { Gives (λ u. u) result (thick_ir kind (ir_view ir.now)) }

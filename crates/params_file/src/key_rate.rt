@@ -20,7 +20,8 @@ pub fn key_rate(
     key: &str,
     range: Range,
 ) -> Result<Rate4, ValueFault>
-    ensures value { Gives (λ r. r.0) result (key_rate (map word_of path.now) key.now range (table_view table.now)) }
+    ensures value { Gives (λ r. r.0) result
+        (key_rate (map word_of path.now) key.now range (table_view table.now)) }
     ensures within { IfOk result (λ r. IsWithin range r.0) }
 {
     let path = key_path(alloc, path, key)?;

@@ -1,4 +1,5 @@
-//! The parameter file of the margin rule: TOML, read exactly by its grammar; and its text beside what it says.
+//! The parameter file of the margin rule: TOML, read exactly by its grammar; and its text beside
+//! what it says.
 #![tactic(auto)]
 
 mod bucket_array;

@@ -23,7 +23,8 @@ fn row_at(
     number: usize,
     value: &Value,
 ) -> Result<Rates, ValueFault>
-    ensures { Gives (λ r. r) result (row_at (map word_of path.now) size range number [] (view value.now)) }
+    ensures { Gives (λ r. r) result
+        (row_at (map word_of path.now) size range number [] (view value.now)) }
 {
     let path = place_path(alloc, path, number)?;
     read_rates(alloc, path.as_slice(), Some(value), size, range)
@@ -37,7 +38,8 @@ fn read_rows(
     range: Range,
     places: &[Value],
 ) -> Result<Vec<Rates>, ValueFault>
-    ensures { Gives (λ r. r.items) result (each_of (row_at (map word_of path.now) size range) 1 [] (items_view places.now)) }
+    ensures { Gives (λ r. r.items) result
+        (each_of (row_at (map word_of path.now) size range) 1 [] (items_view places.now)) }
 {
     let mut rows = Vec::with_capacity(alloc, places.len())?;
     for (index, value) in places.iter().enumerate() {
@@ -46,8 +48,8 @@ fn read_rows(
     Ok(rows)
 }
 
-/// A matrix of so many rows, each of so many rates in the range. Another array, and any other value, is `Missing`; then
-/// the places of each row are tested in order, row by row.
+/// A matrix of so many rows, each of so many rates in the range. Another array, and any other
+/// value, is `Missing`; then the places of each row are tested in order, row by row.
 #[tactic(auto, unfolding(crate::specs::Matrix::matrix_of))]
 pub fn read_matrix(
     alloc: Global,
@@ -56,7 +58,8 @@ pub fn read_matrix(
     size: usize,
     range: Range,
 ) -> Result<Matrix, ValueFault>
-    ensures value { Gives (λ m. m) result (matrix_of (map word_of path.now) size range (found value.entry)) }
+    ensures value { Gives (λ m. m) result
+        (matrix_of (map word_of path.now) size range (found value.entry)) }
     ensures matrix { IfOk result (IsMatrix size range) }
 {
     let places = array_of_length(alloc, path, value, size)?;

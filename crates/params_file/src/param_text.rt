@@ -12,8 +12,8 @@ use std::sync::Arc;
 /// The most bytes of a text.
 const MOST_BYTES: usize = 1_048_576;
 
-/// A text with the parameters that it is, by the grammar of a parameter file: at most 1,048,576 bytes. Both stand once for all
-/// that hold them. Contracts see the parameters and the text.
+/// A text with the parameters that it is, by the grammar of a parameter file: at most 1,048,576
+/// bytes. Both stand once for all that hold them. Contracts see the parameters and the text.
 #[derive(Drop)]
 pub struct ParamText {
     params: Params,
@@ -29,7 +29,8 @@ impl Model for ParamText {
 
     ghost view = { λ t. record { params = t.params; text = arc_value t.text } };
 
-    ghost invariant = { λ t. text_read (arc_value t.text) ≡ Ok (record { params = t.params; text = arc_value t.text }) };
+    ghost invariant = { λ t. text_read (arc_value t.text)
+        ≡ Ok (record { params = t.params; text = arc_value t.text }) };
 }
 
 impl ParamText {
@@ -37,8 +38,9 @@ impl ParamText {
     ///
     /// # Errors
     ///
-    /// `Long` exactly where the text has more than 1,048,576 bytes, with their number; then `Param` exactly where the grammar of
-    /// a parameter file has a fault, with the first; and for want of memory with `Memory`, which says nothing of the text.
+    /// `Long` exactly where the text has more than 1,048,576 bytes, with their number; then
+    /// `Param` exactly where the grammar of a parameter file has a fault, with the first; and for
+    /// want of memory with `Memory`, which says nothing of the text.
     #[tactic(auto, unfolding(crate::specs::Texts::text_read))]
     pub fn read(alloc: Global, text: Bytes) -> Result<ParamText, ParamTextFault>
         ensures { GivesText result (text_read text) }

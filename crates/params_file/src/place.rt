@@ -10,7 +10,8 @@ pub fn place_path<'a>(
     path: &[Part<'a>],
     number: usize,
 ) -> Result<Vec<Part<'a>>, AllocError>
-    ensures { IfOk result (λ longer. map word_of longer.items ≡ map word_of path.now ++ decimal number ∷ []) }
+    ensures { IfOk result (λ longer.
+        map word_of longer.items ≡ map word_of path.now ++ decimal number ∷ []) }
 {
     let mut longer = Vec::from_slice(alloc, path)?;
     longer.push(Part::Place(number))?;
@@ -23,7 +24,8 @@ pub fn key_path<'a>(
     path: &[Part<'a>],
     key: &'a str,
 ) -> Result<Vec<Part<'a>>, AllocError>
-    ensures { IfOk result (λ longer. map word_of longer.items ≡ map word_of path.now ++ key.now ∷ []) }
+    ensures { IfOk result (λ longer.
+        map word_of longer.items ≡ map word_of path.now ++ key.now ∷ []) }
 {
     let mut longer = Vec::from_slice(alloc, path)?;
     longer.push(Part::Key(key))?;

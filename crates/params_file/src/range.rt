@@ -24,7 +24,8 @@ pub const VEGA_WEIGHT: Range = Range {
     most: 20_000,
 };
 
-/// A historical volatility ratio of another class than interest rates, in ten-thousandths: 0 to 1.2.
+/// A historical volatility ratio of another class than interest rates, in ten-thousandths: 0
+/// to 1.2.
 pub const HVR: Range = Range {
     least: 0,
     most: 12_000,

@@ -22,7 +22,8 @@ fn rate_at(
     number: usize,
     value: &Value,
 ) -> Result<Rate4, ValueFault>
-    ensures { Gives (λ r. r.0) result (rate_at (map word_of path.now) range number [] (view value.now)) }
+    ensures { Gives (λ r. r.0) result
+        (rate_at (map word_of path.now) range number [] (view value.now)) }
 {
     let path = place_path(alloc, path, number)?;
     rate(alloc, path.as_slice(), Some(value), range)
@@ -35,7 +36,8 @@ fn read_places(
     range: Range,
     places: &[Value],
 ) -> Result<Rates, ValueFault>
-    ensures { Gives (λ r. r) result (each_of (rate_at (map word_of path.now) range) 1 [] (items_view places.now)) }
+    ensures { Gives (λ r. r) result
+        (each_of (rate_at (map word_of path.now) range) 1 [] (items_view places.now)) }
 {
     let mut rates = Rates::with_capacity(alloc, places.len())?;
     for (index, value) in places.iter().enumerate() {
@@ -44,8 +46,8 @@ fn read_places(
     Ok(rates)
 }
 
-/// An array of so many rates in the range. Another array, and any other value, is `Missing`; then each place is tested
-/// in order.
+/// An array of so many rates in the range. Another array, and any other value, is `Missing`; then
+/// each place is tested in order.
 #[tactic(auto, unfolding(crate::specs::Matrix::rates_of))]
 pub fn read_rates(
     alloc: Global,
@@ -54,7 +56,8 @@ pub fn read_rates(
     count: usize,
     range: Range,
 ) -> Result<Rates, ValueFault>
-    ensures value { Gives (λ r. r) result (rates_of (map word_of path.now) count range (found value.entry)) }
+    ensures value { Gives (λ r. r) result
+        (rates_of (map word_of path.now) count range (found value.entry)) }
     ensures rates { IfOk result (AreRates count range) }
 {
     let places = array_of_length(alloc, path, value, count)?;

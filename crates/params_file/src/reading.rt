@@ -35,14 +35,15 @@ fn read_file(alloc: Global, bytes: &[u8]) -> Result<Params, ParamFault>
 ///
 /// # Errors
 ///
-/// A fault is the first of the grammar's tests that fails, with its place. `Toml` comes first. The values follow in this
-/// order: calculation currency, base of the curvature scale, correlations of the risk classes; the tables `ir`, `fx`,
-/// `credit_q`, `credit_nq`, `equity`, `commodity`; weight and correlation of base correlations. A value is `Missing`,
-/// `BadNumber` or `OutOfRange`; a currency that stands twice where it may not is `BadNumber` at its later place, and so
-/// is a bucket's id that is none or out of order. Then comes `NotSymmetric`: of the risk classes, the tenors, the
-/// thresholds of currency pairs, and the buckets of each class. `ThinThreshold` comes last: first of delta, then of
-/// vega, each of interest rates, foreign exchange, and each class with buckets. `Memory` may come at any test and says
-/// nothing of the file.
+/// A fault is the first of the grammar's tests that fails, with its place. `Toml` comes first. The
+/// values follow in this order: calculation currency, base of the curvature scale, correlations of
+/// the risk classes; the tables `ir`, `fx`, `credit_q`, `credit_nq`, `equity`, `commodity`; weight
+/// and correlation of base correlations. A value is `Missing`, `BadNumber` or `OutOfRange`; a
+/// currency that stands twice where it may not is `BadNumber` at its later place, and so is a
+/// bucket's id that is none or out of order. Then comes `NotSymmetric`: of the risk classes, the
+/// tenors, the thresholds of currency pairs, and the buckets of each class. `ThinThreshold` comes
+/// last: first of delta, then of vega, each of interest rates, foreign exchange, and each class
+/// with buckets. `Memory` may come at any test and says nothing of the file.
 #[tactic(auto, unfolding(crate::specs::Grammar::params_of))]
 pub fn read_params(alloc: Global, bytes: &[u8]) -> Result<Params, ParamFault>
     ensures exact { GivesParams (λ p. p) result (params_read bytes.now) }

@@ -12,7 +12,10 @@ ghost use Rattle.simm_params.specs.ClassView.{credit_view, priced_view, base_vie
 ghost use Rattle.simm_params.specs.ClassRanges.{IsRangedCredit, IsRangedPriced};
 ghost use Rattle.simm_params.specs.TablesView.{classes_view, tables_view};
 ghost use Rattle.params_file.specs.TablesRanges.{AreRangedClasses, AreRanged};
-ghost use Rattle.params_file.specs.Grammar.{calculation_currency_of, lambda_base_of, psi_of, ir_table_of, fx_table_of, class_table_of, credit_table_of, priced_table_of, classes_of, base_table_of, tables_of};
+ghost use Rattle.params_file.specs.Grammar.{calculation_currency_of, lambda_base_of, psi_of};
+ghost use Rattle.params_file.specs.Grammar.{ir_table_of, fx_table_of, class_table_of};
+ghost use Rattle.params_file.specs.Grammar.{credit_table_of, priced_table_of};
+ghost use Rattle.params_file.specs.Grammar.{classes_of, base_table_of, tables_of};
 
 use crate::bucket_class::BucketClass;
 use crate::class_table::{read_base, read_credit, read_priced};

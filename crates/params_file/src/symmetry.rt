@@ -5,7 +5,8 @@ ghost use Rattle.params_file.specs.Faults.{Gives};
 ghost use Rattle.simm_params.specs.FxView.{rows_view};
 ghost use Rattle.simm_params.specs.Matrix.{entry};
 ghost use Rattle.simm_params.specs.Symmetry.{IsSymmetric, AreMirrored};
-ghost use Rattle.params_file.specs.Symmetry.{all_below, is_mirrored, is_symmetric, has_unit_diagonal, symmetric_at, correlations_at};
+ghost use Rattle.params_file.specs.Symmetry.{all_below, is_mirrored, is_symmetric};
+ghost use Rattle.params_file.specs.Symmetry.{has_unit_diagonal, symmetric_at, correlations_at};
 
 use crate::fault::ParamFault;
 use simm_params::mh_units::Rate4;
@@ -98,7 +99,8 @@ pub fn check_pair_thresholds(
     path: &[Part<'_>],
     thresholds: &PairThresholds,
 ) -> Result<(), ParamFault>
-    ensures value { Gives (λ u. u) result (symmetric_at (path_of path.now) (rows_view thresholds.now)) }
+    ensures value { Gives (λ u. u) result
+        (symmetric_at (path_of path.now) (rows_view thresholds.now)) }
     ensures symmetric { OnOk result (IsSymmetric (rows_view thresholds.now)) }
 {
     if is_symmetric_pair(thresholds) {

@@ -11,7 +11,8 @@ pub enum ParamTextFault {
         /// How many it has.
         bytes: u64,
     },
-    /// It has no more, and this is the first fault by the grammar of a parameter file, or want of memory.
+    /// It has no more, and this is the first fault by the grammar of a parameter file, or want
+    /// of memory.
     Param(ParamFault),
 }
 

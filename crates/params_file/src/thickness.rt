@@ -48,8 +48,10 @@ pub fn check_kind(
     weight: Rate4,
     thresholds: Thresholds,
 ) -> Result<(), ParamFault>
-    ensures value { Gives (λ u. u) result (thick_in (map word_of path.now) kind weight.0 (thresholds_view thresholds)) }
-    ensures thick { OnOk result (IsThick (weight_beside kind weight.0) (threshold_in kind (thresholds_view thresholds))) }
+    ensures value { Gives (λ u. u) result
+        (thick_in (map word_of path.now) kind weight.0 (thresholds_view thresholds)) }
+    ensures thick { OnOk result
+        (IsThick (weight_beside kind weight.0) (threshold_in kind (thresholds_view thresholds))) }
 {
     let path = key_path(alloc, path, kind.key())?;
     check_threshold(

@@ -19,7 +19,8 @@ pub fn read_thresholds(
     path: &[Part<'_>],
     table: &Table,
 ) -> Result<Thresholds, ValueFault>
-    ensures value { Gives thresholds_view result (thresholds_of (map word_of path.now) (table_view table.now)) }
+    ensures value { Gives thresholds_view result
+        (thresholds_of (map word_of path.now) (table_view table.now)) }
     ensures within { IfOk result (λ t. AreThresholds (thresholds_view t)) }
 {
     let delta_path = key_path(alloc, path, "threshold")?;

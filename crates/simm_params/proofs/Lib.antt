@@ -14,4 +14,5 @@ pub mod ClassLists
 pub mod Sigmas
 pub use Rattle.simm_rules.proofs.MhUnits as MhUnits
 pub use Rattle.simm_rules.proofs.SimmKinds as SimmKinds
+pub use Rattle.simm_rules.proofs as SimmRules
 pub use Rattle.toml_values.proofs as TomlValues

@@ -1,7 +1,10 @@
 -- What parameters of a class keep at each of its buckets.
 use Rattle.std.proofs.Common.{get_or}
 use Rattle.simm_rules.specs.Params.{BucketTerms, CreditBucket, PricedBucket, CreditParams, PricedParams, Params}
-use Rattle.simm_rules.specs.Risks.{CreditClass, Qualifying, Non_qualifying, PricedClass, Equities, Commodities}
+use Rattle.simm_rules.specs.declared.classes.CreditClass.{CreditClass}
+use Rattle.simm_rules.specs.declared.classes.CreditClass.TheVariants.{Qualifying, NonQualifying}
+use Rattle.simm_rules.specs.declared.classes.PricedClass.{PricedClass}
+use Rattle.simm_rules.specs.declared.classes.PricedClass.TheVariants.{Equities, Commodities}
 use Rattle.simm_rules.specs.Credit.{credit_params}
 use Rattle.simm_rules.specs.Priced.{priced_params}
 use Rattle.simm_params.specs.declared.thresholds.ThresholdKind.{ThresholdKind}
@@ -54,7 +57,7 @@ priced_weighed c is = record {
 
 pub credit_class_weighed : (p : Params) (class : CreditClass) → IsParams p → AreWeighedCredit (credit_params p class)
 credit_class_weighed p Qualifying is = credit_weighed p.credit_q is.credit_q
-credit_class_weighed p Non_qualifying is = credit_weighed p.credit_nq is.credit_nq
+credit_class_weighed p NonQualifying is = credit_weighed p.credit_nq is.credit_nq
 
 pub priced_class_weighed : (p : Params) (class : PricedClass) → IsParams p → AreWeighedPriced (priced_params p class)
 priced_class_weighed p Equities is = priced_weighed p.equity is.equity

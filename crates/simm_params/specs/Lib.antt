@@ -25,7 +25,6 @@ pub mod Facts
 pub mod Classes
 pub mod ClassRanges
 pub mod ClassView
-pub mod ClassKinds
 pub mod ListedBuckets
 pub mod RateLookups
 pub mod Grouped

@@ -25,8 +25,8 @@ pub struct BucketTerms {
     pub curvature: bool,
 }
 
-/// A bucket of any class, with the rate that only classes of its kind have: in credit the correlation of the factors of
-/// one name, in equity and commodities the volatility.
+/// A bucket of any class, with the rate that only classes of its kind have: in credit the
+/// correlation of the factors of one name, in equity and commodities the volatility.
 #[derive(Clone, Copy)]
 pub struct ClassBucket {
     /// What buckets of each class have.
@@ -35,8 +35,8 @@ pub struct ClassBucket {
     pub own: Rate4,
 }
 
-/// The place of a bucket among all that a class may have, counted from 0: the numbered ones by number, and then the
-/// residual one.
+/// The place of a bucket among all that a class may have, counted from 0: the numbered ones by
+/// number, and then the residual one.
 pub fn bucket_slot(id: Bucket) -> usize
     ensures value { result ≡ bucket_slot id }
     ensures bucket { IsBucket id }

@@ -1,6 +1,9 @@
-ghost use Rattle.std.specs.Prelude.{◌≡◌, true, ◌<◌, [], ◌∷◌, ◌++◌, length, map, replicate, option_map, is_some, Some, None, slice_set, slice_index_or, IfOk, OnOk, OnErr};
+ghost use Rattle.std.specs.Prelude.{◌≡◌, true, ◌<◌, [], ◌∷◌, ◌++◌};
+ghost use Rattle.std.specs.Prelude.{length, map, replicate, option_map, is_some, Some, None};
+ghost use Rattle.std.specs.Prelude.{slice_set, slice_index_or, IfOk, OnOk, OnErr};
 ghost use Rattle.simm_params.specs.BucketView.{bucket_view};
-ghost use Rattle.simm_params.specs.Buckets.{AreInOrder, is_behind, numbered_count, ids_of, place_of, bucket_of};
+ghost use Rattle.simm_params.specs.Buckets.{AreInOrder, is_behind, numbered_count};
+ghost use Rattle.simm_params.specs.Buckets.{ids_of, place_of, bucket_of};
 ghost use Rattle.simm_rules.specs.Admits.{lists};
 ghost use Rattle.simm_params.specs.ListedBuckets.{listed_place};
 
@@ -9,7 +12,8 @@ use simm_rules::simm_kinds::Bucket;
 use std::alloc::{AllocError, Global};
 use std::marker::Model;
 
-/// The buckets of a class in their order, which contracts see as just that list. A bucket is found by its id in one step.
+/// The buckets of a class in their order, which contracts see as just that list. A bucket is found
+/// by its id in one step.
 #[derive(Drop)]
 pub struct Buckets {
     buckets: Vec<ClassBucket>,

@@ -18,7 +18,8 @@ pub enum CurveCategory {
     High,
 }
 
-/// Which concentration threshold a currency has: that of the file's first list, of its second, or of all others.
+/// Which concentration threshold a currency has: that of the file's first list, of its second, or
+/// of all others.
 #[derive(Clone, Copy, PartialEq, Eq)]
 pub enum ConcentrationCategory {
     /// The file's first list has it.

@@ -90,7 +90,8 @@ impl CreditParams {
     /// The bucket at a place of the list, counted from 0.
     pub fn bucket_at(&self, place: usize) -> CreditBucket
         requires { place < length (credit_view self.now).buckets }
-        ensures { credit_bucket_view result ≡ slice_index_or (credit_view self.now).buckets place (credit_bucket_view result) }
+        ensures { credit_bucket_view result
+            ≡ slice_index_or (credit_view self.now).buckets place (credit_bucket_view result) }
     {
         credit_bucket(self.buckets.at(place))
     }
@@ -104,7 +105,8 @@ impl CreditParams {
 
     /// The bucket of an id, where it is listed.
     pub fn bucket(&self, id: Bucket) -> Option<CreditBucket>
-        ensures { option_map credit_bucket_view result ≡ credit_bucket_of (credit_view self.now).buckets id }
+        ensures { option_map credit_bucket_view result
+            ≡ credit_bucket_of (credit_view self.now).buckets id }
     {
         let bucket = self.buckets.get(id)?;
         Some(credit_bucket(bucket))
@@ -134,7 +136,8 @@ impl PricedParams {
     /// The bucket at a place of the list, counted from 0.
     pub fn bucket_at(&self, place: usize) -> PricedBucket
         requires { place < length (priced_view self.now).buckets }
-        ensures { priced_bucket_view result ≡ slice_index_or (priced_view self.now).buckets place (priced_bucket_view result) }
+        ensures { priced_bucket_view result
+            ≡ slice_index_or (priced_view self.now).buckets place (priced_bucket_view result) }
     {
         priced_bucket(self.buckets.at(place))
     }
@@ -148,7 +151,8 @@ impl PricedParams {
 
     /// The bucket of an id, where it is listed.
     pub fn bucket(&self, id: Bucket) -> Option<PricedBucket>
-        ensures { option_map priced_bucket_view result ≡ priced_bucket_of (priced_view self.now).buckets id }
+        ensures { option_map priced_bucket_view result
+            ≡ priced_bucket_of (priced_view self.now).buckets id }
     {
         let bucket = self.buckets.get(id)?;
         Some(priced_bucket(bucket))

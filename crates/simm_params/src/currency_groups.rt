@@ -19,8 +19,8 @@ pub struct CurrencyGroup {
     pub thresholds: Thresholds,
 }
 
-/// The concentration groups of currencies, in the order of the file, which contracts see as just that list. The thresholds
-/// of a currency are looked up in a tree.
+/// The concentration groups of currencies, in the order of the file, which contracts see as just
+/// that list. The thresholds of a currency are looked up in a tree.
 #[derive(Drop)]
 pub struct CurrencyGroups {
     groups: Vec<CurrencyGroup>,
@@ -74,7 +74,8 @@ fn keep_group(
     by_currency: &mut BTreeMap<Currency, Thresholds>,
     group: &CurrencyGroup,
 ) -> Result<(), AllocError>
-    ensures { OnOk result (IsKept (group_view group.now) by_currency.old.entries by_currency.new.entries) }
+    ensures { OnOk result
+        (IsKept (group_view group.now) by_currency.old.entries by_currency.new.entries) }
 {
     for currency in group.currencies.as_slice() {
         by_currency.insert(*currency, group.thresholds)?;

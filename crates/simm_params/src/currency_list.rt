@@ -6,8 +6,8 @@ use std::alloc::{AllocError, Global};
 use std::collections::BTreeSet;
 use std::marker::Model;
 
-/// Currencies in the order of the file, which contracts see as just that list. Whether a currency is among them is
-/// looked up in a tree.
+/// Currencies in the order of the file, which contracts see as just that list. Whether a currency
+/// is among them is looked up in a tree.
 #[derive(Drop)]
 pub struct CurrencyList {
     listed: Vec<Currency>,
@@ -60,8 +60,8 @@ impl CurrencyList {
         Ok(())
     }
 
-    /// Adds the currencies of another list at the end. The only error is want of memory; a front of them may have been
-    /// added then.
+    /// Adds the currencies of another list at the end. The only error is want of memory; a front
+    /// of them may have been added then.
     pub fn append(&mut self, other: &CurrencyList) -> Result<(), AllocError>
         ensures { OnOk result (self.new ≡ self.old ++ other.now) }
     {

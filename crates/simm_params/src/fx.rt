@@ -57,7 +57,8 @@ impl FxThresholds {
 
     /// The threshold of a concentration category.
     pub fn of(&self, category: ConcentrationCategory) -> i64
-        ensures { result ≡ slice_index_or (row (thresholds_view self.now)) (category_place category) (pos 0) }
+        ensures { result
+            ≡ slice_index_or (row (thresholds_view self.now)) (category_place category) (pos 0) }
     {
         match category {
             ConcentrationCategory::First => self.first,
@@ -67,8 +68,8 @@ impl FxThresholds {
     }
 }
 
-/// Concentration thresholds of a currency pair, by the concentration category of one of its currencies, and behind it of the
-/// other.
+/// Concentration thresholds of a currency pair, by the concentration category of one of its
+/// currencies, and behind it of the other.
 #[derive(Clone, Copy)]
 pub struct PairThresholds {
     /// Of the first category.
@@ -147,7 +148,8 @@ impl FxParams {
         self.volatilities.sigmas.of(a, b)
     }
 
-    /// The vega threshold, in cents, of a pair whose currencies are of these concentration categories.
+    /// The vega threshold, in cents, of a pair whose currencies are of these
+    /// concentration categories.
     pub fn vega_threshold(&self, a: ConcentrationCategory, b: ConcentrationCategory) -> i64
         ensures { result ≡ pair_threshold (fx_view self.now) a b }
     {

@@ -4,7 +4,6 @@
 mod bucket;
 mod buckets;
 mod category;
-mod class_kind;
 mod classes;
 mod currency_groups;
 mod currency_list;
@@ -19,7 +18,6 @@ mod thresholds;
 pub use bucket::{BucketTerms, ClassBucket, MOST_BUCKETS};
 pub use buckets::Buckets;
 pub use category::{ConcentrationCategory, CurveCategory, VolatilityCategory};
-pub use class_kind::{CreditKind, PricedKind};
 pub use classes::{BaseParams, CreditBucket, CreditParams, PricedBucket, PricedParams};
 pub use currency_groups::{CurrencyGroup, CurrencyGroups};
 pub use currency_list::CurrencyList;

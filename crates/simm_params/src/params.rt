@@ -5,10 +5,13 @@ mod rates;
 mod rows;
 
 ghost use Rattle.std.specs.Prelude.{◌≡◌, List, ℕ, IfOk, ◌≤◌, unsigned_abs};
-ghost use Rattle.simm_rules.specs.ForeignExchange.{is_own_currency, fx_sigma, fx_weight as weight_of, fx_threshold as threshold_of};
+ghost use Rattle.simm_rules.specs.ForeignExchange.{is_own_currency, fx_sigma};
+ghost use Rattle.simm_rules.specs.ForeignExchange.{fx_weight as weight_of};
+ghost use Rattle.simm_rules.specs.ForeignExchange.{fx_threshold as threshold_of};
 ghost use Rattle.simm_rules.specs.Simm.{psi};
 ghost use Rattle.simm_params.specs.Ranges.{weights, lambda_bases, sigmas, IsWithin};
-ghost use Rattle.simm_params.specs.Categories.{volatility, concentration, category_weight, category_rho, category_threshold};
+ghost use Rattle.simm_params.specs.Categories.{volatility, concentration, category_weight};
+ghost use Rattle.simm_params.specs.Categories.{category_rho, category_threshold};
 ghost use Rattle.simm_params.specs.FxLookups.{pair_sigma};
 ghost use Rattle.simm_params.specs.Facts.{IsParams, IsWeighed};
 ghost use Rattle.simm_params.specs.TablesView.{tables_view};
@@ -21,9 +24,9 @@ use std::alloc::{AllocError, Global};
 use std::marker::Model;
 use std::sync::Arc;
 
-/// The parameters of the margin rule. Rates are in ten-thousandths and thresholds in cents, each in its range; each matrix
-/// is symmetric, and no threshold is too thin beside a weight. They stand once for all that hold them. Contracts see the plain
-/// record of the rule.
+/// The parameters of the margin rule. Rates are in ten-thousandths and thresholds in cents, each
+/// in its range; each matrix is symmetric, and no threshold is too thin beside a weight. They
+/// stand once for all that hold them. Contracts see the plain record of the rule.
 #[derive(Drop)]
 pub struct Params {
     tables: Arc<Tables, Global>,
@@ -56,12 +59,14 @@ impl Params {
     /// What each parameter set keeps, and what follows at every currency. It does nothing.
     pub fn facts(&self)
         ensures params { IsParams self.now }
-        ensures weighed { (currency : List ℕ) → IsWeighed (weight_of self.now currency) (threshold_of self.now currency) }
+        ensures weighed { (currency : List ℕ)
+            → IsWeighed (weight_of self.now currency) (threshold_of self.now currency) }
     {
         let _tables = &self.tables;
     }
 
-    /// The same parameters for one more holder. It takes no memory. The only error comes at 2^63 holders.
+    /// The same parameters for one more holder. It takes no memory. The only error comes at
+    /// 2^63 holders.
     pub fn share(&self) -> Result<Params, AllocError>
         ensures { IfOk result (λ p. p ≡ self.now) }
     {
@@ -147,7 +152,8 @@ impl Params {
         }
     }
 
-    /// The correlation of two different currencies of these volatility categories, in ten-thousandths.
+    /// The correlation of two different currencies of these volatility categories, in
+    /// ten-thousandths.
     pub fn fx_rho(&self, a: VolatilityCategory, b: VolatilityCategory) -> Rate4
         ensures value { result.0 ≡ category_rho self.now a b }
         ensures size { unsigned_abs result.0 ≤ 10000 }
@@ -160,7 +166,8 @@ impl Params {
         }
     }
 
-    /// The volatility of a pair whose currencies are of these volatility categories, in ten-thousandths.
+    /// The volatility of a pair whose currencies are of these volatility categories,
+    /// in ten-thousandths.
     pub fn fx_sigma(&self, a: VolatilityCategory, b: VolatilityCategory) -> Rate4
         ensures value { result.0 ≡ pair_sigma self.now.fx a b }
         ensures range { IsWithin sigmas result.0 }
@@ -168,7 +175,8 @@ impl Params {
         self.tables.fx.sigma(a, b)
     }
 
-    /// The volatility of a pair by the volatility categories of both currencies, in ten-thousandths.
+    /// The volatility of a pair by the volatility categories of both currencies, in
+    /// ten-thousandths.
     pub fn pair_volatility(&self, pair: CurrencyPair) -> Rate4
         ensures value { result.0 ≡ fx_sigma self.now pair }
         ensures range { IsWithin sigmas result.0 }

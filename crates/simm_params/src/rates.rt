@@ -1,4 +1,5 @@
-ghost use Rattle.std.specs.Prelude.{◌≡◌, ◌<◌, [], ◌∷◌, ◌++◌, length, pos, slice_index_or, IfOk, OnOk, OnErr};
+ghost use Rattle.std.specs.Prelude.{◌≡◌, ◌<◌, [], ◌∷◌, ◌++◌};
+ghost use Rattle.std.specs.Prelude.{length, pos, slice_index_or, IfOk, OnOk, OnErr};
 ghost use Rattle.std.specs.Int.{int_min};
 ghost use Rattle.std.specs.List.{fold};
 ghost use Rattle.simm_rules.specs.Lookups.{at_place};

@@ -11,8 +11,8 @@ pub struct Thresholds {
     pub vega: i64,
 }
 
-/// Which of the two concentration thresholds, and so which weights it stands beside: those of the file for delta, and 1
-/// for vega, whose sensitivities are weighted already.
+/// Which of the two concentration thresholds, and so which weights it stands beside: those of the
+/// file for delta, and 1 for vega, whose sensitivities are weighted already.
 #[derive(Clone, Copy)]
 pub enum ThresholdKind {
     /// That of delta.

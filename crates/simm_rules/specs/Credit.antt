@@ -10,7 +10,9 @@ use Rattle.simm_rules.specs.Params.{Params, CreditParams, CreditBucket}
 use Rattle.simm_rules.specs.Lookups.{six}
 use Rattle.simm_rules.specs.Sums.{total_by}
 use Rattle.simm_rules.specs.Net.{Sensitivity}
-use Rattle.simm_rules.specs.Risks.{Risk, Of_rate, Of_rate_volatility, Of_credit, Of_credit_volatility, Of_base_correlation, Of_price, Of_price_volatility, Of_currency, Of_pair_volatility, CreditClass, Qualifying, Non_qualifying, CreditPoint, Amount, select}
+use Rattle.simm_rules.specs.Risks.{Risk, Of_rate, Of_rate_volatility, Of_credit, Of_credit_volatility, Of_base_correlation, Of_price, Of_price_volatility, Of_currency, Of_pair_volatility, CreditPoint, Amount, select}
+use Rattle.simm_rules.specs.declared.classes.CreditClass.{CreditClass}
+use Rattle.simm_rules.specs.declared.classes.CreditClass.TheVariants.{Qualifying, NonQualifying}
 use Rattle.simm_rules.specs.Concentration.{one, cr}
 use Rattle.simm_rules.specs.Bucket.{Weighted, weighted_value, concentrated, squared, bucket_value}
 use Rattle.simm_rules.specs.Across.{Part, margin_over}
@@ -20,9 +22,9 @@ use Rattle.simm_rules.specs.Curvature.{curvature_risk, curved, curvature_over}
 
 abbrev pub same_credit : CreditClass → CreditClass → Bool
 same_credit Qualifying Qualifying = true
-same_credit Qualifying Non_qualifying = false
-same_credit Non_qualifying Qualifying = false
-same_credit Non_qualifying Non_qualifying = true
+same_credit Qualifying NonQualifying = false
+same_credit NonQualifying Qualifying = false
+same_credit NonQualifying NonQualifying = true
 
 -- a point where it is of this class and bucket
 abbrev pub point_in : CreditClass → Bucket → CreditClass → Bucket → CreditPoint → Option CreditPoint
@@ -54,7 +56,7 @@ as_credit_volatility class at (Of_pair_volatility pair tenor) = None
 
 abbrev pub credit_params : Params → CreditClass → CreditParams
 credit_params p Qualifying = p.credit_q
-credit_params p Non_qualifying = p.credit_nq
+credit_params p NonQualifying = p.credit_nq
 
 abbrev pub listed_credit : CreditParams → List Bucket
 listed_credit c = map (λ b. (b.terms).id) c.buckets

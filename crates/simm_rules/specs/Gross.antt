@@ -7,7 +7,11 @@ use Rattle.simm_kinds.specs.declared.kinds.RiskClass.TheVariants as class
 use Rattle.simm_rules.specs.Params.{Params}
 use Rattle.simm_rules.specs.Sums.{total_by}
 use Rattle.simm_rules.specs.Net.{Sensitivity}
-use Rattle.simm_rules.specs.Risks.{CreditClass, Qualifying, Non_qualifying, PricedClass, Equities, Commodities, Amount, select}
+use Rattle.simm_rules.specs.Risks.{Amount, select}
+use Rattle.simm_rules.specs.declared.classes.CreditClass.{CreditClass}
+use Rattle.simm_rules.specs.declared.classes.CreditClass.TheVariants.{Qualifying, NonQualifying}
+use Rattle.simm_rules.specs.declared.classes.PricedClass.{PricedClass}
+use Rattle.simm_rules.specs.declared.classes.PricedClass.TheVariants.{Equities, Commodities}
 use Rattle.simm_rules.specs.Rates.{as_rate, as_rate_volatility, rate_weight}
 use Rattle.simm_rules.specs.Credit.{as_credit, as_credit_volatility, credit_params}
 use Rattle.simm_rules.specs.BaseCorrelation.{as_index}
@@ -39,7 +43,7 @@ price_volatility_size p class ss =
 abbrev pub delta_size : Params → List Sensitivity → RiskClass → ℤ
 delta_size p ss class.IR = size_by (rate_weight p) (select as_rate ss)
 delta_size p ss class.CreditQ = credit_size p Qualifying ss +ℤ size_by (λ index. p.base_weight) (select as_index ss)
-delta_size p ss class.CreditNonQ = credit_size p Non_qualifying ss
+delta_size p ss class.CreditNonQ = credit_size p NonQualifying ss
 delta_size p ss class.Equity = price_size p Equities ss
 delta_size p ss class.Commodity = price_size p Commodities ss
 delta_size p ss class.FX = size_by (fx_weight p) (select as_currency ss)
@@ -48,7 +52,7 @@ delta_size p ss class.FX = size_by (fx_weight p) (select as_currency ss)
 abbrev pub vega_size : Params → List Sensitivity → RiskClass → ℤ
 vega_size p ss class.IR = size_by (λ v. pos 10000) (select as_rate_volatility ss)
 vega_size p ss class.CreditQ = credit_volatility_size p Qualifying ss
-vega_size p ss class.CreditNonQ = credit_volatility_size p Non_qualifying ss
+vega_size p ss class.CreditNonQ = credit_volatility_size p NonQualifying ss
 vega_size p ss class.Equity = price_volatility_size p Equities ss
 vega_size p ss class.Commodity = price_volatility_size p Commodities ss
 vega_size p ss class.FX = size_by (λ v. fx_sigma p v.pair) (select as_pair_volatility ss)

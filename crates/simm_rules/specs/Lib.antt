@@ -13,6 +13,8 @@ pub mod Priced
 pub mod ForeignExchange
 pub mod BaseCorrelation
 pub mod AddOns
+pub mod RiskClasses
+pub mod Tables
 pub mod Parts
 pub mod Simm
 pub mod Gross

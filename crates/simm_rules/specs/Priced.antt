@@ -12,7 +12,9 @@ use Rattle.simm_rules.specs.Params.{Params, PricedParams, PricedBucket}
 use Rattle.simm_rules.specs.Lookups.{six}
 use Rattle.simm_rules.specs.Sums.{total_by, different}
 use Rattle.simm_rules.specs.Net.{Sensitivity}
-use Rattle.simm_rules.specs.Risks.{Risk, Of_rate, Of_rate_volatility, Of_credit, Of_credit_volatility, Of_base_correlation, Of_price, Of_price_volatility, Of_currency, Of_pair_volatility, PricedClass, Equities, Commodities, Amount, select}
+use Rattle.simm_rules.specs.Risks.{Risk, Of_rate, Of_rate_volatility, Of_credit, Of_credit_volatility, Of_base_correlation, Of_price, Of_price_volatility, Of_currency, Of_pair_volatility, Amount, select}
+use Rattle.simm_rules.specs.declared.classes.PricedClass.{PricedClass}
+use Rattle.simm_rules.specs.declared.classes.PricedClass.TheVariants.{Equities, Commodities}
 use Rattle.simm_rules.specs.Concentration.{one, cr}
 use Rattle.simm_rules.specs.Bucket.{Weighted, weighted_value, concentrated, squared, bucket_value}
 use Rattle.simm_rules.specs.Across.{Part, margin_over}

@@ -10,6 +10,10 @@ use Rattle.simm_kinds.specs.declared.credit_tenor.CreditTenor.{CreditTenor}
 use Rattle.simm_kinds.specs.declared.factor.Factor.{Factor}
 use Rattle.simm_kinds.specs.declared.factor.Factor.TheVariants as factor
 use Rattle.simm_kinds.specs.Pair.{Pair}
+use Rattle.simm_rules.specs.declared.classes.CreditClass.{CreditClass}
+use Rattle.simm_rules.specs.declared.classes.CreditClass.TheVariants.{Qualifying, NonQualifying}
+use Rattle.simm_rules.specs.declared.classes.PricedClass.{PricedClass}
+use Rattle.simm_rules.specs.declared.classes.PricedClass.TheVariants.{Equities, Commodities}
 use Rattle.simm_rules.specs.Net.{Sensitivity}
 
 -- a rate of a currency: a point of a curve, inflation, or the basis to other currencies
@@ -28,15 +32,6 @@ pub record CreditPoint : Type 0 where
   pub issuer : List ℕ
   pub tenor : CreditTenor
   pub label : List ℕ
-
--- the two classes of credit, and the two classes of names that have a price
-pub data CreditClass : Type 0 where
-  Qualifying : CreditClass
-  Non_qualifying : CreditClass
-
-pub data PricedClass : Type 0 where
-  Equities : PricedClass
-  Commodities : PricedClass
 
 pub data Risk : Type 0 where
   Of_rate : (currency : List ℕ) → Rate → Risk
@@ -60,8 +55,8 @@ risk (factor.IrVol currency tenor) = Of_rate_volatility currency (Of_rates tenor
 risk (factor.InflationVol currency tenor) = Of_rate_volatility currency (Of_inflation tenor)
 risk (factor.CreditQ issuer b tenor label) = Of_credit Qualifying b (credit_point issuer tenor label)
 risk (factor.CreditVol issuer b tenor label) = Of_credit_volatility Qualifying b (credit_point issuer tenor label)
-risk (factor.CreditNonQ issuer b tenor label) = Of_credit Non_qualifying b (credit_point issuer tenor label)
-risk (factor.CreditVolNonQ issuer b tenor label) = Of_credit_volatility Non_qualifying b (credit_point issuer tenor label)
+risk (factor.CreditNonQ issuer b tenor label) = Of_credit NonQualifying b (credit_point issuer tenor label)
+risk (factor.CreditVolNonQ issuer b tenor label) = Of_credit_volatility NonQualifying b (credit_point issuer tenor label)
 risk (factor.BaseCorr index) = Of_base_correlation index
 risk (factor.Equity issuer b) = Of_price Equities b issuer
 risk (factor.EquityVol issuer b tenor) = Of_price_volatility Equities b issuer tenor

@@ -11,11 +11,13 @@ use Rattle.simm_kinds.specs.Order.{class_place, same_class}
 use Rattle.simm_rules.specs.declared.values.ProductMargin.{ProductMargin}
 use Rattle.simm_rules.specs.declared.values.Breakdown.{Breakdown}
 use Rattle.simm_rules.specs.Parts.{cents}
+use Rattle.simm_rules.specs.Tables.{class_table, product_table}
 use Rattle.simm_rules.specs.Params.{Params}
 use Rattle.simm_rules.specs.Lookups.{at_row}
 use Rattle.simm_rules.specs.Sums.{total_by, total_by_pairs}
 use Rattle.simm_rules.specs.Net.{Sensitivity, sensitivities, in_product, netted}
-use Rattle.simm_rules.specs.Risks.{Qualifying, Non_qualifying, Equities, Commodities}
+use Rattle.simm_rules.specs.declared.classes.CreditClass.TheVariants.{Qualifying, NonQualifying}
+use Rattle.simm_rules.specs.declared.classes.PricedClass.TheVariants.{Equities, Commodities}
 use Rattle.simm_rules.specs.Rates.{rate_margin}
 use Rattle.simm_rules.specs.Credit.{credit_margin}
 use Rattle.simm_rules.specs.BaseCorrelation.{base_margin}
@@ -34,7 +36,7 @@ classes = class.IR ∷ class.CreditQ ∷ class.CreditNonQ ∷ class.Equity ∷ c
 abbrev pub class_margin_of : Params → List Sensitivity → RiskClass → ℤ
 class_margin_of p ss class.IR = rate_margin p ss
 class_margin_of p ss class.CreditQ = credit_margin p Qualifying ss +ℤ base_margin p ss
-class_margin_of p ss class.CreditNonQ = credit_margin p Non_qualifying ss
+class_margin_of p ss class.CreditNonQ = credit_margin p NonQualifying ss
 class_margin_of p ss class.Equity = price_margin p Equities ss
 class_margin_of p ss class.Commodity = price_margin p Commodities ss
 class_margin_of p ss class.FX = fx_margin p ss
@@ -60,23 +62,13 @@ multiplier_add_on p rows = total_by (λ product. multiplied rows product (produc
 abbrev pub part_of : Params → List CrifRow → ProductClass → ProductMargin
 part_of p rows product = record {
   margin = cents (product_margin p rows product);
-  classes = record {
-    ir = cents (class_margin p rows product class.IR);
-    credit_q = cents (class_margin p rows product class.CreditQ);
-    credit_nonq = cents (class_margin p rows product class.CreditNonQ);
-    equity = cents (class_margin p rows product class.Equity);
-    commodity = cents (class_margin p rows product class.Commodity);
-    fx = cents (class_margin p rows product class.FX);
-  };
+  classes = class_table (λ class. cents (class_margin p rows product class));
 }
 
 -- the margin of the rows of a book
 unfoldable pub simm : Params → List CrifRow → Breakdown
 simm p rows = record {
-  rates_fx = part_of p rows product.RatesFX;
-  credit = part_of p rows product.Credit;
-  equity = part_of p rows product.Equity;
-  commodity = part_of p rows product.Commodity;
+  products = product_table (part_of p rows);
   fixed = cents (fixed_amounts rows);
   notional = cents (notional_add_on rows);
   multiplier = cents (multiplier_add_on p rows);

@@ -2,10 +2,12 @@ ghost use Rattle.std.specs.Prelude.{◌≡◌};
 ghost use Rattle.simm_rules.specs.Parts.{product_part, class_part};
 ghost use Rattle.simm_rules.specs.RangeNumber.{range_number};
 
+use crate::tables::{ByClass, ByProduct};
 use simm_kinds::mh_units::{Cents, Corr6};
 use simm_kinds::{ProductClass, RiskClass};
 
-/// What one bucket gives to the margin of its class. Amounts are in cents, `q` in cents squared times 10^6.
+/// What one bucket gives to the margin of its class. Amounts are in cents, `q` in cents squared
+/// times 10^6.
 #[derive(Clone, Copy, Debug, PartialEq, Eq)]
 pub struct BucketMargin {
     /// The sum over all ordered pairs of factors of correlation and both weighted sensitivities.
@@ -22,30 +24,13 @@ pub struct BucketMargin {
     pub cr: Corr6,
 }
 
-/// The margins of the risk classes in one product class.
-#[derive(Clone, Copy)]
-pub struct ClassMargins {
-    /// Of interest rates.
-    pub ir: Cents,
-    /// Of credit that qualifies.
-    pub credit_q: Cents,
-    /// Of credit that does not qualify.
-    pub credit_nonq: Cents,
-    /// Of equity.
-    pub equity: Cents,
-    /// Of commodities.
-    pub commodity: Cents,
-    /// Of foreign exchange.
-    pub fx: Cents,
-}
-
 /// The margin of a product class, and of each risk class in it.
 #[derive(Clone, Copy)]
 pub struct ProductMargin {
     /// The product class's margin.
     pub margin: Cents,
     /// The margins of the risk classes in it.
-    pub classes: ClassMargins,
+    pub classes: ByClass<Cents>,
 }
 
 impl ProductMargin {
@@ -53,28 +38,15 @@ impl ProductMargin {
     pub fn class(&self, class: RiskClass) -> Cents
         ensures { result ≡ class_part self.now class }
     {
-        match class {
-            RiskClass::IR => self.classes.ir,
-            RiskClass::CreditQ => self.classes.credit_q,
-            RiskClass::CreditNonQ => self.classes.credit_nonq,
-            RiskClass::Equity => self.classes.equity,
-            RiskClass::Commodity => self.classes.commodity,
-            RiskClass::FX => self.classes.fx,
-        }
+        *self.classes.of(class)
     }
 }
 
 /// A margin with all of its parts.
 #[derive(Clone, Copy)]
 pub struct Breakdown {
-    /// The part of rates and foreign exchange.
-    pub rates_fx: ProductMargin,
-    /// The part of credit.
-    pub credit: ProductMargin,
-    /// The part of equity.
-    pub equity: ProductMargin,
-    /// The part of commodities.
-    pub commodity: ProductMargin,
+    /// The part of each product class.
+    pub products: ByProduct<ProductMargin>,
     /// The add-on of fixed amounts.
     pub fixed: Cents,
     /// The add-on of notional factors.
@@ -90,12 +62,7 @@ impl Breakdown {
     pub fn product(&self, product: ProductClass) -> &ProductMargin
         ensures { result.now ≡ product_part self.now product }
     {
-        match product {
-            ProductClass::RatesFX => &self.rates_fx,
-            ProductClass::Credit => &self.credit,
-            ProductClass::Equity => &self.equity,
-            ProductClass::Commodity => &self.commodity,
-        }
+        self.products.of(product)
     }
 }
 

@@ -18,7 +18,8 @@ impl Params {
         let _tables = &self.tables;
     }
 
-    /// The vega threshold of a pair whose currencies, in their order, are of these concentration categories, in cents.
+    /// The vega threshold of a pair whose currencies, in their order, are of these concentration
+    /// categories, in cents.
     pub fn fx_vega_threshold(
         &self,
         first: ConcentrationCategory,

@@ -41,7 +41,8 @@ impl Params {
         }
     }
 
-    /// The risk weight of a curve at a tenor, in ten-thousandths, where the currency's curves are of this category.
+    /// The risk weight of a curve at a tenor, in ten-thousandths, where the currency's curves are
+    /// of this category.
     pub fn curve_weight(&self, category: CurveCategory, tenor: Tenor) -> Rate4
         ensures value { result.0 ≡ at_place (category_curve self.now category) (tenor_place tenor) }
         ensures range { IsWithin weights result.0 }
@@ -71,7 +72,8 @@ impl Params {
         self.tables.ir.weights.basis
     }
 
-    /// The concentration thresholds of the group that lists a currency, or else of all others, in cents.
+    /// The concentration thresholds of the group that lists a currency, or else of all others,
+    /// in cents.
     pub fn rate_thresholds(&self, currency: &Currency) -> Thresholds
         ensures { thresholds_view result ≡ rate_thresholds self.now currency.now }
     {

@@ -6,7 +6,8 @@ use super::Params;
 use simm_rules::simm_kinds::{Bucket, CrifRow, Factor};
 
 impl Params {
-    /// Whether the file lists the bucket of a factor; one without a numbered or residual bucket is admitted.
+    /// Whether the file lists the bucket of a factor; one without a numbered or residual bucket
+    /// is admitted.
     pub fn admits_factor(&self, factor: &Factor) -> bool
         ensures { result ≡ admits_factor self.now factor.now }
     {
@@ -35,7 +36,8 @@ impl Params {
         }
     }
 
-    /// Whether the parameters admit a row: the file lists its bucket, where it has one that files list.
+    /// Whether the parameters admit a row: the file lists its bucket, where it has one that
+    /// files list.
     pub fn admits(&self, row: &CrifRow) -> bool
         ensures { result ≡ admits self.now row.now }
     {

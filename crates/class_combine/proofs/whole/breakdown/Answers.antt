@@ -10,10 +10,7 @@ use Rattle.class_combine.proofs.whole.breakdown.Goals as goal
 -- the breakdown as it is written out
 abbrev written_out : AddOns → ProductMargin → ProductMargin → ProductMargin → ProductMargin → ℤ → Breakdown
 written_out o a b c d t = record {
-  rates_fx = a;
-  credit = b;
-  equity = c;
-  commodity = d;
+  products = record { rates_fx = a; credit = b; equity = c; commodity = d };
   fixed = o.fixed;
   notional = o.notional;
   multiplier = o.multiplier;
