@@ -15,6 +15,7 @@ use Rattle.simm_params.specs.SimmRules.Gross.{delta_size, vega_size}
 use Rattle.simm_params.specs.SimmRules.Range.{on_side, range}
 use Rattle.factor_book.specs.declared.place.Place.{Place}
 use Rattle.factor_book.specs.Factors.{factor_of, factors_in}
+use Rattle.factor_book.specs.Place.{stand_bucket, stand_class, stand_side}
 use Rattle.factor_book.specs.Places.{stands_at, factors_at}
 use Rattle.factor_book.proofs.Netting.{parts}
 use Rattle.book_range.specs.Bounded.{IsBounded}
@@ -26,7 +27,7 @@ length-factors ss = length-map (keys_of ss) (factor_of ss)
 
 -- at a place stand the factors of the sensitivities there
 pub factors_there : (place : Place) (ss : List Sensitivity)
-    → length (factors_at place (factors_in ss)) ≡ length (keys_of (filter (λ s. same_bucket_id (bucket_of s.key.factor) place.bucket) (on_side place.class (sided place.side) (in_product place.product ss))))
+    → length (factors_at place (factors_in ss)) ≡ length (keys_of (filter (λ s. same_bucket_id (bucket_of s.key.factor) (stand_bucket place.stand)) (on_side (stand_class place.stand) (sided (stand_side place.stand)) (in_product place.product ss))))
 factors_there place ss =
     ap length (parts ss (stands_at place)) ∙ length-factors (filter (λ s. stands_at place s.key) ss) ∙ ap (λ xs. length (keys_of xs)) (there_are place ss)
 
@@ -44,7 +45,7 @@ bounded_in p rows its =
       rows = omega (arith, ints, its.rows);
       keys = omega (arith, ints, its.keys, length-factors S);
       each = λ place.
-          omega (arith, ints, factors_there place S, few_keys (on_side place.class (sided place.side) (in_product place.product S)) place.bucket (its.buckets place.product place.class (sided place.side)));
+          omega (arith, ints, factors_there place S, few_keys (on_side (stand_class place.stand) (sided (stand_side place.stand)) (in_product place.product S)) (stand_bucket place.stand) (its.buckets place.product (stand_class place.stand) (sided (stand_side place.stand))));
       delta = λ at c. small (delta_size p (in_product at S) c) (its.delta at c);
       vega = λ at c. small (vega_size p (in_product at S) c) (its.vega at c);
     }

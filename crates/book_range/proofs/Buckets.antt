@@ -22,8 +22,9 @@ use Rattle.simm_params.specs.SimmRules.Range.{Sided, Delta_side, Volatility_side
 use Rattle.factor_book.specs.declared.place.BookSide.{BookSide}
 use Rattle.factor_book.specs.declared.place.BookSide.TheVariants as side
 use Rattle.factor_book.specs.declared.place.Place.{Place}
-use Rattle.factor_book.specs.Place.{book_side}
-use Rattle.factor_book.specs.Places.{same_side, stands_at}
+use Rattle.factor_book.specs.Address.{book_side, same_side}
+use Rattle.factor_book.specs.Place.{stand_bucket, stand_class, stand_side}
+use Rattle.factor_book.specs.Places.{stands_at}
 use Rattle.factor_book.proofs.Grouping.{any_is, any-filter}
 use Rattle.factor_book.proofs.Sorting.{any_different}
 use Rattle.book_range.proofs.Lists.{each_unmap, each_weaker, filter_agrees, filter_twice}
@@ -103,11 +104,11 @@ side_are at c b ss =
 
 -- those at a place
 pub there_are : (place : Place) (ss : List Sensitivity)
-    → filter (λ s. stands_at place s.key) ss ≡ filter (λ s. same_bucket_id (bucket_of s.key.factor) place.bucket) (on_side place.class (sided place.side) (in_product place.product ss))
+    → filter (λ s. stands_at place s.key) ss ≡ filter (λ s. same_bucket_id (bucket_of s.key.factor) (stand_bucket place.stand)) (on_side (stand_class place.stand) (sided (stand_side place.stand)) (in_product place.product ss))
 there_are place ss =
-    sym (ap (filter (λ s. same_bucket_id (bucket_of s.key.factor) place.bucket)) (sym (side_are place.product place.class place.side ss))
-    ∙ filter_twice (λ s. same_bucket_id (bucket_of s.key.factor) place.bucket) (λ s. same_product s.key.product place.product && (same_class (class_of s.key.factor) place.class && same_side (book_side (side_of s.key.factor)) place.side)) ss
-    ∙ filter_agrees _ (λ s. stands_at place s.key) (λ s. and_again (same_product s.key.product place.product) (same_class (class_of s.key.factor) place.class && same_side (book_side (side_of s.key.factor)) place.side) (same_bucket_id (bucket_of s.key.factor) place.bucket)) ss)
+    sym (ap (filter (λ s. same_bucket_id (bucket_of s.key.factor) (stand_bucket place.stand))) (sym (side_are place.product (stand_class place.stand) (stand_side place.stand) ss))
+    ∙ filter_twice (λ s. same_bucket_id (bucket_of s.key.factor) (stand_bucket place.stand)) (λ s. same_product s.key.product place.product && (same_class (class_of s.key.factor) (stand_class place.stand) && same_side (book_side (side_of s.key.factor)) (stand_side place.stand))) ss
+    ∙ filter_agrees _ (λ s. stands_at place s.key) (λ s. and_again (same_product s.key.product place.product) (same_class (class_of s.key.factor) (stand_class place.stand) && same_side (book_side (side_of s.key.factor)) (stand_side place.stand)) (same_bucket_id (bucket_of s.key.factor) (stand_bucket place.stand))) ss)
   where
     and_again : (a b c : Bool) → ((a && b) && c) ≡ (a && b && c)
     and_again true b c = refl

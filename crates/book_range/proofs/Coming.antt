@@ -5,7 +5,6 @@ use Rattle.std.specs.declared.cmp.Ordering.{Ordering}
 use Rattle.std.specs.declared.cmp.Ordering.TheVariants.{Less, Equal, Greater}
 use Rattle.std.specs.Ordering.{ordering_reverse, is_eq, is_lt}
 use Rattle.std.specs.List.{find, list_any}
-use Rattle.std.specs.Map.{keys_of}
 use Rattle.std.specs.BTreeMap.{is_at}
 use Rattle.std.proofs.lemmas.Bool.{false≢true}
 use Rattle.std.proofs.lemmas.Int.{ints}
@@ -22,11 +21,11 @@ use Rattle.simm_params.specs.SimmRules.Net.{Sensitivity, sensitivities}
 use Rattle.factor_book.specs.declared.holding.Holding.{Holding}
 use Rattle.factor_book.specs.declared.place.Place.{Place}
 use Rattle.factor_book.specs.Place.{place_of, place_cmp}
-use Rattle.factor_book.specs.Places.{stands_at, factors_at, places_of, by_place}
+use Rattle.factor_book.specs.Places.{stands_at, factors_at, lent_at, places_of, by_place, Lent}
 use Rattle.factor_book.proofs.Grouping.{any_is}
-use Rattle.factor_book.proofs.Sorting.{different_ascends, keys-graph, some_not_none}
+use Rattle.factor_book.proofs.Sorting.{different_ascends, some_not_none}
 use Rattle.factor_book.proofs.Standing.{place_total, exact_places, one_place, own_place, at_place}
-use Rattle.factor_book.proofs.Filed.{any_at}
+use Rattle.factor_book.proofs.Buckets.{any_there}
 use Rattle.factor_book.proofs.Rows.{sensitivities-append}
 use Rattle.book_range.specs.After.{AreFewElsewhere}
 use Rattle.book_range.specs.Faults.{keys_fault}
@@ -128,7 +127,7 @@ module _ (fs : List (FactorKey × Holding)) where
 
     pub left_first : (o : Option Place) → find (λ q. is_some (fault_at fs q)) (places_of leaving) ≡ o → IsFirst fs (IsLeft leaving) o
     left_first o e =
-        weaken (λ q. list_any (is_at (place_cmp q)) (places_of leaving) ≡ true) (IsLeft leaving) (λ q some. sym (any_at q leaving) ∙ some_any (factors_at q leaving) some) o
+        weaken (λ q. list_any (is_at (place_cmp q)) (places_of leaving) ≡ true) (IsLeft leaving) (λ q some. sym (any_there q leaving) ∙ some_any (factors_at q leaving) some) o
         (subst (IsFirst fs (λ q. list_any (is_at (place_cmp q)) (places_of leaving) ≡ true)) e
         (find_first fs (places_of leaving) (different_ascends place_cmp place_total (map (λ f. place_of f.0) leaving))))
 
@@ -165,15 +164,22 @@ module _ (fs : List (FactorKey × Holding)) where
 
 -- ---- the loop over places
 
-pub found_next : (test : Place → Bool) (es rest : List (Place × List (FactorKey × Holding))) (e : Place × List (FactorKey × Holding)) (t : Bool) → es ≡ e ∷ rest → test e.0 ≡ t
-    → find test (keys_of es) ≡ cond t (Some e.0) (find test (keys_of rest))
-found_next test es rest e t is h = ap (λ xs. find test (keys_of xs)) is ∙ ap (λ b. cond b (Some e.0) (find test (keys_of rest))) h
+abbrev pub places_in : List Lent → List Place
+places_in es = map (λ lent. lent.place) es
 
-pub found_first : (test : Place → Bool) (fs : List (FactorKey × Holding)) (es : List (Place × List (FactorKey × Holding))) → es ≡ by_place fs → find test (keys_of es) ≡ find test (places_of fs)
-found_first test fs es e = ap (λ xs. find test (keys_of xs)) e ∙ ap (find test) (keys-graph (λ p. factors_at p fs) (places_of fs))
+pub found_next : (test : Place → Bool) (es rest : List Lent) (e : Lent) (t : Bool) → es ≡ e ∷ rest → test e.place ≡ t
+    → find test (places_in es) ≡ cond t (Some e.place) (find test (places_in rest))
+found_next test es rest e t is h = ap (λ xs. find test (places_in xs)) is ∙ ap (λ b. cond b (Some e.place) (find test (places_in rest))) h
 
-pub found_none : (test : Place → Bool) (es : List (Place × List (FactorKey × Holding))) → es ≡ [] → find test (keys_of es) ≡ None
-found_none test es e = ap (λ xs. find test (keys_of xs)) e
+pub found_first : (test : Place → Bool) (fs : List (FactorKey × Holding)) (es : List Lent) → es ≡ by_place fs → find test (places_in es) ≡ find test (places_of fs)
+found_first test fs es e = ap (λ xs. find test (places_in xs)) e ∙ ap (find test) (own (places_of fs))
+  where
+    own : (ps : List Place) → places_in (map (lent_at fs) ps) ≡ ps
+    own [] = refl
+    own (p ∷ ps) = ap (λ qs. p ∷ qs) (own ps)
+
+pub found_none : (test : Place → Bool) (es : List Lent) → es ≡ [] → find test (places_in es) ≡ None
+found_none test es e = ap (λ xs. find test (places_in xs)) e
 
 -- ---- the earlier of two places
 

@@ -25,20 +25,15 @@ use Rattle.simm_params.proofs.SimmKinds.Orders.{one_product, one_class}
 use Rattle.simm_params.specs.SimmRules.declared.values.RangeFault.{RangeFault}
 use Rattle.simm_params.specs.SimmRules.Sums.{first_some}
 use Rattle.simm_params.specs.SimmRules.Simm.{products, classes}
-use Rattle.factor_book.specs.declared.at.SideAt.{SideAt}
 use Rattle.factor_book.specs.declared.holding.Holding.{Holding}
 use Rattle.factor_book.specs.declared.place.BookSide.{BookSide}
 use Rattle.factor_book.specs.declared.place.BookSide.TheVariants as side
 use Rattle.factor_book.specs.declared.place.Place.{Place}
-use Rattle.factor_book.specs.Place.{place_of, book_side_place, place_cmp}
-use Rattle.factor_book.specs.Places.{same_side, factors_at, places_of, by_bucket}
-use Rattle.factor_book.specs.Filing.{is_of}
-use Rattle.factor_book.proofs.Sorting.{different_ascends}
+use Rattle.factor_book.specs.Address.{book_side_place, same_side}
+use Rattle.factor_book.specs.Place.{place_cmp, stand_bucket, stand_class, stand_side}
+use Rattle.factor_book.specs.Places.{factors_at, is_on, lent_at, places_of, by_side}
+use Rattle.factor_book.proofs.Buckets.{any_there, lent-filter, places_ascend}
 use Rattle.factor_book.proofs.Standing.{place_total, exact_places, one_place}
-use Rattle.factor_book.proofs.Filed.{any_at}
-use Rattle.factor_book.proofs.Sides.{side_is}
-use Rattle.book_range.specs.Gross.{side_at}
-use Rattle.book_range.specs.Sizes.{side_of_place}
 use Rattle.book_range.specs.Faults.{either_first, bucket_fault, place_fault, keys_fault}
 use Rattle.book_range.specs.Firsts.{fault_at, fault_of, IsFirst}
 use Rattle.book_range.proofs.Lists.{each_weaker, each_always, each_map, all_none}
@@ -94,41 +89,41 @@ tied m n e = sym (nat_cmp_is m n Equal e)
 
 module _ (p q : Place) where
   abbrev of_sides : Ordering
-  of_sides = ordering_then (nat_cmp (book_side_place p.side) (book_side_place q.side)) (bucket_id_cmp p.bucket q.bucket)
+  of_sides = ordering_then (nat_cmp (book_side_place (stand_side p.stand)) (book_side_place (stand_side q.stand))) (bucket_id_cmp (stand_bucket p.stand) (stand_bucket q.stand))
 
   abbrev of_classes : Ordering
-  of_classes = ordering_then (nat_cmp (class_place p.class) (class_place q.class)) of_sides
+  of_classes = ordering_then (nat_cmp (class_place (stand_class p.stand)) (class_place (stand_class q.stand))) of_sides
 
   less_product : nat_cmp (product_place p.product) (product_place q.product) ≡ Less → place_cmp p q ≡ Less
   less_product h = then_less (nat_cmp (product_place p.product) (product_place q.product)) of_classes h
 
-  less_class : product_place p.product ≡ product_place q.product → nat_cmp (class_place p.class) (class_place q.class) ≡ Less → place_cmp p q ≡ Less
+  less_class : product_place p.product ≡ product_place q.product → nat_cmp (class_place (stand_class p.stand)) (class_place (stand_class q.stand)) ≡ Less → place_cmp p q ≡ Less
   less_class e h =
       then_tied (nat_cmp (product_place p.product) (product_place q.product)) of_classes (tied (product_place p.product) (product_place q.product) e)
-      ∙ then_less (nat_cmp (class_place p.class) (class_place q.class)) of_sides h
+      ∙ then_less (nat_cmp (class_place (stand_class p.stand)) (class_place (stand_class q.stand))) of_sides h
 
-  less_side : product_place p.product ≡ product_place q.product → class_place p.class ≡ class_place q.class → nat_cmp (book_side_place p.side) (book_side_place q.side) ≡ Less → place_cmp p q ≡ Less
+  less_side : product_place p.product ≡ product_place q.product → class_place (stand_class p.stand) ≡ class_place (stand_class q.stand) → nat_cmp (book_side_place (stand_side p.stand)) (book_side_place (stand_side q.stand)) ≡ Less → place_cmp p q ≡ Less
   less_side e f h =
       then_tied (nat_cmp (product_place p.product) (product_place q.product)) of_classes (tied (product_place p.product) (product_place q.product) e)
-      ∙ then_tied (nat_cmp (class_place p.class) (class_place q.class)) of_sides (tied (class_place p.class) (class_place q.class) f)
-      ∙ then_less (nat_cmp (book_side_place p.side) (book_side_place q.side)) (bucket_id_cmp p.bucket q.bucket) h
+      ∙ then_tied (nat_cmp (class_place (stand_class p.stand)) (class_place (stand_class q.stand))) of_sides (tied (class_place (stand_class p.stand)) (class_place (stand_class q.stand)) f)
+      ∙ then_less (nat_cmp (book_side_place (stand_side p.stand)) (book_side_place (stand_side q.stand))) (bucket_id_cmp (stand_bucket p.stand) (stand_bucket q.stand)) h
 
 -- the parts of a place of a side
-record Parts (at : SideAt) (p : Place) : Type 0 where
-  pub product : product_place p.product ≡ product_place at.product
-  pub class : class_place p.class ≡ class_place at.class
-  pub side : same_side p.side at.side ≡ true
+record Parts (c : ProductClass) (k : RiskClass) (b : BookSide) (p : Place) : Type 0 where
+  pub product : product_place p.product ≡ product_place c
+  pub class : class_place (stand_class p.stand) ≡ class_place k
+  pub side : same_side (stand_side p.stand) b ≡ true
 
-parts_of : (at : SideAt) (p : Place) → is_of at p ≡ true → Parts at p
-parts_of at p h =
-    let both = and_parts (same_product p.product at.product) (same_class p.class at.class && same_side p.side at.side) h in
-    let rest = and_parts (same_class p.class at.class) (same_side p.side at.side) both.1 in
-    record { product = eqb-true (product_place p.product) (product_place at.product) both.0; class = eqb-true (class_place p.class) (class_place at.class) rest.0; side = rest.1 }
+parts_of : (c : ProductClass) (k : RiskClass) (b : BookSide) (p : Place) → is_on c k b p ≡ true → Parts c k b p
+parts_of c k b p h =
+    let both = and_parts (same_product p.product c) (same_class (stand_class p.stand) k && same_side (stand_side p.stand) b) h in
+    let rest = and_parts (same_class (stand_class p.stand) k) (same_side (stand_side p.stand) b) both.1 in
+    record { product = eqb-true (product_place p.product) (product_place c) both.0; class = eqb-true (class_place (stand_class p.stand)) (class_place k) rest.0; side = rest.1 }
 
-own_side : (p : Place) → is_of (side_of_place p) p ≡ true
+own_side : (p : Place) → is_on p.product (stand_class p.stand) (stand_side p.stand) p ≡ true
 own_side p =
-    and_from (same_product p.product p.product) (same_class p.class p.class && same_side p.side p.side) (eq-eqb (product_place p.product) (product_place p.product) refl)
-    (and_from (same_class p.class p.class) (same_side p.side p.side) (eq-eqb (class_place p.class) (class_place p.class) refl) (itself p.side))
+    and_from (same_product p.product p.product) (same_class (stand_class p.stand) (stand_class p.stand) && same_side (stand_side p.stand) (stand_side p.stand)) (eq-eqb (product_place p.product) (product_place p.product) refl)
+    (and_from (same_class (stand_class p.stand) (stand_class p.stand)) (same_side (stand_side p.stand) (stand_side p.stand)) (eq-eqb (class_place (stand_class p.stand)) (class_place (stand_class p.stand)) refl) (itself (stand_side p.stand)))
   where
     itself : (s : BookSide) → same_side s s ≡ true
     itself side.Delta = refl
@@ -182,16 +177,9 @@ abbrev pub Anywhere : Place → Type 0
 Anywhere q = Unit {0}
 
 module _ (fs : List (FactorKey × Holding)) where
-  -- a place with its factors
-  abbrev entry : Place → Place × List (FactorKey × Holding)
-  entry q = (q, factors_at q fs)
-
   -- a place where nothing stands is not crowded
   absent : (q : Place) → list_any (is_at (place_cmp q)) (places_of fs) ≡ false → fault_at fs q ≡ None
-  absent q h = ap (λ xs. bucket_fault (length xs)) (none_kept (factors_at q fs) (any_at q fs ∙ h))
-
-  places_ascend : IsStrictlySortedBy place_cmp (places_of fs)
-  places_ascend = different_ascends place_cmp place_total (map (λ f. place_of f.0) fs)
+  absent q h = ap (λ xs. bucket_fault (length xs)) (none_kept (factors_at q fs) (any_there q fs ∙ h))
 
   -- the first crowded one of places in order
   pub find_first : (qs : List Place) → IsStrictlySortedBy place_cmp qs → IsFirst fs (λ q. list_any (is_at (place_cmp q)) qs ≡ true) (find (λ q. is_some (fault_at fs q)) qs)
@@ -220,7 +208,7 @@ module _ (fs : List (FactorKey × Holding)) where
   least = find (λ q. is_some (fault_at fs q)) (places_of fs)
 
   least_is : IsFirst fs Anywhere least
-  least_is = everywhere least (find_first (places_of fs) places_ascend)
+  least_is = everywhere least (find_first (places_of fs) (places_ascend fs))
 
   -- a crowded place is there
   there : (q : Place) → is_some (fault_at fs q) ≡ true → list_any (is_at (place_cmp q)) (places_of fs) ≡ true
@@ -232,45 +220,36 @@ module _ (fs : List (FactorKey × Holding)) where
 
   -- the first fault of all places, in their order
   pub keys_first : (found : Option Place) → IsFirst fs Anywhere found → keys_fault fs ≡ fault_of fs found
-  keys_first found h = ap first_some (map-map place_fault entry (places_of fs)) ∙ by found h
+  keys_first found h = ap first_some (map-map place_fault (lent_at fs) (places_of fs)) ∙ by found h
     where
       by : (found : Option Place) → IsFirst fs Anywhere found → first_some (map (fault_at fs) (places_of fs)) ≡ fault_of fs found
       by None h =
           all_none (map (fault_at fs) (places_of fs))
           (each_map IsNone (fault_at fs) (places_of fs) (each_always (λ q. fault_at fs q ≡ None) (λ q. h q tt) (places_of fs)))
-      by (Some q) h = first_least place_total exact_places (fault_at fs) (places_of fs) q places_ascend (there q h.0) (λ p less. h.1 p tt less) h.0
+      by (Some q) h = first_least place_total exact_places (fault_at fs) (places_of fs) q (places_ascend fs) (there q h.0) (λ p less. h.1 p tt less) h.0
 
   -- ---- side by side
 
-  abbrev pub side_keys : SideAt → Option RangeFault
-  side_keys at = first_some (map place_fault (by_bucket at fs))
+  abbrev pub side_keys : ProductClass → RiskClass → BookSide → Option RangeFault
+  side_keys c k b = first_some (map place_fault (by_side c k b fs))
 
   abbrev pub class_keys : ProductClass → RiskClass → Option RangeFault
-  class_keys product class = either_first (side_keys (side_at product class side.Delta)) (side_keys (side_at product class side.Volatility))
+  class_keys product class = either_first (side_keys product class side.Delta) (side_keys product class side.Volatility)
 
   abbrev pub product_keys : ProductClass → Option RangeFault
   product_keys product = first_some (map (class_keys product) classes)
 
-  filter_entries : (test : Place → Bool) (ps : List Place) → filter (λ e. test e.0) (map entry ps) ≡ map entry (filter test ps)
-  filter_entries test [] = refl
-  filter_entries test (p ∷ ps) = by (test p) (filter_entries test ps)
-    where
-      by : (t : Bool) → filter (λ e. test e.0) (map entry ps) ≡ map entry (filter test ps)
-          → cond t (entry p ∷ filter (λ e. test e.0) (map entry ps)) (filter (λ e. test e.0) (map entry ps)) ≡ map entry (cond t (p ∷ filter test ps) (filter test ps))
-      by true i = ap (λ es. entry p ∷ es) i
-      by false i = i
+  keys_on : (c : ProductClass) (k : RiskClass) (b : BookSide) → side_keys c k b ≡ first_some (map (fault_at fs) (filter (is_on c k b) (places_of fs)))
+  keys_on c k b =
+      ap (λ es. first_some (map place_fault es)) (lent-filter (is_on c k b) fs (places_of fs))
+      ∙ ap first_some (map-map place_fault (lent_at fs) (filter (is_on c k b) (places_of fs)))
 
-  keys_on : (at : SideAt) → side_keys at ≡ first_some (map (fault_at fs) (filter (is_of at) (places_of fs)))
-  keys_on at =
-      ap (λ es. first_some (map place_fault es)) (sym (side_is at fs) ∙ filter_entries (is_of at) (places_of fs))
-      ∙ ap first_some (map-map place_fault entry (filter (is_of at) (places_of fs)))
+  none_side : (c : ProductClass) (k : RiskClass) (b : BookSide) → ((p : Place) → Parts c k b p → fault_at fs p ≡ None) → side_keys c k b ≡ None
+  none_side c k b h = keys_on c k b ∙ none_on (fault_at fs) (is_on c k b) (λ p e. h p (parts_of c k b p e)) (places_of fs)
 
-  none_side : (at : SideAt) → ((p : Place) → Parts at p → fault_at fs p ≡ None) → side_keys at ≡ None
-  none_side at h = keys_on at ∙ none_on (fault_at fs) (is_of at) (λ p e. h p (parts_of at p e)) (places_of fs)
-
-  none_class : (product : ProductClass) (class : RiskClass) → ((p : Place) → product_place p.product ≡ product_place product → class_place p.class ≡ class_place class → fault_at fs p ≡ None) → class_keys product class ≡ None
+  none_class : (product : ProductClass) (class : RiskClass) → ((p : Place) → product_place p.product ≡ product_place product → class_place (stand_class p.stand) ≡ class_place class → fault_at fs p ≡ None) → class_keys product class ≡ None
   none_class product class h =
-      (λ i. either_first (none_side (side_at product class side.Delta) (λ p its. h p its.product its.class) i) (none_side (side_at product class side.Volatility) (λ p its. h p its.product its.class) i))
+      (λ i. either_first (none_side product class side.Delta (λ p its. h p its.product its.class) i) (none_side product class side.Volatility (λ p its. h p its.product its.class) i))
 
   none_product : (product : ProductClass) → ((p : Place) → product_place p.product ≡ product_place product → fault_at fs p ≡ None) → product_keys product ≡ None
   none_product product h =
@@ -278,33 +257,33 @@ module _ (fs : List (FactorKey × Holding)) where
       (each_map IsNone (class_keys product) classes (each_always (λ c. class_keys product c ≡ None) (λ c. none_class product c (λ p e f. h p e)) classes))
 
   module _ (q : Place) (some : is_some (fault_at fs q) ≡ true) (before : (p : Place) → place_cmp p q ≡ Less → fault_at fs p ≡ None) where
-    first_side : side_keys (side_of_place q) ≡ fault_at fs q
+    first_side : side_keys q.product (stand_class q.stand) (stand_side q.stand) ≡ fault_at fs q
     first_side =
-        keys_on (side_of_place q)
-        ∙ first_least place_total exact_places (fault_at fs) (filter (is_of (side_of_place q)) (places_of fs)) q (IsStrictlySortedBy-filter place_cmp (is_of (side_of_place q)) (places_of fs) places_ascend)
-        (any-filter_same (is_at (place_cmp q)) (is_of (side_of_place q)) true (λ p e. ap (is_of (side_of_place q)) (sym (one_place q p e)) ∙ own_side q) (places_of fs) ∙ there q some)
+        keys_on q.product (stand_class q.stand) (stand_side q.stand)
+        ∙ first_least place_total exact_places (fault_at fs) (filter (is_on q.product (stand_class q.stand) (stand_side q.stand)) (places_of fs)) q (IsStrictlySortedBy-filter place_cmp (is_on q.product (stand_class q.stand) (stand_side q.stand)) (places_of fs) (places_ascend fs))
+        (any-filter_same (is_at (place_cmp q)) (is_on q.product (stand_class q.stand) (stand_side q.stand)) true (λ p e. ap (is_on q.product (stand_class q.stand) (stand_side q.stand)) (sym (one_place q p e)) ∙ own_side q) (places_of fs) ∙ there q some)
         before some
 
-    first_sides : (s : BookSide) → q.side ≡ s → class_keys q.product q.class ≡ fault_at fs q
+    first_sides : (s : BookSide) → (stand_side q.stand) ≡ s → class_keys q.product (stand_class q.stand) ≡ fault_at fs q
     first_sides side.Delta e =
-        let own : side_keys (side_at q.product q.class side.Delta) ≡ fault_at fs q = ap (λ s. side_keys (side_at q.product q.class s)) (sym e) ∙ first_side in
-        either_chosen (side_keys (side_at q.product q.class side.Delta)) (side_keys (side_at q.product q.class side.Volatility)) (ap is_some own ∙ some) ∙ own
+        let own : side_keys q.product (stand_class q.stand) side.Delta ≡ fault_at fs q = ap (λ s. side_keys q.product (stand_class q.stand) s) (sym e) ∙ first_side in
+        either_chosen (side_keys q.product (stand_class q.stand) side.Delta) (side_keys q.product (stand_class q.stand) side.Volatility) (ap is_some own ∙ some) ∙ own
     first_sides side.Volatility e =
-        let own : side_keys (side_at q.product q.class side.Volatility) ≡ fault_at fs q = ap (λ s. side_keys (side_at q.product q.class s)) (sym e) ∙ first_side in
-        let none : side_keys (side_at q.product q.class side.Delta) ≡ None =
-        none_side (side_at q.product q.class side.Delta) (λ p its. before p (less_side p q its.product its.class (below p.side its.side))) in
-        either_second (side_keys (side_at q.product q.class side.Delta)) (side_keys (side_at q.product q.class side.Volatility)) (ap is_some none) ∙ own
+        let own : side_keys q.product (stand_class q.stand) side.Volatility ≡ fault_at fs q = ap (λ s. side_keys q.product (stand_class q.stand) s) (sym e) ∙ first_side in
+        let none : side_keys q.product (stand_class q.stand) side.Delta ≡ None =
+        none_side q.product (stand_class q.stand) side.Delta (λ p its. before p (less_side p q its.product its.class (below (stand_side p.stand) its.side))) in
+        either_second (side_keys q.product (stand_class q.stand) side.Delta) (side_keys q.product (stand_class q.stand) side.Volatility) (ap is_some none) ∙ own
       where
-        below : (s : BookSide) → same_side s side.Delta ≡ true → nat_cmp (book_side_place s) (book_side_place q.side) ≡ Less
+        below : (s : BookSide) → same_side s side.Delta ≡ true → nat_cmp (book_side_place s) (book_side_place (stand_side q.stand)) ≡ Less
         below side.Delta h = ap (λ t. nat_cmp 0 (book_side_place t)) e
         below side.Volatility h = absurd (false≢true h)
 
     first_classes : product_keys q.product ≡ fault_at fs q
     first_classes =
-        first_least class_total exact_classes (class_keys q.product) classes q.class classes_ascend (all_classes q.class)
-        (λ c less. none_class q.product c (λ p e f. before p (less_class p q e (ap (λ n. nat_cmp n (class_place q.class)) f ∙ less))))
-        (ap is_some (first_sides q.side refl) ∙ some)
-        ∙ first_sides q.side refl
+        first_least class_total exact_classes (class_keys q.product) classes (stand_class q.stand) classes_ascend (all_classes (stand_class q.stand))
+        (λ c less. none_class q.product c (λ p e f. before p (less_class p q e (ap (λ n. nat_cmp n (class_place (stand_class q.stand))) f ∙ less))))
+        (ap is_some (first_sides (stand_side q.stand) refl) ∙ some)
+        ∙ first_sides (stand_side q.stand) refl
 
     first_products : first_some (map product_keys products) ≡ fault_at fs q
     first_products =

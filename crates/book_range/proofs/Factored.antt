@@ -26,18 +26,20 @@ use Rattle.simm_params.specs.SimmRules.Gross.{delta_size, vega_size}
 use Rattle.simm_params.specs.SimmRules.Simm.{products, classes}
 use Rattle.simm_params.specs.SimmRules.Range.{Delta_side, Volatility_side, on_side, above, key_count, bucket_keys, each_class, range}
 use Rattle.simm_params.specs.Facts.{IsParams}
-use Rattle.factor_book.specs.declared.at.SideAt.{SideAt}
 use Rattle.factor_book.specs.declared.holding.Holding.{Holding}
 use Rattle.factor_book.specs.declared.place.BookSide.{BookSide}
 use Rattle.factor_book.specs.declared.place.BookSide.TheVariants as side
 use Rattle.factor_book.specs.Factors.{factor_of, factors_in, factors_of}
-use Rattle.factor_book.specs.Places.{is_on, place_in, factors_at, buckets_on}
+use Rattle.factor_book.specs.declared.address.Address.{Address}
+use Rattle.factor_book.specs.declared.place.Place.{Place}
+use Rattle.factor_book.specs.Place.{address_of}
+use Rattle.factor_book.specs.Places.{is_key_on, is_on, lent_at, places_of}
 use Rattle.factor_book.proofs.Netting.{parts}
 use Rattle.factor_book.proofs.Rows.{permuted}
 use Rattle.factor_book.proofs.Sorting.{any_different, different_ascends, same_items}
-use Rattle.factor_book.proofs.Standing.{exact_ids}
+use Rattle.factor_book.proofs.Addresses.{exact_ids}
+use Rattle.factor_book.proofs.Buckets.{address_in, lent-filter, side_addresses}
 use Rattle.book_range.specs.declared.sizes.GrossSizes.{GrossSizes}
-use Rattle.book_range.specs.Gross.{side_at}
 use Rattle.book_range.specs.Sizes.{sizes_in}
 use Rattle.book_range.specs.Faults.{either_first, count_fault, place_fault, keys_fault, size_fault, side_fault, book_fault}
 use Rattle.book_range.proofs.Firsts.{first_some-cons, first_some-append, either_none}
@@ -78,32 +80,39 @@ different-keys g ks =
     ∙ sym (any_different bucket_id_cmp (is_at (bucket_id_cmp q)) (tied_id q) (map g ks) ∙ any-map (is_at (bucket_id_cmp q)) g ks))
 
 module _ (product : ProductClass) (c : RiskClass) (b : BookSide) (ss : List Sensitivity) where
-  abbrev at : SideAt
-  at = side_at product c b
-
   abbrev own : List Sensitivity
   own = on_side c (sided b) (in_product product ss)
+
+  -- the places of a side
+  abbrev them : List Place
+  them = filter (is_on product c b) (places_of (factors_in ss))
 
   key_bucket : FactorKey → BucketId
   key_bucket k = bucket_of k.factor
 
-  buckets_are : buckets_on at (factors_in ss) ≡ different bucket_id_cmp (map (λ s. bucket_of s.key.factor) own)
+  buckets_are : different bucket_id_cmp (map (λ (f : FactorKey × Holding). bucket_of f.0.factor) (filter (λ f. is_key_on product c b f.0) (factors_in ss))) ≡ different bucket_id_cmp (map (λ s. bucket_of s.key.factor) own)
   unfolding key_bucket
   buckets_are =
-      let T : List Sensitivity = filter (λ s. is_on at s.key) ss in
-      ap (λ fs. different bucket_id_cmp (map (λ (f : FactorKey × Holding). bucket_of f.0.factor) fs)) (parts ss (is_on at))
+      let T : List Sensitivity = filter (λ s. is_key_on product c b s.key) ss in
+      ap (λ fs. different bucket_id_cmp (map (λ (f : FactorKey × Holding). bucket_of f.0.factor) fs)) (parts ss (is_key_on product c b))
       ∙ ap (different bucket_id_cmp) (map-map (λ (f : FactorKey × Holding). bucket_of f.0.factor) (factor_of T) (keys_of T))
       ∙ different-keys key_bucket (map (λ s. s.key) T)
       ∙ ap (different bucket_id_cmp) (map-map key_bucket (λ (s : Sensitivity). s.key) T)
       ∙ ap (λ xs. different bucket_id_cmp (map (λ (s : Sensitivity). bucket_of s.key.factor) xs)) (side_are product c b ss)
 
-  keys_are : side_keys (factors_in ss) at ≡ first_some (bucket_keys own)
+  -- the test of a bucket, at the address of its place
+  abbrev at_address : Address → Option RangeFault
+  at_address a = above range_kind.BucketKeys (key_count (filter (λ s. same_bucket_id (bucket_of s.key.factor) a.bucket) (on_side a.class (sided a.side) (in_product a.product ss)))) (pos 2000)
+
+  keys_are : side_keys (factors_in ss) product c b ≡ first_some (bucket_keys own)
   keys_are =
-      ap first_some
-      (map-map place_fault (λ q. (place_in at q, factors_at (place_in at q) (factors_in ss))) (buckets_on at (factors_in ss))
-      ∙ map-agree (λ q. place_fault (place_in at q, factors_at (place_in at q) (factors_in ss))) (λ q. above range_kind.BucketKeys (key_count (filter (λ s. same_bucket_id (bucket_of s.key.factor) q) own)) (pos 2000))
-      (λ q. ap (λ n. above range_kind.BucketKeys (pos n) (pos 2000)) (factors_there (place_in at q) ss)) (buckets_on at (factors_in ss))
-      ∙ ap (map (λ q. above range_kind.BucketKeys (key_count (filter (λ s. same_bucket_id (bucket_of s.key.factor) q) own)) (pos 2000))) buckets_are)
+      ap (λ es. first_some (map place_fault es)) (lent-filter (is_on product c b) (factors_in ss) (places_of (factors_in ss)))
+      ∙ ap first_some
+      (map-map place_fault (lent_at (factors_in ss)) them
+      ∙ map-agree (λ q. place_fault (lent_at (factors_in ss) q)) (λ q. at_address (address_of q)) (λ q. ap (λ n. above range_kind.BucketKeys (pos n) (pos 2000)) (factors_there q ss)) them
+      ∙ sym (map-map at_address address_of them)
+      ∙ ap (map at_address) (side_addresses product c b (factors_in ss) ∙ ap (map (address_in product c b)) buckets_are)
+      ∙ map-map at_address (address_in product c b) (different bucket_id_cmp (map (λ s. bucket_of s.key.factor) own)))
 
 -- ---- the tests of a class
 
@@ -119,19 +128,19 @@ module _ (p : Params) (facts : IsParams p) (ss : List Sensitivity) where
       ∙ ap (either_first (first_some delta)) (first_some-append volatility [] ∙ either_none (first_some volatility))
       ∙ sym (λ i. either_first (keys_are product c side.Delta ss i) (keys_are product c side.Volatility ss i))
 
-  delta_fault : (product : ProductClass) (c : RiskClass) → first_some (of_delta p (in_product product ss) c) ≡ size_fault (sizes_in p fs) (side_at product c side.Delta)
+  delta_fault : (product : ProductClass) (c : RiskClass) → first_some (of_delta p (in_product product ss) c) ≡ size_fault (sizes_in p fs) product c side.Delta
   delta_fault product c =
       first_some-cons (above range_kind.DeltaGross (up (delta_size p (in_product product ss) c) (pos 10000)) (pos (10 ^ 13))) []
       ∙ either_none (above range_kind.DeltaGross (up (delta_size p (in_product product ss) c) (pos 10000)) (pos (10 ^ 13)))
       ∙ ap (λ z. above range_kind.DeltaGross (up z (pos 10000)) (pos (10 ^ 13)))
-      (delta_is p facts c (in_product product ss) ∙ sym (gross_is p facts product c side.Delta ss) ∙ sym (size_at-sizes_in p fs (side_at product c side.Delta)))
+      (delta_is p facts c (in_product product ss) ∙ sym (gross_is p facts product c side.Delta ss) ∙ sym (size_at-sizes_in p fs product c side.Delta))
 
-  vega_fault : (product : ProductClass) (c : RiskClass) → first_some (of_vega p (in_product product ss) c) ≡ size_fault (sizes_in p fs) (side_at product c side.Volatility)
+  vega_fault : (product : ProductClass) (c : RiskClass) → first_some (of_vega p (in_product product ss) c) ≡ size_fault (sizes_in p fs) product c side.Volatility
   vega_fault product c =
       first_some-cons (above range_kind.VegaGross (up (vega_size p (in_product product ss) c) (pos 10000)) (pos (10 ^ 13))) []
       ∙ either_none (above range_kind.VegaGross (up (vega_size p (in_product product ss) c) (pos 10000)) (pos (10 ^ 13)))
       ∙ ap (λ z. above range_kind.VegaGross (up z (pos 10000)) (pos (10 ^ 13)))
-      (vega_is p facts c (in_product product ss) ∙ sym (gross_is p facts product c side.Volatility ss) ∙ sym (size_at-sizes_in p fs (side_at product c side.Volatility)))
+      (vega_is p facts c (in_product product ss) ∙ sym (gross_is p facts product c side.Volatility ss) ∙ sym (size_at-sizes_in p fs product c side.Volatility))
 
   -- of all classes
   all_classes : (f : List Sensitivity → RiskClass → List (Option RangeFault)) (g : ProductClass → RiskClass → Option RangeFault) → ((product : ProductClass) (c : RiskClass) → first_some (f (in_product product ss) c) ≡ g product c)
@@ -144,10 +153,10 @@ module _ (p : Params) (facts : IsParams p) (ss : List Sensitivity) where
   buckets_are_first = all_classes of_buckets (class_keys fs) buckets_fault ∙ keys_by_class fs
 
   deltas_first : first_some (each_class ss (of_delta p)) ≡ side_fault (sizes_in p fs) side.Delta
-  deltas_first = all_classes (of_delta p) (λ product c. size_fault (sizes_in p fs) (side_at product c side.Delta)) delta_fault
+  deltas_first = all_classes (of_delta p) (λ product c. size_fault (sizes_in p fs) product c side.Delta) delta_fault
 
   vegas_first : first_some (each_class ss (of_vega p)) ≡ side_fault (sizes_in p fs) side.Volatility
-  vegas_first = all_classes (of_vega p) (λ product c. size_fault (sizes_in p fs) (side_at product c side.Volatility)) vega_fault
+  vegas_first = all_classes (of_vega p) (λ product c. size_fault (sizes_in p fs) product c side.Volatility) vega_fault
 
 either_assoc : {A : Type 0} (a b c : Option A) → either_first (either_first a b) c ≡ either_first a (either_first b c)
 either_assoc None b c = refl

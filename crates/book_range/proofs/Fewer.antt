@@ -18,7 +18,11 @@ use Rattle.simm_params.specs.SimmRules.declared.values.RangeKind.TheVariants as 
 use Rattle.simm_params.specs.SimmRules.Params.{CreditBucket, PricedBucket, Params}
 use Rattle.simm_params.specs.SimmRules.Sums.{total_by, different}
 use Rattle.simm_params.specs.SimmRules.Net.{Sensitivity, sensitivity, sensitivities, in_product}
-use Rattle.simm_params.specs.SimmRules.Risks.{Risk, CreditClass, Qualifying, Non_qualifying, PricedClass, Equities, Commodities, select}
+use Rattle.simm_params.specs.SimmRules.Risks.{Risk, select}
+use Rattle.simm_params.specs.SimmRules.declared.classes.CreditClass.{CreditClass}
+use Rattle.simm_params.specs.SimmRules.declared.classes.CreditClass.TheVariants.{Qualifying, NonQualifying}
+use Rattle.simm_params.specs.SimmRules.declared.classes.PricedClass.{PricedClass}
+use Rattle.simm_params.specs.SimmRules.declared.classes.PricedClass.TheVariants.{Equities, Commodities}
 use Rattle.simm_params.specs.SimmRules.Rates.{RateIn, as_rate, as_rate_volatility, rate_weight}
 use Rattle.simm_params.specs.SimmRules.Credit.{as_credit, as_credit_volatility, credit_params}
 use Rattle.simm_params.specs.SimmRules.BaseCorrelation.{as_index}
@@ -119,7 +123,7 @@ module _ (p : Params) (w : Weighs p) (xs ys : List Sensitivity) (h : IsPart xs y
   delta-part : (c : RiskClass) → delta_size p xs c ≤ℤ delta_size p ys c
   delta-part class.IR = size-part xs ys h (rate_weight p) w.rate as_rate
   delta-part class.CreditQ = omega (arith, ints, credit-part Qualifying, size-part xs ys h (λ (index : List ℕ). p.base_weight) (λ index. w.base) as_index)
-  delta-part class.CreditNonQ = credit-part Non_qualifying
+  delta-part class.CreditNonQ = credit-part NonQualifying
   delta-part class.Equity = price-part Equities
   delta-part class.Commodity = price-part Commodities
   delta-part class.FX = size-part xs ys h (fx_weight p) w.currency as_currency
@@ -127,7 +131,7 @@ module _ (p : Params) (w : Weighs p) (xs ys : List Sensitivity) (h : IsPart xs y
   vega-part : (c : RiskClass) → vega_size p xs c ≤ℤ vega_size p ys c
   vega-part class.IR = size-part xs ys h (λ v. pos 10000) (λ v. omega (arith, ints)) as_rate_volatility
   vega-part class.CreditQ = credit_volatility-part Qualifying
-  vega-part class.CreditNonQ = credit_volatility-part Non_qualifying
+  vega-part class.CreditNonQ = credit_volatility-part NonQualifying
   vega-part class.Equity = price_volatility-part Equities
   vega-part class.Commodity = price_volatility-part Commodities
   vega-part class.FX = size-part xs ys h (λ v. fx_sigma p v.pair) (λ v. w.pair v.pair) as_pair_volatility

@@ -6,18 +6,20 @@ use Rattle.std.proofs.lemmas.Int.{ints, fits_signed_from_abs}
 use Rattle.std.proofs.lemmas.List.{length-map}
 use Rattle.std.proofs.lemmas.List.Sums.{length-filter, count_by-le-length}
 use Rattle.simm_params.proofs.MhUnits.Integers.{same128, unsigned_abs-add}
+use Rattle.simm_params.specs.SimmKinds.declared.kinds.ProductClass.{ProductClass}
+use Rattle.simm_params.specs.SimmKinds.declared.kinds.RiskClass.{RiskClass}
 use Rattle.simm_params.specs.SimmKinds.declared.key.FactorKey.{FactorKey}
-use Rattle.simm_params.specs.SimmKinds.Factors.{bucket_of}
-use Rattle.simm_params.specs.SimmKinds.Order.{bucket_id_cmp}
 use Rattle.simm_params.specs.SimmRules.Params.{Params}
 use Rattle.simm_params.specs.SimmRules.Sums.{total_by}
-use Rattle.factor_book.specs.declared.at.SideAt.{SideAt}
+use Rattle.factor_book.specs.declared.address.Address.{Address}
 use Rattle.factor_book.specs.declared.holding.Holding.{Holding}
+use Rattle.factor_book.specs.declared.place.BookSide.{BookSide}
 use Rattle.factor_book.specs.declared.place.Place.{Place}
-use Rattle.factor_book.specs.Places.{is_on, place_in, stands_at, factors_at, buckets_on, by_bucket}
-use Rattle.factor_book.specs.Place.{place_of}
+use Rattle.factor_book.specs.Place.{place_cmp, place_of}
+use Rattle.factor_book.specs.Places.{addressed, by_place, by_side, factors_at, is_on, lent_at, places_of, stands_at, Lent}
 use Rattle.factor_book.proofs.Sorting.{length-different}
 use Rattle.factor_book.proofs.Standing.{one_place, at_place}
+use Rattle.factor_book.proofs.Sums.{total_by-map}
 use Rattle.book_range.specs.Weighing.{weight_at}
 use Rattle.book_range.proofs.Placed.{weight_there}
 use Rattle.book_range.specs.Weights.{factor_weight}
@@ -54,7 +56,7 @@ summed_more p place whole rest f total n w is small = record {
 
 -- one factor more, as it is computed
 pub summed_next : (p : Params) (place : Place) (whole left rest : List (FactorKey × Holding)) (f : FactorKey × Holding) (total n : ℤ) → length whole ≤ 20000 → Summed p place whole left total → left ≡ f ∷ rest → FitsSigned w128 n
-    → n ≡ (f.1).size *ℤ weight_at p place.class place.side place.bucket f.0.factor → unsigned_abs n ≤ 2 * 10 ^ 28
+    → n ≡ (f.1).size *ℤ weight_at p place.stand f.0.factor → unsigned_abs n ≤ 2 * 10 ^ 28
     → Summed p place whole rest (cast_signed w128 (cast_unsigned w128 (total +ℤ cast_signed w128 (cast_unsigned w128 n))))
 summed_next p place whole left rest f total n few w at fits is small =
     let now : Summed p place whole (f ∷ rest) total = subst (λ fs. Summed p place whole fs total) at w in
@@ -63,23 +65,26 @@ summed_next p place whole left rest f total n few w at fits is small =
 
 -- ---- the places of a side
 
-abbrev pub IsSmallPlace : Place × List (FactorKey × Holding) → Type 0
-IsSmallPlace e = AreSmall e.1 × (length e.1 ≤ 20000) × AllByRecursion (λ f. place_of f.0 ≡ e.0) e.1
+abbrev pub IsSmallLent : Lent → Type 0
+IsSmallLent lent = AreSmall lent.factors × (length lent.factors ≤ 20000) × AllByRecursion (λ f. place_of f.0 ≡ lent.place) lent.factors
 
-abbrev pub places_size : Params → List (Place × List (FactorKey × Holding)) → ℤ
-places_size p places = total_by (λ e. place_size p e.1) places
+abbrev pub IsSmallPlace : Address × Lent → Type 0
+IsSmallPlace e = IsSmallLent e.1
 
-pub record SideSummed (p : Params) (whole : ℤ) (rest : List (Place × List (FactorKey × Holding))) (total : ℤ) : Type 0 where
+abbrev pub places_size : Params → List (Address × Lent) → ℤ
+places_size p places = total_by (λ e. place_size p e.1.factors) places
+
+pub record SideSummed (p : Params) (whole : ℤ) (rest : List (Address × Lent)) (total : ℤ) : Type 0 where
   pub value : total +ℤ places_size p rest ≡ whole
   pub are : AllByRecursion IsSmallPlace rest
   pub size : unsigned_abs total + length rest * (4 * 10 ^ 32) ≤ 20000 * (4 * 10 ^ 32)
 
-pub side_fits : (p : Params) (whole : ℤ) (rest : List (Place × List (FactorKey × Holding))) (total : ℤ) → SideSummed p whole rest total → FitsSigned w128 total
+pub side_fits : (p : Params) (whole : ℤ) (rest : List (Address × Lent)) (total : ℤ) → SideSummed p whole rest total → FitsSigned w128 total
 side_fits p whole rest total w = fits_signed_from_abs w128 total (omega (arith, w.size))
 
-side_more : (p : Params) (whole : ℤ) (rest : List (Place × List (FactorKey × Holding))) (e : Place × List (FactorKey × Holding)) (total n : ℤ) → SideSummed p whole (e ∷ rest) total → n ≡ place_size p e.1 → unsigned_abs n ≤ 4 * 10 ^ 32 → SideSummed p whole rest (total +ℤ n)
+side_more : (p : Params) (whole : ℤ) (rest : List (Address × Lent)) (e : Address × Lent) (total n : ℤ) → SideSummed p whole (e ∷ rest) total → n ≡ place_size p e.1.factors → unsigned_abs n ≤ 4 * 10 ^ 32 → SideSummed p whole rest (total +ℤ n)
 side_more p whole rest e total n w is small = record {
-  value = ap (λ z. (total +ℤ z) +ℤ places_size p rest) is ∙ regroup total (place_size p e.1) (places_size p rest) ∙ w.value;
+  value = ap (λ z. (total +ℤ z) +ℤ places_size p rest) is ∙ regroup total (place_size p e.1.factors) (places_size p rest) ∙ w.value;
   are = w.are.1;
   size = omega (arith, w.size, unsigned_abs-add total n, small);
 }
@@ -87,7 +92,7 @@ side_more p whole rest e total n w is small = record {
     regroup : (a b c : ℤ) → (a +ℤ b) +ℤ c ≡ a +ℤ (b +ℤ c)
     regroup a b c = omega (arith, ints)
 
-pub side_next : (p : Params) (whole : ℤ) (left rest : List (Place × List (FactorKey × Holding))) (e : Place × List (FactorKey × Holding)) (total n : ℤ) → SideSummed p whole left total → left ≡ e ∷ rest → FitsSigned w128 n → n ≡ place_size p e.1 → unsigned_abs n ≤ 4 * 10 ^ 32
+pub side_next : (p : Params) (whole : ℤ) (left rest : List (Address × Lent)) (e : Address × Lent) (total n : ℤ) → SideSummed p whole left total → left ≡ e ∷ rest → FitsSigned w128 n → n ≡ place_size p e.1.factors → unsigned_abs n ≤ 4 * 10 ^ 32
     → SideSummed p whole rest (cast_signed w128 (cast_unsigned w128 (total +ℤ cast_signed w128 (cast_unsigned w128 n))))
 side_next p whole left rest e total n w at fits is small =
     let next : SideSummed p whole rest (total +ℤ n) = side_more p whole rest e total n (subst (λ es. SideSummed p whole es total) at w) is small in
@@ -114,27 +119,41 @@ all_there place (f ∷ fs) = by (stands_at place f.0) refl (all_there place fs)
 filter-length : {X : Type 0} (t : X → Bool) (xs : List X) → length (filter t xs) ≤ length xs
 filter-length t xs = omega (arith, length-filter t xs, count_by-le-length t xs)
 
-module _ (p : Params) (fs : List (FactorKey × Holding)) (at : SideAt) (few : length fs ≤ 20000) (small : AreSmall fs) where
-  few_places : length (by_bucket at fs) ≤ 20000
+each_kept : {X : Type 0} (P : X → Type 0) (t : X → Bool) (xs : List X) → AllByRecursion P xs → AllByRecursion P (filter t xs)
+each_kept P t [] h = tt
+each_kept P t (x ∷ xs) h = by (t x) (each_kept P t xs h.1)
+  where
+    by : (b : Bool) → AllByRecursion P (filter t xs) → AllByRecursion P (cond b (x ∷ filter t xs) (filter t xs))
+    by true i = (h.0, i)
+    by false i = i
+
+module _ (p : Params) (fs : List (FactorKey × Holding)) (c : ProductClass) (k : RiskClass) (on : BookSide) (few : length fs ≤ 20000) (small : AreSmall fs) where
+  abbrev them : List Lent
+  them = by_side c k on fs
+
+  few_places : length (map addressed them) ≤ 20000
   few_places =
       omega (
         arith,
         few,
-        length-map {B = Place × List (FactorKey × Holding)} (buckets_on at fs) (λ b. (place_in at b, factors_at (place_in at b) fs)),
-        length-different bucket_id_cmp (map (λ (f : FactorKey × Holding). bucket_of f.0.factor) (filter (λ f. is_on at f.0) fs)),
-        length-map (filter (λ f. is_on at f.0) fs) (λ (f : FactorKey × Holding). bucket_of f.0.factor),
-        filter-length (λ (f : FactorKey × Holding). is_on at f.0) fs,
+        length-map {B = Address × Lent} them addressed,
+        filter-length (λ (lent : Lent). is_on c k on lent.place) (by_place fs),
+        length-map (places_of fs) (lent_at fs),
+        length-different place_cmp (map (λ (f : FactorKey × Holding). place_of f.0) fs),
+        length-map fs (λ (f : FactorKey × Holding). place_of f.0),
       )
 
-  small_places : AllByRecursion IsSmallPlace (by_bucket at fs)
-  small_places =
-      each_map IsSmallPlace (λ b. (place_in at b, factors_at (place_in at b) fs)) (buckets_on at fs)
-      (each_always (λ b. IsSmallPlace (place_in at b, factors_at (place_in at b) fs))
-      (λ b. (kept_small (λ f. stands_at (place_in at b) f.0) fs small, omega (arith, few, filter-length (λ (f : FactorKey × Holding). stands_at (place_in at b) f.0) fs), all_there (place_in at b) fs)) (buckets_on at fs))
+  small_lent : (q : Place) → IsSmallLent (lent_at fs q)
+  small_lent q = (kept_small (λ f. stands_at q f.0) fs small, omega (arith, few, filter-length (λ (f : FactorKey × Holding). stands_at q f.0) fs), all_there q fs)
 
-  none_yet : SideSummed p (side_size p fs at) (by_bucket at fs) (pos 0)
+  small_places : AllByRecursion IsSmallPlace (map addressed them)
+  small_places =
+      each_map IsSmallPlace addressed them
+      (each_kept IsSmallLent (λ lent. is_on c k on lent.place) (by_place fs) (each_map IsSmallLent (lent_at fs) (places_of fs) (each_always (λ q. IsSmallLent (lent_at fs q)) small_lent (places_of fs))))
+
+  none_yet : SideSummed p (side_size p fs c k on) (map addressed them) (pos 0)
   none_yet = record {
-    value = nothing (side_size p fs at);
+    value = nothing (places_size p (map addressed them)) ∙ total_by-map (λ (e : Address × Lent). place_size p e.1.factors) addressed them;
     are = small_places;
     size = omega (arith, mul-le-mul_right (4 * 10 ^ 32) few_places);
   }
@@ -142,5 +161,5 @@ module _ (p : Params) (fs : List (FactorKey × Holding)) (at : SideAt) (few : le
       nothing : (z : ℤ) → pos 0 +ℤ z ≡ z
       nothing z = omega (arith, ints)
 
-pub side_first : (p : Params) (fs : List (FactorKey × Holding)) (at : SideAt) (es : List (Place × List (FactorKey × Holding))) → length fs ≤ 20000 → AreSmall fs → es ≡ by_bucket at fs → SideSummed p (side_size p fs at) es (pos 0)
-side_first p fs at es few small e = subst (λ xs. SideSummed p (side_size p fs at) xs (pos 0)) (sym e) (none_yet p fs at few small)
+pub side_first : (p : Params) (fs : List (FactorKey × Holding)) (c : ProductClass) (k : RiskClass) (on : BookSide) (es : List (Address × Lent)) → length fs ≤ 20000 → AreSmall fs → es ≡ map addressed (by_side c k on fs) → SideSummed p (side_size p fs c k on) es (pos 0)
+side_first p fs c k on es few small e = subst (λ xs. SideSummed p (side_size p fs c k on) xs (pos 0)) (sym e) (none_yet p fs c k on few small)

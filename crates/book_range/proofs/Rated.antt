@@ -10,7 +10,11 @@ use Rattle.simm_params.specs.SimmKinds.declared.factor.Factor.{Factor}
 use Rattle.simm_params.specs.SimmKinds.declared.factor.Factor.TheVariants as factor
 use Rattle.simm_params.specs.SimmKinds.Order.{same_bucket}
 use Rattle.simm_params.specs.SimmRules.Params.{Params}
-use Rattle.simm_params.specs.SimmRules.Risks.{Rate, Curve, Inflation, Basis, CreditClass, Qualifying, Non_qualifying, PricedClass, Equities, Commodities}
+use Rattle.simm_params.specs.SimmRules.Risks.{Rate, Curve, Inflation, Basis}
+use Rattle.simm_params.specs.SimmRules.declared.classes.CreditClass.{CreditClass}
+use Rattle.simm_params.specs.SimmRules.declared.classes.CreditClass.TheVariants.{Qualifying, NonQualifying}
+use Rattle.simm_params.specs.SimmRules.declared.classes.PricedClass.{PricedClass}
+use Rattle.simm_params.specs.SimmRules.declared.classes.PricedClass.TheVariants.{Equities, Commodities}
 use Rattle.simm_params.specs.SimmRules.Rates.{rate_weight}
 use Rattle.simm_params.specs.SimmRules.Credit.{credit_params}
 use Rattle.simm_params.specs.SimmRules.Priced.{priced_params}
@@ -75,8 +79,8 @@ module _ (p : Params) (facts : IsParams p) (currencies : (currency : List â„•) â
   weights_low (factor.InflationVol c t) = one
   weights_low (factor.CreditQ i b t l) = credit_low Qualifying b
   weights_low (factor.CreditVol i b t l) = credit_volatility_low Qualifying b
-  weights_low (factor.CreditNonQ i b t l) = credit_low Non_qualifying b
-  weights_low (factor.CreditVolNonQ i b t l) = credit_volatility_low Non_qualifying b
+  weights_low (factor.CreditNonQ i b t l) = credit_low NonQualifying b
+  weights_low (factor.CreditVolNonQ i b t l) = credit_volatility_low NonQualifying b
   weights_low (factor.BaseCorr i) = let its = facts.base_weight in within p.base_weight (omega (arith, ints, its.low)) its.high
   weights_low (factor.Equity i b) = price_low Equities b
   weights_low (factor.EquityVol i b t) = price_volatility_low Equities b

@@ -14,7 +14,11 @@ use Rattle.simm_params.specs.SimmKinds.Order.{same_class, same_bucket}
 use Rattle.simm_params.specs.SimmRules.Params.{CreditBucket, PricedBucket, Params}
 use Rattle.simm_params.specs.SimmRules.Sums.{total_by}
 use Rattle.simm_params.specs.SimmRules.Net.{Sensitivity}
-use Rattle.simm_params.specs.SimmRules.Risks.{Risk, risk, CreditClass, Qualifying, Non_qualifying, PricedClass, Equities, Commodities, select}
+use Rattle.simm_params.specs.SimmRules.Risks.{Risk, risk, select}
+use Rattle.simm_params.specs.SimmRules.declared.classes.CreditClass.{CreditClass}
+use Rattle.simm_params.specs.SimmRules.declared.classes.CreditClass.TheVariants.{Qualifying, NonQualifying}
+use Rattle.simm_params.specs.SimmRules.declared.classes.PricedClass.{PricedClass}
+use Rattle.simm_params.specs.SimmRules.declared.classes.PricedClass.TheVariants.{Equities, Commodities}
 use Rattle.simm_params.specs.SimmRules.Rates.{as_rate, as_rate_volatility, rate_weight}
 use Rattle.simm_params.specs.SimmRules.Credit.{as_credit, as_credit_volatility, credit_params}
 use Rattle.simm_params.specs.SimmRules.BaseCorrelation.{as_index}
@@ -24,8 +28,7 @@ use Rattle.simm_params.specs.SimmRules.Gross.{size_by, delta_size, vega_size}
 use Rattle.simm_params.specs.Facts.{IsParams, IsCreditParams, IsPricedParams}
 use Rattle.factor_book.specs.declared.place.BookSide.{BookSide}
 use Rattle.factor_book.specs.declared.place.BookSide.TheVariants as side
-use Rattle.factor_book.specs.Place.{book_side}
-use Rattle.factor_book.specs.Places.{same_side}
+use Rattle.factor_book.specs.Address.{book_side, same_side}
 use Rattle.factor_book.proofs.Sums.{total_by-agree, total_by-add}
 use Rattle.book_range.specs.Weights.{rate_found, factor_weight}
 use Rattle.book_range.proofs.Listed.{total_found}
@@ -99,7 +102,7 @@ found_where x rate false = refl
 module _ (p : Params) (facts : IsParams p) where
   credit_of : (c : CreditClass) → IsCreditParams (credit_params p c)
   credit_of Qualifying = facts.credit_q
-  credit_of Non_qualifying = facts.credit_nq
+  credit_of NonQualifying = facts.credit_nq
 
   priced_of : (c : PricedClass) → IsPricedParams (priced_params p c)
   priced_of Equities = facts.equity
@@ -135,17 +138,17 @@ module _ (p : Params) (facts : IsParams p) where
   credits_q (factor.BaseCorr i) = ap (λ z. z +ℤ p.base_weight) (total_zero (credit_params p Qualifying).buckets) ∙ omega (arith, ints)
   credits_q _ = ap (λ z. z +ℤ pos 0) (total_zero (credit_params p Qualifying).buckets)
 
-  credits_nq : (f : Factor) → total_by (λ k. rate_found (λ point. (k.terms).weight) (as_credit Non_qualifying (k.terms).id (risk f))) (credit_params p Non_qualifying).buckets ≡ weight_on class.CreditNonQ side.Delta f
-  credits_nq (factor.CreditNonQ i b t l) = credit_found Non_qualifying (λ k. (k.terms).weight) _ b
-  credits_nq _ = total_zero (credit_params p Non_qualifying).buckets
+  credits_nq : (f : Factor) → total_by (λ k. rate_found (λ point. (k.terms).weight) (as_credit NonQualifying (k.terms).id (risk f))) (credit_params p NonQualifying).buckets ≡ weight_on class.CreditNonQ side.Delta f
+  credits_nq (factor.CreditNonQ i b t l) = credit_found NonQualifying (λ k. (k.terms).weight) _ b
+  credits_nq _ = total_zero (credit_params p NonQualifying).buckets
 
   credit_volatilities_q : (f : Factor) → total_by (λ k. rate_found (λ point. pos 10000) (as_credit_volatility Qualifying (k.terms).id (risk f))) (credit_params p Qualifying).buckets ≡ weight_on class.CreditQ side.Volatility f
   credit_volatilities_q (factor.CreditVol i b t l) = credit_found Qualifying (λ k. pos 10000) _ b
   credit_volatilities_q _ = total_zero (credit_params p Qualifying).buckets
 
-  credit_volatilities_nq : (f : Factor) → total_by (λ k. rate_found (λ point. pos 10000) (as_credit_volatility Non_qualifying (k.terms).id (risk f))) (credit_params p Non_qualifying).buckets ≡ weight_on class.CreditNonQ side.Volatility f
-  credit_volatilities_nq (factor.CreditVolNonQ i b t l) = credit_found Non_qualifying (λ k. pos 10000) _ b
-  credit_volatilities_nq _ = total_zero (credit_params p Non_qualifying).buckets
+  credit_volatilities_nq : (f : Factor) → total_by (λ k. rate_found (λ point. pos 10000) (as_credit_volatility NonQualifying (k.terms).id (risk f))) (credit_params p NonQualifying).buckets ≡ weight_on class.CreditNonQ side.Volatility f
+  credit_volatilities_nq (factor.CreditVolNonQ i b t l) = credit_found NonQualifying (λ k. pos 10000) _ b
+  credit_volatilities_nq _ = total_zero (credit_params p NonQualifying).buckets
 
   equities : (f : Factor) → total_by (λ k. rate_found (λ name. (k.terms).weight) (as_price Equities (k.terms).id (risk f))) (priced_params p Equities).buckets ≡ weight_on class.Equity side.Delta f
   equities (factor.Equity i b) = priced_found Equities (λ k. (k.terms).weight) _ b
@@ -177,7 +180,7 @@ module _ (p : Params) (facts : IsParams p) where
       (λ i. over_buckets (λ (k : CreditBucket) point. (k.terms).weight) (λ k. as_credit Qualifying (k.terms).id) (credit_params p Qualifying).buckets ss i +ℤ sized_by (λ (index : List ℕ). p.base_weight) as_index ss i)
       ∙ both _ _ ss ∙ agreed _ (weight_on class.CreditQ side.Delta) credits_q ss
   delta_is class.CreditNonQ ss =
-      over_buckets (λ (k : CreditBucket) point. (k.terms).weight) (λ k. as_credit Non_qualifying (k.terms).id) (credit_params p Non_qualifying).buckets ss ∙ agreed _ (weight_on class.CreditNonQ side.Delta) credits_nq ss
+      over_buckets (λ (k : CreditBucket) point. (k.terms).weight) (λ k. as_credit NonQualifying (k.terms).id) (credit_params p NonQualifying).buckets ss ∙ agreed _ (weight_on class.CreditNonQ side.Delta) credits_nq ss
   delta_is class.Equity ss =
       over_buckets (λ (k : PricedBucket) name. (k.terms).weight) (λ k. as_price Equities (k.terms).id) (priced_params p Equities).buckets ss ∙ agreed _ (weight_on class.Equity side.Delta) equities ss
   delta_is class.Commodity ss =
@@ -189,7 +192,7 @@ module _ (p : Params) (facts : IsParams p) where
   vega_is class.CreditQ ss =
       over_buckets (λ (k : CreditBucket) point. pos 10000) (λ k. as_credit_volatility Qualifying (k.terms).id) (credit_params p Qualifying).buckets ss ∙ agreed _ (weight_on class.CreditQ side.Volatility) credit_volatilities_q ss
   vega_is class.CreditNonQ ss =
-      over_buckets (λ (k : CreditBucket) point. pos 10000) (λ k. as_credit_volatility Non_qualifying (k.terms).id) (credit_params p Non_qualifying).buckets ss ∙ agreed _ (weight_on class.CreditNonQ side.Volatility) credit_volatilities_nq ss
+      over_buckets (λ (k : CreditBucket) point. pos 10000) (λ k. as_credit_volatility NonQualifying (k.terms).id) (credit_params p NonQualifying).buckets ss ∙ agreed _ (weight_on class.CreditNonQ side.Volatility) credit_volatilities_nq ss
   vega_is class.Equity ss =
       over_buckets (λ (k : PricedBucket) name. k.sigma) (λ k. as_price_volatility Equities (k.terms).id) (priced_params p Equities).buckets ss ∙ agreed _ (weight_on class.Equity side.Volatility) equity_volatilities ss
   vega_is class.Commodity ss =

@@ -3,6 +3,7 @@ use Rattle.std.specs.Prelude.{ℕ, ◌≡◌, ◌^◌, List, map, length, true, 
 use Rattle.std.specs.List.{list_all}
 use Rattle.simm_params.specs.MhUnits.Rounding.{up}
 use Rattle.simm_params.specs.SimmKinds.declared.kinds.ProductClass.{ProductClass}
+use Rattle.simm_params.specs.SimmKinds.declared.kinds.RiskClass.{RiskClass}
 use Rattle.simm_params.specs.SimmKinds.declared.key.FactorKey.{FactorKey}
 use Rattle.simm_params.specs.SimmKinds.declared.row.CrifRow.{CrifRow}
 use Rattle.simm_params.specs.SimmKinds.Batch.{is_in_range}
@@ -12,15 +13,12 @@ use Rattle.simm_params.specs.SimmRules.declared.values.RangeKind.TheVariants as 
 use Rattle.simm_params.specs.SimmRules.Sums.{first_some}
 use Rattle.simm_params.specs.SimmRules.Simm.{products, classes}
 use Rattle.simm_params.specs.SimmRules.Range.{above}
-use Rattle.factor_book.specs.declared.at.SideAt.{SideAt}
 use Rattle.factor_book.specs.declared.holding.Holding.{Holding}
 use Rattle.factor_book.specs.declared.place.BookSide.{BookSide}
 use Rattle.factor_book.specs.declared.place.BookSide.TheVariants as side
-use Rattle.factor_book.specs.declared.place.Place.{Place}
 use Rattle.factor_book.specs.Factors.{factors_of}
-use Rattle.factor_book.specs.Places.{by_place}
+use Rattle.factor_book.specs.Places.{by_place, Lent}
 use Rattle.book_range.specs.declared.sizes.GrossSizes.{GrossSizes}
-use Rattle.book_range.specs.Gross.{side_at}
 use Rattle.book_range.specs.Sizes.{size_at}
 
 -- the first answer, or else the second
@@ -43,8 +41,8 @@ count_fault rows keys = either_first (above range_kind.RowCount (pos rows) (pos 
 abbrev pub bucket_fault : ℕ → Option RangeFault
 bucket_fault keys = above range_kind.BucketKeys (pos keys) (pos 2000)
 
-abbrev pub place_fault : Place × List (FactorKey × Holding) → Option RangeFault
-place_fault e = bucket_fault (length e.1)
+abbrev pub place_fault : Lent → Option RangeFault
+place_fault lent = bucket_fault (length lent.factors)
 
 -- the keys of each bucket, in the order of places
 abbrev pub keys_fault : List (FactorKey × Holding) → Option RangeFault
@@ -55,11 +53,11 @@ gross_kind side.Delta = range_kind.DeltaGross
 gross_kind side.Volatility = range_kind.VegaGross
 
 -- the size of a side of a class, in cents, upwards
-abbrev pub size_fault : GrossSizes → SideAt → Option RangeFault
-size_fault sizes at = above (gross_kind at.side) (up (size_at sizes at) (pos 10000)) (pos (10 ^ 13))
+abbrev pub size_fault : GrossSizes → ProductClass → RiskClass → BookSide → Option RangeFault
+size_fault sizes product class side = above (gross_kind side) (up (size_at sizes product class side) (pos 10000)) (pos (10 ^ 13))
 
 abbrev pub product_fault : GrossSizes → BookSide → ProductClass → Option RangeFault
-product_fault sizes side product = first_some (map (λ class. size_fault sizes (side_at product class side)) classes)
+product_fault sizes side product = first_some (map (λ class. size_fault sizes product class side) classes)
 
 -- of all classes
 abbrev pub side_fault : GrossSizes → BookSide → Option RangeFault

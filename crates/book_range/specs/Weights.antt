@@ -6,7 +6,11 @@ use Rattle.simm_params.specs.SimmKinds.declared.bucket.Bucket.TheVariants as buc
 use Rattle.simm_params.specs.SimmKinds.declared.factor.Factor.{Factor}
 use Rattle.simm_params.specs.SimmKinds.declared.factor.Factor.TheVariants as factor
 use Rattle.simm_params.specs.SimmRules.Params.{Params}
-use Rattle.simm_params.specs.SimmRules.Risks.{Curve, Inflation, Basis, CreditClass, Qualifying, Non_qualifying, PricedClass, Equities, Commodities}
+use Rattle.simm_params.specs.SimmRules.Risks.{Curve, Inflation, Basis}
+use Rattle.simm_params.specs.SimmRules.declared.classes.CreditClass.{CreditClass}
+use Rattle.simm_params.specs.SimmRules.declared.classes.CreditClass.TheVariants.{Qualifying, NonQualifying}
+use Rattle.simm_params.specs.SimmRules.declared.classes.PricedClass.{PricedClass}
+use Rattle.simm_params.specs.SimmRules.declared.classes.PricedClass.TheVariants.{Equities, Commodities}
 use Rattle.simm_params.specs.SimmRules.Rates.{rate_weight}
 use Rattle.simm_params.specs.SimmRules.Credit.{credit_params}
 use Rattle.simm_params.specs.SimmRules.Priced.{priced_params}
@@ -38,8 +42,8 @@ factor_weight p (factor.IrVol c t) = pos 10000
 factor_weight p (factor.InflationVol c t) = pos 10000
 factor_weight p (factor.CreditQ i b t l) = credit_weight p Qualifying b
 factor_weight p (factor.CreditVol i b t l) = credit_volatility p Qualifying b
-factor_weight p (factor.CreditNonQ i b t l) = credit_weight p Non_qualifying b
-factor_weight p (factor.CreditVolNonQ i b t l) = credit_volatility p Non_qualifying b
+factor_weight p (factor.CreditNonQ i b t l) = credit_weight p NonQualifying b
+factor_weight p (factor.CreditVolNonQ i b t l) = credit_volatility p NonQualifying b
 factor_weight p (factor.BaseCorr i) = p.base_weight
 factor_weight p (factor.Equity i b) = price_weight p Equities b
 factor_weight p (factor.EquityVol i b t) = price_volatility p Equities b

@@ -1,10 +1,11 @@
 //! The quantities of a book beside their limits.
 ghost use Rattle.std.specs.Prelude.{◌≡◌};
 ghost use Rattle.simm_params.specs.SimmRules.Range.{above as above_of};
-ghost use Rattle.book_range.specs.Faults.{count_fault, bucket_fault, gross_kind, size_fault, product_fault, side_fault, gross_fault};
+ghost use Rattle.book_range.specs.Faults.{count_fault, bucket_fault, gross_kind, size_fault};
+ghost use Rattle.book_range.specs.Faults.{product_fault, side_fault, gross_fault};
 
 use crate::sizes::GrossSizes;
-use factor_book::{BookSide, SideAt};
+use factor_book::BookSide;
 use simm_params::mh_units::div_up;
 use simm_params::simm_kinds::{ProductClass, RiskClass};
 use simm_params::simm_rules::{RangeFault, RangeKind};
@@ -68,12 +69,7 @@ fn product_fault(sizes: &GrossSizes, side: BookSide, product: ProductClass) -> O
     ensures { result ≡ product_fault sizes.now side product }
 {
     for class in RiskClass::ALL {
-        let at = SideAt {
-            product,
-            class,
-            side,
-        };
-        let fault = size_fault(sizes, at);
+        let fault = size_fault(sizes, product, class, side);
         if fault.is_some() {
             return fault;
         }
@@ -81,11 +77,16 @@ fn product_fault(sizes: &GrossSizes, side: BookSide, product: ProductClass) -> O
     None
 }
 
-fn size_fault(sizes: &GrossSizes, at: SideAt) -> Option<RangeFault>
-    ensures { result ≡ size_fault sizes.now at }
+fn size_fault(
+    sizes: &GrossSizes,
+    product: ProductClass,
+    class: RiskClass,
+    side: BookSide,
+) -> Option<RangeFault>
+    ensures { result ≡ size_fault sizes.now product class side }
 {
-    let cents = div_up(sizes.size(at), 10_000);
-    above(gross_kind(at.side), cents, GREATEST_GROSS)
+    let cents = div_up(sizes.size(product, class, side), 10_000);
+    above(gross_kind(side), cents, GREATEST_GROSS)
 }
 
 fn gross_kind(side: BookSide) -> RangeKind

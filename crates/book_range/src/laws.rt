@@ -25,10 +25,11 @@ pub fn range_order_is_free(params: &Params)
     params.facts();
 }
 
-/// Of a book in range of which some rows went and to which others came, only buckets in which one of these lies can have more
-/// keys than a bucket may have. It does nothing.
+/// Of a book in range of which some rows went and to which others came, only buckets in which one
+/// of these lies can have more keys than a bucket may have. It does nothing.
 pub fn elsewhere_few(params: &Params)
-    ensures { (kept left came : List Row) → range params.now (kept ++ left) ≡ None → AreFewElsewhere came (factors_of (kept ++ came)) }
+    ensures { (kept left came : List Row) → range params.now (kept ++ left) ≡ None
+        → AreFewElsewhere came (factors_of (kept ++ came)) }
 {
     let _params = params;
 }

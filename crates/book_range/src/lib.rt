@@ -1,5 +1,5 @@
-//! The range of a book: the counts and weighted sizes up to which margins are calculated, by the factors that it nets to, from
-//! scratch or after a batch.
+//! The range of a book: the counts and weighted sizes up to which margins are calculated, by the
+//! factors that it nets to, from scratch or after a batch.
 #![tactic(auto)]
 
 mod after;
@@ -15,4 +15,4 @@ mod weight;
 pub use after::range_after;
 pub use laws::{elsewhere_few, fewer_are_in_range, range_bounds, range_order_is_free};
 pub use range::range_fault;
-pub use sizes::{ClassSizes, GrossSizes, SideSizes};
+pub use sizes::GrossSizes;

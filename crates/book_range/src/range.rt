@@ -1,5 +1,5 @@
 //! The first quantity of a book that is above its limit.
-ghost use Rattle.std.specs.Prelude.{◌≡◌, ◌≤◌, List, length};
+ghost use Rattle.std.specs.Prelude.{◌≡◌, List, length};
 ghost use Rattle.simm_params.specs.SimmKinds.declared.row.CrifRow.{CrifRow as Row};
 ghost use Rattle.simm_params.specs.SimmRules.Range.{range};
 ghost use Rattle.factor_book.specs.Factors.{factors_of};
@@ -11,11 +11,12 @@ use factor_book::Factors;
 use simm_params::Params;
 use simm_params::simm_rules::RangeFault;
 
-/// The first quantity that is above its limit, of a book of that many rows that nets to these factors; `None` of a book in
-/// range. It takes no memory.
+/// The first quantity that is above its limit, of a book of that many rows that nets to these
+/// factors; `None` of a book in range. It takes no memory.
 pub fn range_fault(params: &Params, factors: &Factors, rows: usize) -> Option<RangeFault>
     requires { AreOf rows factors.now }
-    ensures { (held : List Row) → factors.now ≡ factors_of held → rows ≡ length held → result ≡ range params.now held }
+    ensures { (held : List Row) → factors.now ≡ factors_of held → rows ≡ length held
+        → result ≡ range params.now held }
 {
     params.facts();
     let too_many = count_fault(rows, factors.len());
@@ -33,7 +34,7 @@ pub fn range_fault(params: &Params, factors: &Factors, rows: usize) -> Option<Ra
 fn keys_fault(factors: &Factors) -> Option<RangeFault>
     ensures { result ≡ keys_fault factors.now }
 {
-    for (_, lent) in factors.places() {
+    for lent in factors.places() {
         let fault = bucket_fault(lent.len());
         if fault.is_some() {
             return fault;

@@ -1,13 +1,14 @@
 //! What the amounts to a factor weigh in gross sizes.
 ghost use Rattle.std.specs.Prelude.{◌≡◌, ◌^◌, ◌≤◌, unsigned_abs};
 ghost use Rattle.simm_params.specs.SimmRules.ForeignExchange.{fx_weight};
-ghost use Rattle.simm_params.specs.ClassKinds.{credit_class, priced_class};
-ghost use Rattle.book_range.specs.Weights.{credit_weight, credit_volatility, price_weight, price_volatility};
-ghost use Rattle.book_range.specs.Weighing.{own_weight, bucket_weight};
+ghost use Rattle.book_range.specs.Weights.{credit_weight, credit_volatility};
+ghost use Rattle.book_range.specs.Weights.{price_weight, price_volatility};
+ghost use Rattle.book_range.specs.Weighing.{own_weight};
 
+use simm_params::Params;
 use simm_params::mh_units::Rate4;
-use simm_params::simm_kinds::{BucketId, Currency, Factor};
-use simm_params::{CreditKind, Params, PricedKind};
+use simm_params::simm_kinds::{Bucket, Currency, Factor};
+use simm_params::simm_rules::{CreditClass, PricedClass};
 
 /// A weight of 1.
 pub const ONE: Rate4 = Rate4(10_000);
@@ -15,7 +16,8 @@ pub const ONE: Rate4 = Rate4(10_000);
 /// A weight of 0.
 const NOTHING: Rate4 = Rate4(0);
 
-/// The weight of a factor that has one of its own, in ten-thousandths: a rate, a currency or a pair.
+/// The weight of a factor that has one of its own, in ten-thousandths: a rate, a currency or
+/// a pair.
 pub fn own_weight(params: &Params, factor: &Factor) -> Rate4
     ensures value { result.0 ≡ own_weight params.now factor.now }
     ensures bound { unsigned_abs result.0 ≤ 10 ^ 8 }
@@ -45,56 +47,44 @@ pub fn own_weight(params: &Params, factor: &Factor) -> Rate4
 }
 
 /// The weight of the credit of a bucket, in ten-thousandths: none where the file doesn't list it.
-pub fn credit_weight(params: &Params, kind: CreditKind, id: BucketId) -> Rate4
-    ensures value { result.0 ≡ bucket_weight (credit_weight params.now (credit_class kind)) id }
+pub fn credit_weight(params: &Params, class: CreditClass, bucket: Bucket) -> Rate4
+    ensures value { result.0 ≡ credit_weight params.now class bucket }
     ensures bound { unsigned_abs result.0 ≤ 10 ^ 8 }
 {
-    let Some(bucket) = id.listed() else {
-        return NOTHING;
-    };
-    match params.credit_bucket(kind, bucket) {
+    match params.credit_bucket(class, bucket) {
         Some(listed) => listed.terms.weight,
         None => NOTHING,
     }
 }
 
 /// The same of its volatilities, each of which weighs 1.
-pub fn credit_volatility(params: &Params, kind: CreditKind, id: BucketId) -> Rate4
-    ensures value { result.0 ≡ bucket_weight (credit_volatility params.now (credit_class kind)) id }
+pub fn credit_volatility(params: &Params, class: CreditClass, bucket: Bucket) -> Rate4
+    ensures value { result.0 ≡ credit_volatility params.now class bucket }
     ensures bound { unsigned_abs result.0 ≤ 10 ^ 8 }
 {
-    let Some(bucket) = id.listed() else {
-        return NOTHING;
-    };
-    match params.credit_bucket(kind, bucket) {
+    match params.credit_bucket(class, bucket) {
         Some(_) => ONE,
         None => NOTHING,
     }
 }
 
 /// The weight of the names of a bucket, in ten-thousandths: none where the file doesn't list it.
-pub fn price_weight(params: &Params, kind: PricedKind, id: BucketId) -> Rate4
-    ensures value { result.0 ≡ bucket_weight (price_weight params.now (priced_class kind)) id }
+pub fn price_weight(params: &Params, class: PricedClass, bucket: Bucket) -> Rate4
+    ensures value { result.0 ≡ price_weight params.now class bucket }
     ensures bound { unsigned_abs result.0 ≤ 10 ^ 8 }
 {
-    let Some(bucket) = id.listed() else {
-        return NOTHING;
-    };
-    match params.priced_bucket(kind, bucket) {
+    match params.priced_bucket(class, bucket) {
         Some(listed) => listed.terms.weight,
         None => NOTHING,
     }
 }
 
 /// Their volatility, in ten-thousandths.
-pub fn price_volatility(params: &Params, kind: PricedKind, id: BucketId) -> Rate4
-    ensures value { result.0 ≡ bucket_weight (price_volatility params.now (priced_class kind)) id }
+pub fn price_volatility(params: &Params, class: PricedClass, bucket: Bucket) -> Rate4
+    ensures value { result.0 ≡ price_volatility params.now class bucket }
     ensures bound { unsigned_abs result.0 ≤ 10 ^ 8 }
 {
-    let Some(bucket) = id.listed() else {
-        return NOTHING;
-    };
-    match params.priced_bucket(kind, bucket) {
+    match params.priced_bucket(class, bucket) {
         Some(listed) => listed.sigma,
         None => NOTHING,
     }

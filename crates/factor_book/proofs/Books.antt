@@ -6,7 +6,7 @@ use Rattle.std.proofs.lemmas.List.{length-map}
 use Rattle.simm_rules.specs.SimmKinds.declared.key.FactorKey.{FactorKey}
 use Rattle.simm_rules.specs.SimmKinds.Order.{same_key, key_cmp}
 use Rattle.simm_rules.specs.Net.{Sensitivity, net, keys_of}
-use Rattle.factor_book.specs.declared.place.Place.{Place}
+use Rattle.factor_book.specs.declared.address.Address.{Address}
 use Rattle.factor_book.specs.declared.holding.Holding.{Holding}
 use Rattle.factor_book.specs.Factors.{factors_in, factor_of, size_of, count_of}
 use Rattle.factor_book.specs.Holdings.{first, joined, grown, shrunk, rows_in, IsSmall, IsOfSmall, CanJoin, CanShrink}
@@ -49,12 +49,12 @@ abbrev pub one_of : FactorKey → ℤ → Sensitivity
 one_of key amount = record { key = key; amount = amount }
 
 -- what is put is one amount
-pub put_one : (old new : List (Place × List (FactorKey × Holding))) (key : FactorKey) (amount : ℤ) (h : Holding) → h ≡ first amount
+pub put_one : (old new : List (Address × List (FactorKey × Holding))) (key : FactorKey) (amount : ℤ) (h : Holding) → h ≡ first amount
     → ((k : FactorKey) → found new k ≡ cond (same_key key k) (Some (joined (found old key) h)) (found old k))
     → (k : FactorKey) → found new k ≡ cond (same_key key k) (Some (grown (found old key) amount)) (found old k)
 put_one old new key amount h e put k = put k ∙ ap (λ x. cond (same_key key k) (Some (joined (found old key) x)) (found old k)) e
 
-module _ (old new : List (Place × List (FactorKey × Holding))) (key : FactorKey) (amount : ℤ) (f : AreFiled old) (g : AreFiled new)
+module _ (old new : List (Address × List (FactorKey × Holding))) (key : FactorKey) (amount : ℤ) (f : AreFiled old) (g : AreFiled new)
     (put : (k : FactorKey) → found new k ≡ cond (same_key key k) (Some (grown (found old key) amount)) (found old k)) where
   pub added : (ss : List Sensitivity) → gathered old ≡ factors_in ss → gathered new ≡ factors_in (ss ++ one_of key amount ∷ [])
   added ss e =
@@ -76,16 +76,16 @@ module _ (old new : List (Place × List (FactorKey × Holding))) (key : FactorKe
   counted_added = count_written old new key (grown (found old key) amount) f g put
 
 -- nothing found has changed
-pub unchanged : (old new : List (Place × List (FactorKey × Holding))) → AreFiled old → AreFiled new → AreNetted (gathered old) → ((k : FactorKey) → found new k ≡ found old k) → gathered new ≡ gathered old
+pub unchanged : (old new : List (Address × List (FactorKey × Holding))) → AreFiled old → AreFiled new → AreNetted (gathered old) → ((k : FactorKey) → found new k ≡ found old k) → gathered new ≡ gathered old
 unchanged old new f g b same = gathered-from new b.held g (λ k. same k ∙ found-from old b.held f b.are k) ∙ sym b.are
 
-pub book_unchanged : (old new : List (Place × List (FactorKey × Holding))) (keys : ℕ) → IsFiledBook old keys → AreFiled new → ((k : FactorKey) → found new k ≡ found old k) → IsFiledBook new keys
+pub book_unchanged : (old new : List (Address × List (FactorKey × Holding))) (keys : ℕ) → IsFiledBook old keys → AreFiled new → ((k : FactorKey) → found new k ≡ found old k) → IsFiledBook new keys
 book_unchanged old new keys b g same =
     let is : gathered new ≡ gathered old = unchanged old new b.filing g b.netted same in
     record { filing = g; netted = subst AreNetted (sym is) b.netted; counted = b.counted ∙ sym (ap length is) }
 
 -- the key is new, or it isn't
-pub book_new : (old new : List (Place × List (FactorKey × Holding))) (keys : ℕ) (key : FactorKey) (amount : ℤ) → IsFiledBook old keys → AreFiled new
+pub book_new : (old new : List (Address × List (FactorKey × Holding))) (keys : ℕ) (key : FactorKey) (amount : ℤ) → IsFiledBook old keys → AreFiled new
     → ((k : FactorKey) → found new k ≡ cond (same_key key k) (Some (grown (found old key) amount)) (found old k)) → IsSmall amount → is_none (found old key) ≡ true → IsFiledBook new (keys + 1)
 book_new old new keys key amount b g put small none = record {
   filing = g;
@@ -97,7 +97,7 @@ book_new old new keys key amount b g put small none = record {
     by true e = absurd (false≢true e)
     by false e = refl
 
-pub book_known : (old new : List (Place × List (FactorKey × Holding))) (keys : ℕ) (key : FactorKey) (amount : ℤ) → IsFiledBook old keys → AreFiled new
+pub book_known : (old new : List (Address × List (FactorKey × Holding))) (keys : ℕ) (key : FactorKey) (amount : ℤ) → IsFiledBook old keys → AreFiled new
     → ((k : FactorKey) → found new k ≡ cond (same_key key k) (Some (grown (found old key) amount)) (found old k)) → IsSmall amount → is_none (found old key) ≡ false → IsFiledBook new keys
 book_known old new keys key amount b g put small known = record {
   filing = g;
@@ -127,7 +127,7 @@ pub joins : (ss : List Sensitivity) (key : FactorKey) (amount : ℤ) → AreSmal
 joins ss key amount all small room =
     grows (net ss key) (size_of ss key) amount (count_of ss key) (net_size ss key all) (size_size ss key all) small (omega (arith, count_below ss key, room))
 
-pub can_join : (filed : List (Place × List (FactorKey × Holding))) (keys : ℕ) (key : FactorKey) (amount : ℤ) → IsFiledBook filed keys → HasRoomFor (one_of key amount ∷ []) (gathered filed) → IsSmall amount
+pub can_join : (filed : List (Address × List (FactorKey × Holding))) (keys : ℕ) (key : FactorKey) (amount : ℤ) → IsFiledBook filed keys → HasRoomFor (one_of key amount ∷ []) (gathered filed) → IsSmall amount
     → IfSome (found filed key) (λ had. CanJoin had (first amount))
 can_join filed keys key amount b room small =
     let own = b.netted in
@@ -140,7 +140,7 @@ can_join filed keys key amount b room small =
     (omega (arith, counts, count_below room.held key, room.few)))
 
 -- there are no more keys than sensitivities
-pub keys_below : (filed : List (Place × List (FactorKey × Holding))) (keys : ℕ) (more : List Sensitivity) → IsFiledBook filed keys → HasRoomFor more (gathered filed) → keys + length more < 2 ^ 32
+pub keys_below : (filed : List (Address × List (FactorKey × Holding))) (keys : ℕ) (more : List Sensitivity) → IsFiledBook filed keys → HasRoomFor more (gathered filed) → keys + length more < 2 ^ 32
 keys_below filed keys more b room = omega (arith, b.counted, ap length room.are, length-factors room.held, room.few)
   where
     length-factors : (ss : List Sensitivity) → length (factors_in ss) ≤ length ss
@@ -155,14 +155,14 @@ shrinks n s (suc c) net size some = record { net = net; size = size; some = some
 count_own : (s : Sensitivity) (rest : List Sensitivity) → count_of (s ∷ rest) s.key ≡ suc (count_of rest s.key)
 count_own s rest = ap (λ t. length (cond t (s ∷ of_key s.key rest) (of_key s.key rest))) (same_key_refl s.key)
 
-pub can_shrink : (filed : List (Place × List (FactorKey × Holding))) (keys : ℕ) (key : FactorKey) (amount : ℤ) → IsFiledBook filed keys → Holds (one_of key amount ∷ []) (gathered filed) → IsSomeAnd (found filed key) CanShrink
+pub can_shrink : (filed : List (Address × List (FactorKey × Holding))) (keys : ℕ) (key : FactorKey) (amount : ℤ) → IsFiledBook filed keys → Holds (one_of key amount ∷ []) (gathered filed) → IsSomeAnd (found filed key) CanShrink
 can_shrink filed keys key amount b h =
     let all : List Sensitivity = one_of key amount ∷ h.others in
     let here : found filed key ≡ come_to all key = found-from filed all b.filing h.are key in
     subst (λ (o : Option Holding). IsSomeAnd o CanShrink) (sym here)
     (shrinks (net all key) (size_of all key) (count_of all key) (net_size all key h.amounts) (size_size all key h.amounts) (omega (arith, count_own (one_of key amount) h.others)))
 
-module _ (old new : List (Place × List (FactorKey × Holding))) (key : FactorKey) (amount : ℤ) (f : AreFiled old) (g : AreFiled new)
+module _ (old new : List (Address × List (FactorKey × Holding))) (key : FactorKey) (amount : ℤ) (f : AreFiled old) (g : AreFiled new)
     (put : (k : FactorKey) → found new k ≡ cond (same_key key k) (shrunk (found old key) amount) (found old k)) where
   pub taken : (rest : List Sensitivity) → gathered old ≡ factors_in (one_of key amount ∷ rest) → gathered new ≡ factors_in rest
   taken rest e =
@@ -198,7 +198,7 @@ module _ (old new : List (Place × List (FactorKey × Holding))) (key : FactorKe
       gone : found new key ≡ None
       gone = put key ∙ ap (λ t. cond t (shrunk (found old key) amount) (found old key)) (same_key_refl key) ∙ none
 
-pub book_kept : (old new : List (Place × List (FactorKey × Holding))) (keys : ℕ) (key : FactorKey) (amount : ℤ) → IsFiledBook old keys → AreFiled new
+pub book_kept : (old new : List (Address × List (FactorKey × Holding))) (keys : ℕ) (key : FactorKey) (amount : ℤ) → IsFiledBook old keys → AreFiled new
     → ((k : FactorKey) → found new k ≡ cond (same_key key k) (shrunk (found old key) amount) (found old k)) → Holds (one_of key amount ∷ []) (gathered old)
     → IsSomeAnd (found old key) CanShrink → is_none (shrunk (found old key) amount) ≡ false → IsFiledBook new keys
 book_kept old new keys key amount b g put h held known = record {
@@ -215,7 +215,7 @@ pub some_is : (o : Option Holding) → is_none o ≡ false → IsSome o
 some_is None e = absurd (false≢true (sym e))
 some_is (Some h) e = refl
 
-pub book_gone : (old new : List (Place × List (FactorKey × Holding))) (keys : ℕ) (key : FactorKey) (amount : ℤ) → IsFiledBook old keys → AreFiled new
+pub book_gone : (old new : List (Address × List (FactorKey × Holding))) (keys : ℕ) (key : FactorKey) (amount : ℤ) → IsFiledBook old keys → AreFiled new
     → ((k : FactorKey) → found new k ≡ cond (same_key key k) (shrunk (found old key) amount) (found old k))
     → IsSomeAnd (found old key) CanShrink → is_none (shrunk (found old key) amount) ≡ true → keys ≡ length (gathered new) + 1
 book_gone old new keys key amount b g put held gone =

@@ -17,11 +17,11 @@ use Rattle.factor_book.specs.declared.holding.Holding.{Holding}
 use Rattle.factor_book.specs.declared.place.Place.{Place}
 use Rattle.factor_book.specs.Factors.{factor_of, factors_in, count_of, IsWithout}
 use Rattle.factor_book.specs.Holdings.{rows_in, goes}
-use Rattle.factor_book.specs.Places.{stands_at, factors_at, by_place}
+use Rattle.factor_book.specs.Places.{Lent, stands_at, factors_at, by_place}
 use Rattle.factor_book.proofs.Keys.{one_key}
 use Rattle.factor_book.proofs.Sorting.{same_items, different_ascends}
 use Rattle.factor_book.proofs.Held.{count-append, rows_in-come_to, lookup-factors, there}
-use Rattle.factor_book.proofs.Filed.{all_places}
+use Rattle.factor_book.proofs.Placed.{all_places}
 use Rattle.factor_book.proofs.Rows.{sensitivities-append}
 
 -- ---- lists
@@ -153,21 +153,21 @@ module _ (factors leaving left : List (FactorKey × Holding)) (w : IsWithout fac
 -- ---- the loops
 
 -- the keys of each place
-by_places : (test : FactorKey × Holding → Bool) (factors : List (FactorKey × Holding)) → count_by test (flat_map (λ e. e.1) (by_place factors)) ≡ count_by test factors
-by_places test factors = sum_by-IsPermutation (λ f. cond (test f) 1 0) factors (flat_map (λ e. e.1) (by_place factors)) (all_places factors)
+by_places : (test : FactorKey × Holding → Bool) (factors : List (FactorKey × Holding)) → count_by test (flat_map (λ lent. lent.factors) (by_place factors)) ≡ count_by test factors
+by_places test factors = sum_by-IsPermutation (λ f. cond (test f) 1 0) factors (flat_map (λ lent. lent.factors) (by_place factors)) (all_places factors)
 
 -- one key more, one place more
 pub next_key : {X : Type 0} (test : X → Bool) (left rest : List X) (x : X) (t : Bool) → left ≡ x ∷ rest → test x ≡ t → count_by test left ≡ cond t 1 0 + count_by test rest
 next_key test left rest x t e f = ap (count_by test) e ∙ sum_by-cons (λ y. cond (test y) 1 0) x rest ∙ ap (λ b. cond b 1 0 + count_by test rest) f
 
-pub next_place : (test : FactorKey × Holding → Bool) (left rest : List (Place × List (FactorKey × Holding))) (e : Place × List (FactorKey × Holding)) → left ≡ e ∷ rest
-    → count_by test (flat_map (λ x. x.1) left) ≡ count_by test e.1 + count_by test (flat_map (λ x. x.1) rest)
-next_place test left rest e is = ap (λ es. count_by test (flat_map (λ x. x.1) es)) is ∙ sum_by-append (λ y. cond (test y) 1 0) e.1 (flat_map (λ x. x.1) rest)
+pub next_place : (test : FactorKey × Holding → Bool) (left rest : List Lent) (e : Lent) → left ≡ e ∷ rest
+    → count_by test (flat_map (λ lent. lent.factors) left) ≡ count_by test e.factors + count_by test (flat_map (λ lent. lent.factors) rest)
+next_place test left rest e is = ap (λ es. count_by test (flat_map (λ lent. lent.factors) es)) is ∙ sum_by-append (λ y. cond (test y) 1 0) e.factors (flat_map (λ lent. lent.factors) rest)
 
 -- all places, none
-pub first_places : (test : FactorKey × Holding → Bool) (factors : List (FactorKey × Holding)) (es : List (Place × List (FactorKey × Holding))) → es ≡ by_place factors
-    → count_by test (flat_map (λ x. x.1) es) ≡ count_by test factors
-first_places test factors es e = ap (λ xs. count_by test (flat_map (λ x. x.1) xs)) e ∙ by_places test factors
+pub first_places : (test : FactorKey × Holding → Bool) (factors : List (FactorKey × Holding)) (es : List Lent) → es ≡ by_place factors
+    → count_by test (flat_map (λ lent. lent.factors) es) ≡ count_by test factors
+first_places test factors es e = ap (λ xs. count_by test (flat_map (λ lent. lent.factors) xs)) e ∙ by_places test factors
 
-pub no_places : (test : FactorKey × Holding → Bool) (es : List (Place × List (FactorKey × Holding))) → es ≡ [] → count_by test (flat_map (λ x. x.1) es) ≡ 0
-no_places test es e = ap (λ xs. count_by test (flat_map (λ x. x.1) xs)) e
+pub no_places : (test : FactorKey × Holding → Bool) (es : List Lent) → es ≡ [] → count_by test (flat_map (λ lent. lent.factors) es) ≡ 0
+no_places test es e = ap (λ xs. count_by test (flat_map (λ lent. lent.factors) xs)) e

@@ -11,15 +11,17 @@ use Rattle.simm_rules.specs.SimmKinds.Batch.{is_in_range}
 use Rattle.simm_rules.specs.SimmKinds.Order.{same_key}
 use Rattle.simm_rules.specs.Net.{Sensitivity, sensitivity, sensitivities}
 use Rattle.factor_book.specs.declared.holding.Holding.{Holding}
-use Rattle.factor_book.specs.declared.place.Place.{Place}
+use Rattle.factor_book.specs.declared.address.Address.{Address}
 use Rattle.factor_book.specs.Factors.{factors_of}
 use Rattle.factor_book.specs.Holdings.{first, joined, IsSmall, CanJoin}
-use Rattle.factor_book.specs.Filing.{AreFiled, AreSmall, IsFiledBook, gathered, found}
+use Rattle.factor_book.specs.Places.{Lent}
+use Rattle.factor_book.specs.Filing.{AreFiled, AreSmall, IsFiledBook, gathered, found, AreAddressed, factors_by}
 use Rattle.factor_book.specs.Netting.{lent_factors, AreNets, AreNetsOf, IsNetting, HasNetRoom, HasNetRoomFor}
 use Rattle.factor_book.proofs.Keys.{same_key_sym, one_key}
 use Rattle.factor_book.proofs.Sorting.{one_unless}
 use Rattle.factor_book.proofs.Held.{come_to, come_to-more, swapped, lookup-factors}
 use Rattle.factor_book.proofs.Filed.{lookup-none_before, lookup-none_after, gathered-from, empty_filed, count_written}
+use Rattle.factor_book.proofs.Placed.{none_addressed}
 use Rattle.factor_book.proofs.Books.{one_of, small-append, joins}
 use Rattle.factor_book.proofs.Rows.{sensitivities-append, small_rows, front_small, length-sensitivities}
 
@@ -118,7 +120,7 @@ apart (e ∷ es) key rest d =
     ∙ apart es key rest d.1
 
 -- one key more was filed
-pub filed_more : (old new : List (Place × List (FactorKey × Holding))) (done : List (FactorKey × Holding)) (key : FactorKey) (h : Holding) → lookup (same_key key) done ≡ None
+pub filed_more : (old new : List (Address × List (FactorKey × Holding))) (done : List (FactorKey × Holding)) (key : FactorKey) (h : Holding) → lookup (same_key key) done ≡ None
     → ((k : FactorKey) → found old k ≡ lookup (same_key k) done)
     → ((k : FactorKey) → found new k ≡ cond (same_key key k) (Some (joined (found old key) h)) (found old k))
     → (k : FactorKey) → found new k ≡ lookup (same_key k) (done ++ (key, h) ∷ [])
@@ -134,7 +136,7 @@ filed_more old new done key h none before put k =
     by false e = sym (lookup-none_after (same_key k) done ((key, h) ∷ []) (ap (λ t. cond t (Some h) None) (same_key_sym k key ∙ e)))
 
 -- and there is one more
-pub counted_more : (old new : List (Place × List (FactorKey × Holding))) (done : List (FactorKey × Holding)) (key : FactorKey) (h : Holding) → lookup (same_key key) done ≡ None → AreFiled old → AreFiled new
+pub counted_more : (old new : List (Address × List (FactorKey × Holding))) (done : List (FactorKey × Holding)) (key : FactorKey) (h : Holding) → lookup (same_key key) done ≡ None → AreFiled old → AreFiled new
     → ((k : FactorKey) → found old k ≡ lookup (same_key k) done)
     → ((k : FactorKey) → found new k ≡ cond (same_key key k) (Some (joined (found old key) h)) (found old k))
     → length (gathered old) ≡ length done → length (gathered new) ≡ length (done ++ (key, h) ∷ [])
@@ -149,12 +151,17 @@ counted_more old new done key h none f g before put counted =
     )
 
 -- the first of the nets are filed, and no others
-pub record AreFront (filed : List (Place × List (FactorKey × Holding))) (done : List (FactorKey × Holding)) : Type 0 where
+pub record AreFront (filed : List (Address × List (FactorKey × Holding))) (done : List (FactorKey × Holding)) : Type 0 where
   pub filing : AreFiled filed
   pub found : (k : FactorKey) → found filed k ≡ lookup (same_key k) done
   pub counted : length (gathered filed) ≡ length done
 
-pub front_filed : (old new : List (Place × List (FactorKey × Holding))) (done : List (FactorKey × Holding)) (key : FactorKey) (h : Holding) (rest : List FactorKey) → IsDistinct same_key (keys_of done ++ key ∷ rest)
+-- and each place is filed at its address
+pub record IsFront (filed : List (Address × Lent)) (done : List (FactorKey × Holding)) : Type 0 where
+  pub front : AreFront (factors_by filed) done
+  pub addressed : AreAddressed filed
+
+pub front_filed : (old new : List (Address × List (FactorKey × Holding))) (done : List (FactorKey × Holding)) (key : FactorKey) (h : Holding) (rest : List FactorKey) → IsDistinct same_key (keys_of done ++ key ∷ rest)
     → AreFront old done → AreFiled new → ((k : FactorKey) → found new k ≡ cond (same_key key k) (Some (joined (found old key) h)) (found old k)) → AreFront new (done ++ (key, h) ∷ [])
 front_filed old new done key h rest d f g put =
     let none = apart done key rest d in
@@ -165,12 +172,15 @@ front_filed old new done key h rest d f g put =
     }
 
 -- none are filed yet
-pub empty_front : (filed : List (Place × List (FactorKey × Holding))) → filed ≡ [] → AreFront filed []
+pub empty_front : (filed : List (Address × List (FactorKey × Holding))) → filed ≡ [] → AreFront filed []
 empty_front filed e = record {
   filing = empty_filed filed e;
   found = λ k. ap (λ f. found f k) e;
   counted = ap (λ f. length (gathered f)) e;
 }
+
+pub front_of_none : (filed : List (Address × Lent)) → filed ≡ [] → IsFront filed []
+front_of_none filed e = record { front = empty_front (factors_by filed) (ap factors_by e); addressed = none_addressed filed e }
 
 lent_more : (done : List (Bor FactorKey × Holding)) (e : Bor FactorKey × Holding) → lent_factors (done ++ e ∷ []) ≡ lent_factors done ++ (e.0.now, e.1) ∷ []
 lent_more [] e = refl
@@ -186,10 +196,10 @@ module _ (entries done left next : List (Bor FactorKey × Holding)) (e : Bor Fac
   lent_apart : IsDistinct same_key (keys_of (lent_factors done) ++ e.0.now ∷ keys_of (lent_factors next))
   lent_apart = subst (IsDistinct same_key) (ap (λ es. keys_of (lent_factors es)) (sym all ∙ ap (λ es. done ++ es) more) ∙ split_keys done next e) d
 
-  pub next_absent : (filed : List (Place × List (FactorKey × Holding))) → AreFront filed (lent_factors done) → found filed e.0.now ≡ None
+  pub next_absent : (filed : List (Address × List (FactorKey × Holding))) → AreFront filed (lent_factors done) → found filed e.0.now ≡ None
   next_absent filed f = f.found e.0.now ∙ apart (lent_factors done) e.0.now (keys_of (lent_factors next)) lent_apart
 
-  pub next_filed : (old new : List (Place × List (FactorKey × Holding))) → AreFront old (lent_factors done) → AreFiled new
+  pub next_filed : (old new : List (Address × List (FactorKey × Holding))) → AreFront old (lent_factors done) → AreFiled new
       → ((k : FactorKey) → found new k ≡ cond (same_key e.0.now k) (Some (joined (found old e.0.now) e.1)) (found old k))
       → (now : List (Bor FactorKey × Holding)) × (now ++ next ≡ entries) × AreFront new (lent_factors now)
   next_filed old new f g put = (
@@ -199,18 +209,18 @@ module _ (entries done left next : List (Bor FactorKey × Holding)) (e : Bor Fac
   )
 
 -- all are filed where none is left
-pub all_filed : (filed : List (Place × List (FactorKey × Holding))) (entries done left : List (Bor FactorKey × Holding)) → done ++ left ≡ entries → left ≡ [] → AreFront filed (lent_factors done) → AreFront filed (lent_factors entries)
+pub all_filed : (filed : List (Address × List (FactorKey × Holding))) (entries done left : List (Bor FactorKey × Holding)) → done ++ left ≡ entries → left ≡ [] → AreFront filed (lent_factors done) → AreFront filed (lent_factors entries)
 all_filed filed entries done left all none f =
     subst (λ (es : List (Bor FactorKey × Holding)). AreFront filed (lent_factors es)) (sym (append-nil done) ∙ ap (λ es. done ++ es) (sym none) ∙ all) f
 
 -- ---- the book
 
 -- what is filed of nets is the book of their rows
-pub filed_book : (filed : List (Place × List (FactorKey × Holding))) (nets : List (FactorKey × Holding)) (rows : List CrifRow) → AreFiled filed → ((k : FactorKey) → found filed k ≡ lookup (same_key k) nets)
+pub filed_book : (filed : List (Address × List (FactorKey × Holding))) (nets : List (FactorKey × Holding)) (rows : List CrifRow) → AreFiled filed → ((k : FactorKey) → found filed k ≡ lookup (same_key k) nets)
     → AreNets rows nets → gathered filed ≡ factors_of rows
 filed_book filed nets rows f same are = gathered-from filed (sensitivities rows) f (λ k. same k ∙ are k ∙ lookup-factors (sensitivities rows) k)
 
-pub filed_is_book : (filed : List (Place × List (FactorKey × Holding))) (nets : List (FactorKey × Holding)) (keys : ℕ) → IsNetting nets → AreFiled filed → ((k : FactorKey) → found filed k ≡ lookup (same_key k) nets)
+pub filed_is_book : (filed : List (Address × List (FactorKey × Holding))) (nets : List (FactorKey × Holding)) (keys : ℕ) → IsNetting nets → AreFiled filed → ((k : FactorKey) → found filed k ≡ lookup (same_key k) nets)
     → length (gathered filed) ≡ length nets → keys ≡ length nets → IsFiledBook filed keys
 filed_is_book filed nets keys n f same counted len = record {
   filing = f;

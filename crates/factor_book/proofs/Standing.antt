@@ -1,157 +1,134 @@
--- Places: their order, and that places that compare alike are one.
-use Rattle.std.proofs.Common.{◌≡◌, ℕ, Bool, true, false, ◌&&◌, cond, List, Option, refl, sym, ap, ◌∙◌, subst, arith}
-use Rattle.std.specs.declared.cmp.Ordering.{Ordering}
-use Rattle.std.specs.declared.cmp.Ordering.TheVariants.{Less, Equal, Greater}
-use Rattle.std.specs.Ordering.{nat_cmp, ordering_then, is_eq}
-use Rattle.std.specs.List.Sorted.{IsStrictlySortedBy}
-use Rattle.std.specs.Map.{lookup, keys_of}
-use Rattle.std.specs.BTreeMap.{is_at}
+-- Places: those that are sorted alike are one, and which keys stand at them.
+use Rattle.std.proofs.Common.{◌≡◌, true, Option, Some, None, refl, sym, ap, ◌∙◌}
+use Rattle.std.specs.Prelude.{option_map}
+use Rattle.std.specs.declared.cmp.Ordering.TheVariants.{Equal}
+use Rattle.std.specs.Ordering.{is_eq}
+use Rattle.std.specs.Option.{unwrap_or}
 use Rattle.std.specs.Cmp.{IsTotalOrder}
-use Rattle.std.specs.Prelude.{◌==◌}
-use Rattle.std.proofs.lemmas.Bool.Decides.{nat_tests}
-use Rattle.std.proofs.lemmas.Cmp.{nat_cmp_total, nat_list_cmp_total, eq_by_cmp_equiv, on_total, then_total, tied_itself, alike_right}
-use Rattle.std.proofs.lemmas.Map.Lookups.{CmpEqualImpliesEq, exact_unsigned, exact_bytes}
-use Rattle.simm_rules.specs.SimmKinds.contracts.kinds.ProductClass as product_type
-use Rattle.simm_rules.specs.SimmKinds.contracts.kinds.RiskClass as class_type
-use Rattle.simm_rules.specs.SimmKinds.declared.key.FactorKey.{FactorKey}
+use Rattle.std.proofs.lemmas.Cmp.{on_total}
+use Rattle.std.proofs.lemmas.Map.Lookups.{CmpEqualImpliesEq}
+use Rattle.simm_rules.specs.SimmKinds.declared.kinds.ProductClass.{ProductClass}
+use Rattle.simm_rules.specs.SimmKinds.declared.kinds.RiskClass.{RiskClass}
+use Rattle.simm_rules.specs.SimmKinds.declared.kinds.RiskClass.TheVariants as class
 use Rattle.simm_rules.specs.SimmKinds.declared.kinds.BucketId.{BucketId}
 use Rattle.simm_rules.specs.SimmKinds.declared.kinds.BucketId.TheVariants as id
+use Rattle.simm_rules.specs.SimmKinds.declared.bucket.Bucket.TheVariants as bucket
+use Rattle.simm_rules.specs.SimmKinds.declared.factor.Factor.{Factor}
+use Rattle.simm_rules.specs.SimmKinds.declared.factor.Factor.TheVariants as factor
+use Rattle.simm_rules.specs.SimmKinds.declared.key.FactorKey.{FactorKey}
 use Rattle.simm_rules.specs.SimmKinds.Factors.{class_of, side_of, bucket_of}
-use Rattle.simm_rules.specs.SimmKinds.Order.{product_place, class_place, bucket_id_numbers, bucket_id_cmp, same_product, same_class, same_bucket_id}
-use Rattle.simm_rules.proofs.SimmKinds.Variants.{by_variant}
-use Rattle.simm_rules.proofs.SimmKinds.Orders.{product_cmp, class_cmp, one_product, one_class, derived_id_cmp, bucket_id_cmp_is}
-use Rattle.factor_book.specs.contracts.place.BookSide as side_type
+use Rattle.simm_rules.specs.declared.classes.CreditClass.TheVariants as credit
+use Rattle.simm_rules.specs.declared.classes.PricedClass.TheVariants as priced
+use Rattle.simm_rules.specs.Risks.{risk}
+use Rattle.factor_book.specs.declared.address.Address.{Address}
 use Rattle.factor_book.specs.declared.place.BookSide.{BookSide}
 use Rattle.factor_book.specs.declared.place.BookSide.TheVariants as book
 use Rattle.factor_book.specs.declared.place.Place.{Place}
-use Rattle.factor_book.specs.declared.holding.Holding.{Holding}
-use Rattle.factor_book.specs.contracts.place.PlaceOrd.TheImpl as place_order
-use Rattle.factor_book.specs.Place.{book_side, place_of, book_side_place, place_cmp}
-use Rattle.factor_book.specs.Places.{same_side, stands_at}
+use Rattle.factor_book.specs.declared.place.Stand.{Stand}
+use Rattle.factor_book.specs.declared.place.Stand.TheVariants as stand
+use Rattle.factor_book.specs.declared.slot.Slot.TheVariants as slot
+use Rattle.factor_book.specs.Address.{book_side, key_address, address_cmp}
+use Rattle.factor_book.specs.Place.{stand_of, place_of, stand_class, stand_side, stand_bucket, address_of, place_cmp, rates_slot, credit_slot, priced_slot, exchange_slot, slot_named}
+use Rattle.factor_book.specs.Places.{stands_at}
 use Rattle.factor_book.proofs.Keys.{is_eq-Equal}
+use Rattle.factor_book.proofs.Addresses.{address_total, exact_addresses, own_address, tied_address, at_address}
 
--- ---- the derived order is that of specs/
+-- ---- no two places have one address
 
-side_cmp : (a b : BookSide) → by_variant side_type.enum a b ≡ nat_cmp (book_side_place a) (book_side_place b)
-side_cmp book.Delta book.Delta = refl
-side_cmp book.Delta book.Volatility = refl
-side_cmp book.Volatility book.Delta = refl
-side_cmp book.Volatility book.Volatility = refl
+qualifying_named : BucketId → Option Stand
+qualifying_named (id.Number n) = Some (stand.Delta (slot.Credit credit.Qualifying (bucket.Number n)))
+qualifying_named id.Residual = Some (stand.Delta (slot.Credit credit.Qualifying bucket.Residual))
+qualifying_named (id.Currency currency) = None
+qualifying_named id.Single = Some stand.BaseCorrelation
 
-derived_place_cmp : Place → Place → Ordering
-derived_place_cmp p q =
-    ordering_then (by_variant product_type.enum p.product q.product)
-    (ordering_then (by_variant class_type.enum p.class q.class)
-    (ordering_then (by_variant side_type.enum p.side q.side)
-    (derived_id_cmp p.bucket q.bucket)))
+delta_named : RiskClass → BucketId → Option Stand
+delta_named class.IR b = option_map stand.Delta (rates_slot b)
+delta_named class.CreditQ b = qualifying_named b
+delta_named class.CreditNonQ b = option_map stand.Delta (credit_slot credit.NonQualifying b)
+delta_named class.Equity b = option_map stand.Delta (priced_slot priced.Equities b)
+delta_named class.Commodity b = option_map stand.Delta (priced_slot priced.Commodities b)
+delta_named class.FX b = option_map stand.Delta (exchange_slot b)
 
-place_cmp_is : (p q : Place) → (place_order.cmp-value).it p q ≡ place_cmp p q
-place_cmp_is p q = λ i.
-    ordering_then (product_cmp p.product q.product i)
-    (ordering_then (class_cmp p.class q.class i)
-    (ordering_then (side_cmp p.side q.side i)
-    (bucket_id_cmp_is p.bucket q.bucket i)))
+-- what stands at an address
+named : RiskClass → BookSide → BucketId → Option Stand
+named c book.Delta b = delta_named c b
+named c book.Volatility b = option_map stand.Volatility (slot_named c b)
 
-pub derived_places : (place_order.cmp-value).it ≡ place_cmp
-derived_places = λ i p q. place_cmp_is p q i
+abbrev IsNamed : Stand → Type 0
+IsNamed s = named (stand_class s) (stand_side s) (stand_bucket s) ≡ Some s
 
-pub place_total : IsTotalOrder place_cmp
-place_total =
-    then_total (on_total (λ p. product_place p.product) nat_cmp_total)
-    (then_total (on_total (λ p. class_place p.class) nat_cmp_total)
-    (then_total (on_total (λ p. book_side_place p.side) nat_cmp_total)
-    (on_total (λ p. bucket_id_numbers p.bucket) nat_list_cmp_total)))
+read_back : (s : Stand) → IsNamed s
+unfolding named delta_named qualifying_named
+read_back (stand.Delta (slot.Rates currency)) = refl
+read_back (stand.Delta (slot.Credit credit.Qualifying (bucket.Number n))) = refl
+read_back (stand.Delta (slot.Credit credit.Qualifying bucket.Residual)) = refl
+read_back (stand.Delta (slot.Credit credit.NonQualifying (bucket.Number n))) = refl
+read_back (stand.Delta (slot.Credit credit.NonQualifying bucket.Residual)) = refl
+read_back (stand.Delta (slot.Priced priced.Equities (bucket.Number n))) = refl
+read_back (stand.Delta (slot.Priced priced.Equities bucket.Residual)) = refl
+read_back (stand.Delta (slot.Priced priced.Commodities (bucket.Number n))) = refl
+read_back (stand.Delta (slot.Priced priced.Commodities bucket.Residual)) = refl
+read_back (stand.Delta slot.Exchange) = refl
+read_back stand.BaseCorrelation = refl
+read_back (stand.Volatility (slot.Rates currency)) = refl
+read_back (stand.Volatility (slot.Credit credit.Qualifying (bucket.Number n))) = refl
+read_back (stand.Volatility (slot.Credit credit.Qualifying bucket.Residual)) = refl
+read_back (stand.Volatility (slot.Credit credit.NonQualifying (bucket.Number n))) = refl
+read_back (stand.Volatility (slot.Credit credit.NonQualifying bucket.Residual)) = refl
+read_back (stand.Volatility (slot.Priced priced.Equities (bucket.Number n))) = refl
+read_back (stand.Volatility (slot.Priced priced.Equities bucket.Residual)) = refl
+read_back (stand.Volatility (slot.Priced priced.Commodities (bucket.Number n))) = refl
+read_back (stand.Volatility (slot.Priced priced.Commodities bucket.Residual)) = refl
+read_back (stand.Volatility slot.Exchange) = refl
 
--- ---- places that compare alike are one
-
-both_Equal : (o p : Ordering) → ordering_then o p ≡ Equal → (o ≡ Equal) × (p ≡ Equal)
-both_Equal Less p e = absurd (cc)
-both_Equal Equal p e = (refl, e)
-both_Equal Greater p e = absurd (cc)
-
--- a bucket is known by its numbers
-one_id : (a b : BucketId) → bucket_id_numbers a ≡ bucket_id_numbers b → a ≡ b
-one_id (id.Number m) (id.Number n) e = cc
-one_id id.Residual id.Residual e = refl
-one_id (id.Currency c) (id.Currency d) e = cc
-one_id id.Single id.Single e = refl
-one_id _ _ e = absurd (cc)
-
-pub exact_ids : CmpEqualImpliesEq bucket_id_cmp
-exact_ids a b e = one_id a b (exact_bytes (bucket_id_numbers a) (bucket_id_numbers b) e)
-
-one_side : (a b : BookSide) → book_side_place a ≡ book_side_place b → a ≡ b
-one_side book.Delta book.Delta e = refl
-one_side book.Delta book.Volatility e = absurd (omega (arith, e))
-one_side book.Volatility book.Delta e = absurd (omega (arith, e))
-one_side book.Volatility book.Volatility e = refl
+pub address_exact : (p q : Place) → address_of p ≡ address_of q → p ≡ q
+address_exact p q e =
+    let both : Some p.stand ≡ Some q.stand = sym (read_back p.stand) ∙ (λ i. named (e i).class (e i).side (e i).bucket) ∙ read_back q.stand in
+    let stand_is : p.stand ≡ q.stand = ap (λ o. unwrap_or o p.stand) both in
+    λ i. record { product = (e i).product; stand = stand_is i }
 
 pub exact_places : CmpEqualImpliesEq place_cmp
-exact_places a b e =
-    let p = both_Equal _ _ e in
-    let c = both_Equal _ _ p.1 in
-    let s = both_Equal _ _ c.1 in
-    let product_is = one_product a.product b.product (exact_unsigned _ _ p.0) in
-    let class_is = one_class a.class b.class (exact_unsigned _ _ c.0) in
-    let side_is = one_side a.side b.side (exact_unsigned _ _ s.0) in
-    let bucket_is = exact_ids a.bucket b.bucket s.1 in
-    λ i. record { product = product_is i; class = class_is i; side = side_is i; bucket = bucket_is i }
+exact_places p q e = address_exact p q (exact_addresses (address_of p) (address_of q) e)
+
+pub place_total : IsTotalOrder place_cmp
+place_total = on_total address_of address_total
 
 pub one_place : (p q : Place) → is_eq (place_cmp p q) ≡ true → p ≡ q
 one_place p q e = exact_places p q (is_eq-Equal (place_cmp p q) e)
 
 pub own_place : (p : Place) → is_eq (place_cmp p p) ≡ true
-own_place p = ap is_eq (tied_itself place_total p)
+own_place p = own_address (address_of p)
 
 pub tied_place : (q p r : Place) → place_cmp p r ≡ Equal → is_eq (place_cmp q p) ≡ is_eq (place_cmp q r)
-tied_place q p r e = ap is_eq (alike_right place_total p r q e)
+tied_place q p r e = tied_address (address_of q) (address_of p) (address_of r) e
+
+-- ---- of a key
+
+abbrev address_by : ProductClass → Factor → Address
+address_by c f = record { product = c; class = class_of f; side = book_side (side_of f); bucket = bucket_of f }
+
+filed_by : (c : ProductClass) (f : Factor) → address_of (record { product = c; stand = stand_of (risk f) }) ≡ address_by c f
+filed_by c (factor.IrCurve n t s) = refl
+filed_by c (factor.Inflation n) = refl
+filed_by c (factor.XccyBasis n) = refl
+filed_by c (factor.IrVol n t) = refl
+filed_by c (factor.InflationVol n t) = refl
+filed_by c (factor.CreditQ i b t l) = refl
+filed_by c (factor.CreditVol i b t l) = refl
+filed_by c (factor.CreditNonQ i b t l) = refl
+filed_by c (factor.CreditVolNonQ i b t l) = refl
+filed_by c (factor.BaseCorr i) = refl
+filed_by c (factor.Equity i b) = refl
+filed_by c (factor.EquityVol i b t) = refl
+filed_by c (factor.Commodity n b) = refl
+filed_by c (factor.CommodityVol n b t) = refl
+filed_by c (factor.Fx n) = refl
+filed_by c (factor.FxVol p t) = refl
+
+-- a key is filed under the address of its place
+pub filed_under : (k : FactorKey) → address_of (place_of k) ≡ key_address k
+filed_under k = filed_by k.product k.factor
 
 -- a key stands at a place where the place is the key's
 pub at_place : (p : Place) (k : FactorKey) → stands_at p k ≡ is_eq (place_cmp p (place_of k))
-at_place p k =
-    sym (is_eq-then (nat_cmp (product_place p.product) (product_place k.product)) _
-    ∙ (λ i. same_places (product_place p.product) (product_place k.product) i && is_eq-then (nat_cmp (class_place p.class) (class_place (class_of k.factor))) (ordering_then (nat_cmp (book_side_place p.side) (book_side_place (book_side (side_of k.factor)))) (bucket_id_cmp p.bucket (bucket_of k.factor))) i)
-    ∙ (λ i. same_product k.product p.product && (same_places (class_place p.class) (class_place (class_of k.factor)) i && is_eq-then (nat_cmp (book_side_place p.side) (book_side_place (book_side (side_of k.factor)))) (bucket_id_cmp p.bucket (bucket_of k.factor)) i))
-    ∙ (λ i. same_product k.product p.product && (same_class (class_of k.factor) p.class && (same_sides p.side (book_side (side_of k.factor)) i && same_ids p.bucket (bucket_of k.factor) i)))
-    ∙ grouped_tests (same_product k.product p.product) (same_class (class_of k.factor) p.class) (same_side (book_side (side_of k.factor)) p.side) (same_bucket_id (bucket_of k.factor) p.bucket))
-  where
-    is_eq-then : (a b : Ordering) → is_eq (ordering_then a b) ≡ (is_eq a && is_eq b)
-    is_eq-then Less b = refl
-    is_eq-then Equal b = refl
-    is_eq-then Greater b = refl
-
-    same_places : (m n : ℕ) → is_eq (nat_cmp m n) ≡ (n == m)
-    same_places m n = grind (arith, nat_tests)
-
-    same_sides : (a b : BookSide) → is_eq (nat_cmp (book_side_place a) (book_side_place b)) ≡ same_side b a
-    same_sides book.Delta book.Delta = refl
-    same_sides book.Delta book.Volatility = refl
-    same_sides book.Volatility book.Delta = refl
-    same_sides book.Volatility book.Volatility = refl
-
-    same_ids : (a b : BucketId) → is_eq (bucket_id_cmp a b) ≡ same_bucket_id b a
-    same_ids a b = (eq_by_cmp_equiv (on_total bucket_id_numbers nat_list_cmp_total)).symm a b
-
-    grouped_tests : (s t u v : Bool) → (s && (t && (u && v))) ≡ (s && (t && u) && v)
-    grouped_tests true true u v = refl
-    grouped_tests true false u v = refl
-    grouped_tests false t u v = refl
-
--- ---- the maps by place
-
-pub lookup_place : (q : Place) (es : List (Place × List (FactorKey × Holding))) → lookup (is_at ((place_order.cmp-value).it q)) es ≡ lookup (is_at (place_cmp q)) es
-lookup_place q es = ap (λ (R : Place → Place → Ordering). lookup (is_at (R q)) es) derived_places
-
--- what was found at an equal place
-pub found_place : (es : List (Place × List (FactorKey × Holding))) (p r : Place) (o : Option (List (FactorKey × Holding))) → p ≡ r → o ≡ lookup (is_at ((place_order.cmp-value).it p)) es → o ≡ lookup (is_at (place_cmp r)) es
-found_place es p r o same e = e ∙ lookup_place p es ∙ ap (λ q. lookup (is_at (place_cmp q)) es) same
-
-pub updated_place : (old new : List (Place × List (FactorKey × Holding))) (p r : Place) (w : Option (List (FactorKey × Holding))) → p ≡ r
-    → ((q : Place) → lookup (is_at ((place_order.cmp-value).it q)) new ≡ cond (is_at ((place_order.cmp-value).it p) q) w (lookup (is_at ((place_order.cmp-value).it q)) old))
-    → (q : Place) → lookup (is_at (place_cmp q)) new ≡ cond (is_at (place_cmp r) q) w (lookup (is_at (place_cmp q)) old)
-updated_place old new p r w e h =
-    subst (λ (s : Place). (q : Place) → lookup (is_at (place_cmp q)) new ≡ cond (is_at (place_cmp s) q) w (lookup (is_at (place_cmp q)) old)) e
-    (subst (λ (R : Place → Place → Ordering). (q : Place) → lookup (is_at (R q)) new ≡ cond (is_at (R p) q) w (lookup (is_at (R q)) old)) derived_places h)
-
-pub ordered_places : (es : List (Place × List (FactorKey × Holding))) → IsStrictlySortedBy (place_order.cmp-value).it (keys_of es) → IsStrictlySortedBy place_cmp (keys_of es)
-ordered_places es h = subst (λ (R : Place → Place → Ordering). IsStrictlySortedBy R (keys_of es)) derived_places h
+at_place p k = at_address (address_of p) k ∙ ap (λ a. is_eq (address_cmp (address_of p) a)) (sym (filed_under k))

@@ -1,6 +1,8 @@
+pub mod Address
 pub mod Place
 pub mod Factors
 pub mod Places
+pub mod Value
 pub mod Holdings
 pub mod Filing
 pub mod Netting

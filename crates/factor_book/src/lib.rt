@@ -1,8 +1,9 @@
-//! The factor book: the one place where rows net. It keeps, as rows come and go, the net sensitivity to each risk factor of
-//! the rows that it holds, their gross size and their number, and lends them place by place.
+//! The factor book: the one place where rows net. It keeps, as rows come and go, the net
+//! sensitivity to each risk factor of the rows that it holds, their gross size and their number,
+//! and lends them place by place.
 #![tactic(auto)]
 
-mod at;
+mod address;
 mod factors;
 mod filing;
 mod holding;
@@ -11,15 +12,19 @@ mod netted_rows;
 mod place;
 mod place_factors;
 mod side_places;
+mod slot;
+mod value;
 mod without;
 
-pub use at::{BucketAt, ClassAt, SideAt};
+pub use address::Address;
 pub use factors::Factors;
 pub use holding::Holding;
 pub use laws::{factors_are_netted, order_is_free};
 pub use netted_rows::NettedRows;
-pub use place::{BookSide, Place};
+pub use place::{BookSide, Place, Stand};
 pub use place_factors::PlaceFactors;
+pub use slot::Slot;
+pub use value::{PlaceValue, VolatilityMargins, measures_of};
 
 // what the crates above reach through this one
 pub use simm_rules;

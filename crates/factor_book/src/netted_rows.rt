@@ -1,4 +1,4 @@
-ghost use Rattle.std.specs.Prelude.{◌≡◌, ◌++◌, List, [], length, true, IsTrue, IfSome, IfOk, OnOk, ◌↔◌};
+ghost use Rattle.std.specs.Prelude.{◌≡◌, ◌++◌, List, [], length, true, IfSome, IfOk, OnOk};
 ghost use Rattle.std.specs.List.{list_all};
 ghost use Rattle.std.specs.Map.{lookup};
 ghost use Rattle.simm_rules.specs.SimmKinds.declared.key.FactorKey.{FactorKey};
@@ -7,12 +7,12 @@ ghost use Rattle.simm_rules.specs.SimmKinds.Batch.{is_in_range};
 ghost use Rattle.simm_rules.specs.SimmKinds.Order.{same_key};
 ghost use Rattle.simm_rules.specs.Net.{Sensitivity, sensitivity};
 ghost use Rattle.factor_book.specs.Holdings.{CanJoin, IsSmall, first, with_others};
-ghost use Rattle.factor_book.specs.Filing.{AreFiled, AreSmall, gathered, found};
+ghost use Rattle.factor_book.specs.Filing.{ArePlaced, AreSmall, factors_by, gathered, found};
 ghost use Rattle.factor_book.specs.Netting.{AreNets, AreNetsOf, HasNetRoom, HasNetRoomFor};
 
+use crate::address::Address;
 use crate::filing::add_at_place;
 use crate::holding::Holding;
-use crate::place::Place;
 use crate::place_factors::PlaceFactors;
 use indexmap::IndexMap;
 use simm_rules::mh_units::Cents;
@@ -23,8 +23,8 @@ use std::marker::Model;
 
 /// What rows come to by themselves, before they come to a book: of each of their keys what the
 /// sensitivities to it come to. Rows that are no sensitivities are of no key. The rows lend their
-/// keys, and each row costs a hash of its key. Contracts see the list of the keys, each with what it
-/// comes to.
+/// keys, and each row costs a hash of its key. Contracts see the list of the keys, each with what
+/// it comes to.
 #[derive(Drop)]
 pub struct NettedRows<'a> {
     by_key: IndexMap<&'a FactorKey, Holding>,
@@ -52,17 +52,10 @@ impl<'a> NettedRows<'a> {
     }
 
     /// How many keys there are. It costs the same however many.
-    pub fn len(&self) -> usize
+    pub(crate) fn len(&self) -> usize
         ensures { result ≡ length self.now }
     {
         self.by_key.len()
-    }
-
-    /// Whether there are none: no row is a sensitivity.
-    pub fn is_empty(&self) -> bool
-        ensures { IsTrue result ↔ (self.now ≡ []) }
-    {
-        self.by_key.is_empty()
     }
 
     /// Nets rows with those so far. Their amounts are those that a batch can have; fewer than 2^32
@@ -79,13 +72,14 @@ impl<'a> NettedRows<'a> {
         Ok(())
     }
 
-    /// Each key is filed at its place, with what its sensitivities come to. The only error is want of
-    /// memory.
-    pub(crate) fn filed(&self, alloc: Global) -> Result<BTreeMap<Place, PlaceFactors>, AllocError>
-        ensures filing { IfOk result (λ filed. AreFiled filed.entries) }
+    /// Each key is filed at its place, with what its sensitivities come to. The only error is want
+    /// of memory.
+    pub(crate) fn filed(&self, alloc: Global) -> Result<BTreeMap<Address, PlaceFactors>, AllocError>
+        ensures filing { IfOk result (λ filed. ArePlaced filed.entries) }
         ensures found { IfOk result (λ filed.
-            (k : FactorKey) → found filed.entries k ≡ lookup (same_key k) self.now) }
-        ensures counted { IfOk result (λ filed. length (gathered filed.entries) ≡ length self.now) }
+            (k : FactorKey) → found (factors_by filed.entries) k ≡ lookup (same_key k) self.now) }
+        ensures counted { IfOk result (λ filed.
+            length (gathered (factors_by filed.entries)) ≡ length self.now) }
     {
         orders_are_defined();
         let mut filed = BTreeMap::new(alloc);

@@ -6,7 +6,8 @@ use Rattle.factor_book.specs.SimmKinds.Tenors.{tenor_at}
 use Rattle.factor_book.specs.SimmKinds.Order.{same_name}
 use Rattle.factor_book.specs.SimmRules.Params.{CreditBucket, CreditParams}
 use Rattle.factor_book.specs.SimmRules.Sums.{total_by}
-use Rattle.factor_book.specs.SimmRules.Risks.{Amount, CreditClass, CreditPoint}
+use Rattle.factor_book.specs.SimmRules.Risks.{Amount, CreditPoint}
+use Rattle.factor_book.specs.SimmRules.declared.classes.CreditClass.{CreditClass}
 use Rattle.factor_book.specs.SimmRules.Concentration.{one, cr}
 use Rattle.factor_book.specs.SimmRules.Bucket.{concentrated, squared, bucket_value}
 use Rattle.factor_book.specs.SimmRules.Curvature.{curvature_risk, curved}

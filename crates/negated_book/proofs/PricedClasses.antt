@@ -3,7 +3,8 @@ use Rattle.std.proofs.Common.{◌≡◌, List, ℕ, ℤ, pos, if◌then◌else�
 use Rattle.factor_book.specs.SimmKinds.declared.kinds.Tenor.{Tenor}
 use Rattle.factor_book.specs.SimmKinds.Order.{name_cmp, same_name}
 use Rattle.factor_book.specs.SimmRules.Params.{PricedBucket, PricedParams}
-use Rattle.factor_book.specs.SimmRules.Risks.{Amount, PricedClass}
+use Rattle.factor_book.specs.SimmRules.Risks.{Amount}
+use Rattle.factor_book.specs.SimmRules.declared.classes.PricedClass.{PricedClass}
 use Rattle.factor_book.specs.SimmRules.Concentration.{one}
 use Rattle.factor_book.specs.SimmRules.Bucket.{Weighted, concentrated, squared}
 use Rattle.factor_book.specs.SimmRules.Curvature.{curvature_risk, curved}

@@ -14,7 +14,11 @@ use Rattle.factor_book.specs.SimmRules.declared.values.RangeKind.TheVariants as 
 use Rattle.factor_book.specs.SimmRules.Params.{Params, CreditBucket, PricedBucket}
 use Rattle.factor_book.specs.SimmRules.Sums.{total_by, first_some, different}
 use Rattle.factor_book.specs.SimmRules.Net.{Sensitivity, sensitivities, in_product}
-use Rattle.factor_book.specs.SimmRules.Risks.{Risk, CreditClass, Qualifying, Non_qualifying, PricedClass, Equities, Commodities, Amount, select}
+use Rattle.factor_book.specs.SimmRules.Risks.{Risk, Amount, select}
+use Rattle.factor_book.specs.SimmRules.declared.classes.CreditClass.{CreditClass}
+use Rattle.factor_book.specs.SimmRules.declared.classes.CreditClass.TheVariants.{Qualifying, NonQualifying}
+use Rattle.factor_book.specs.SimmRules.declared.classes.PricedClass.{PricedClass}
+use Rattle.factor_book.specs.SimmRules.declared.classes.PricedClass.TheVariants.{Equities, Commodities}
 use Rattle.factor_book.specs.SimmRules.Rates.{as_rate, as_rate_volatility, rate_weight}
 use Rattle.factor_book.specs.SimmRules.Credit.{as_credit, as_credit_volatility, credit_params}
 use Rattle.factor_book.specs.SimmRules.BaseCorrelation.{as_index}
@@ -57,7 +61,7 @@ price_volatility_size-even p class = sizes_of (λ (b : PricedBucket). as_price_v
 pub delta_size-even : (p : Params) (c : RiskClass) → IsEven (λ ss. delta_size p ss c)
 delta_size-even p class.IR ss = size_of as_rate (rate_weight p) ss
 delta_size-even p class.CreditQ ss = λ i. credit_size-even p Qualifying ss i +ℤ size_of as_index (λ index. p.base_weight) ss i
-delta_size-even p class.CreditNonQ ss = credit_size-even p Non_qualifying ss
+delta_size-even p class.CreditNonQ ss = credit_size-even p NonQualifying ss
 delta_size-even p class.Equity ss = price_size-even p Equities ss
 delta_size-even p class.Commodity ss = price_size-even p Commodities ss
 delta_size-even p class.FX ss = size_of as_currency (fx_weight p) ss
@@ -65,7 +69,7 @@ delta_size-even p class.FX ss = size_of as_currency (fx_weight p) ss
 pub vega_size-even : (p : Params) (c : RiskClass) → IsEven (λ ss. vega_size p ss c)
 vega_size-even p class.IR ss = size_of as_rate_volatility (λ v. pos 10000) ss
 vega_size-even p class.CreditQ ss = credit_volatility_size-even p Qualifying ss
-vega_size-even p class.CreditNonQ ss = credit_volatility_size-even p Non_qualifying ss
+vega_size-even p class.CreditNonQ ss = credit_volatility_size-even p NonQualifying ss
 vega_size-even p class.Equity ss = price_volatility_size-even p Equities ss
 vega_size-even p class.Commodity ss = price_volatility_size-even p Commodities ss
 vega_size-even p class.FX ss = size_of as_pair_volatility (λ v. fx_sigma p v.pair) ss

@@ -1,7 +1,9 @@
-//! The margin of a book with all of its sensitivities negated, by the book itself. Each bucket has the same q, k, gross and cr,
-//! and the negated sums; so delta, vega, base correlation, the add-ons and the range are the same, and curvature alone differs.
-//! The functions do nothing: their contracts hand out the laws.
-//! (ISDA SIMM methodology, structure: sensitivities are signed, and the two parties to a trade have the negated ones.)
+//! The margin of a book with all of its sensitivities negated, by the book itself. Each bucket has
+//! the same q, k, gross and cr, and the negated sums; so delta, vega, base correlation, the
+//! add-ons and the range are the same, and curvature alone differs. The functions do nothing:
+//! their contracts hand out the laws.
+//! (ISDA SIMM methodology, structure: sensitivities are signed, and the two parties to a trade
+//! have the negated ones.)
 #![tactic(auto)]
 
 mod base;

@@ -3,4 +3,4 @@ use Rattle.book_range.proofs.gross.gross_sizes.Goals as goal
 
 pub returns : goal.returns
 unfolding sizes_in
-returns c = λ i. record { rates_fx = c.class_sizes.ensures i; credit = c.class_sizes-2.ensures i; equity = c.class_sizes-3.ensures i; commodity = c.class_sizes-4.ensures i }
+returns c = λ i. record { delta = c.side_sizes.ensures i; volatility = c.side_sizes-2.ensures i }

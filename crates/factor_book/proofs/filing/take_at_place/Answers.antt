@@ -1,43 +1,58 @@
-use Rattle.std.proofs.Common.{None}
+use Rattle.std.proofs.Common.{◌≡◌, ◌∙◌, ap, None}
 use Rattle.factor_book.specs.declared.filing.Left.TheVariants as left
-use Rattle.factor_book.specs.Place.{place_of}
-use Rattle.factor_book.proofs.Standing.{updated_place, ordered_places}
+use Rattle.factor_book.specs.Address.{key_address}
+use Rattle.factor_book.specs.Place.{address_of}
+use Rattle.factor_book.specs.Filing.{factors_by}
+use Rattle.factor_book.proofs.Standing.{filed_under}
 use Rattle.factor_book.proofs.Filed.{filed_left, found_left, some_left, filed_dropped, found_dropped}
+use Rattle.factor_book.proofs.Placed.{updated_factors, addressed_update, ordered_factors}
 use Rattle.factor_book.proofs.filing.take_at_place.Goals as goal
 
 pub returns-in-Nothing-clause-filing : goal.returns-in-Nothing-clause-filing
 returns-in-Nothing-clause-filing c =
-    let old = c.args.filed.now.entries in
-    let mid = c.take_filed.new.filed.entries in
+    let old = factors_by c.args.filed.now.entries in
+    let left_there = c.take_filed.new.filed.entries in
     let new = c.remove.new.self.entries in
     let key = c.args.key.now in
-    filed_dropped old mid key c.args.amount.0 left.Nothing c.requires.filing c.in-Nothing.ensures new
-    (updated_place mid new c.of.result (place_of key) None c.of.ensures c.remove.ensures.updates.0) (ordered_places new c.remove.ensures.ordered)
+    let same : c.address.result ≡ key_address key = c.address.ensures ∙ ap address_of c.of.ensures ∙ filed_under key in
+    record {
+      filing = filed_dropped old (factors_by left_there) key c.args.amount.0 left.Nothing c.requires.filing.filing c.in-Nothing.ensures.takes (factors_by new)
+          (updated_factors left_there new c.address.result (key_address key) None same c.remove.ensures.updates.0) (ordered_factors new c.remove.ensures.ordered);
+      addressed = addressed_update left_there new c.address.result (key_address key) None same c.remove.ensures.updates.0 c.in-Nothing.ensures.addressed tt;
+    }
 
 pub returns-in-Nothing-clause-taken : goal.returns-in-Nothing-clause-taken
 returns-in-Nothing-clause-taken c =
-    let old = c.args.filed.now.entries in
-    let mid = c.take_filed.new.filed.entries in
+    let old = factors_by c.args.filed.now.entries in
+    let left_there = c.take_filed.new.filed.entries in
     let new = c.remove.new.self.entries in
     let key = c.args.key.now in
-    found_dropped old mid key c.args.amount.0 left.Nothing c.requires.filing c.in-Nothing.ensures new
-    (updated_place mid new c.of.result (place_of key) None c.of.ensures c.remove.ensures.updates.0) c.in-Nothing.ensures.leaves.1
+    let same : c.address.result ≡ key_address key = c.address.ensures ∙ ap address_of c.of.ensures ∙ filed_under key in
+    found_dropped old (factors_by left_there) key c.args.amount.0 left.Nothing c.requires.filing.filing c.in-Nothing.ensures.takes (factors_by new)
+    (updated_factors left_there new c.address.result (key_address key) None same c.remove.ensures.updates.0) c.in-Nothing.ensures.takes.leaves.1
 
 pub returns-in-Key-clause-filing : goal.returns-in-Key-clause-filing
 returns-in-Key-clause-filing c =
-    let old = c.args.filed.now.entries in
-    let mid = c.take_filed.new.filed.entries in
-    filed_left old mid c.args.key.now c.args.amount.0 left.Key c.requires.filing c.in-Key.ensures
-    (some_left old mid c.args.key.now c.args.amount.0 left.Key c.requires.filing c.in-Key.ensures c.in-Key.ensures.leaves)
+    let old = factors_by c.args.filed.now.entries in
+    let left_there = factors_by c.take_filed.new.filed.entries in
+    record {
+      filing = filed_left old left_there c.args.key.now c.args.amount.0 left.Key c.requires.filing.filing c.in-Key.ensures.takes
+          (some_left old left_there c.args.key.now c.args.amount.0 left.Key c.requires.filing.filing c.in-Key.ensures.takes c.in-Key.ensures.takes.leaves);
+      addressed = c.in-Key.ensures.addressed;
+    }
 
 pub returns-in-Key-clause-taken : goal.returns-in-Key-clause-taken
 returns-in-Key-clause-taken c =
-    found_left c.args.filed.now.entries c.take_filed.new.filed.entries c.args.key.now c.args.amount.0 left.Key c.requires.filing c.in-Key.ensures
+    found_left (factors_by c.args.filed.now.entries) (factors_by c.take_filed.new.filed.entries) c.args.key.now c.args.amount.0 left.Key c.requires.filing.filing c.in-Key.ensures.takes
 
 pub returns-in-Others-clause-filing : goal.returns-in-Others-clause-filing
 returns-in-Others-clause-filing c =
-    filed_left c.args.filed.now.entries c.take_filed.new.filed.entries c.args.key.now c.args.amount.0 left.Others c.requires.filing c.in-Others.ensures c.in-Others.ensures.leaves.1
+    record {
+      filing = filed_left (factors_by c.args.filed.now.entries) (factors_by c.take_filed.new.filed.entries) c.args.key.now c.args.amount.0 left.Others c.requires.filing.filing
+          c.in-Others.ensures.takes c.in-Others.ensures.takes.leaves.1;
+      addressed = c.in-Others.ensures.addressed;
+    }
 
 pub returns-in-Others-clause-taken : goal.returns-in-Others-clause-taken
 returns-in-Others-clause-taken c =
-    found_left c.args.filed.now.entries c.take_filed.new.filed.entries c.args.key.now c.args.amount.0 left.Others c.requires.filing c.in-Others.ensures
+    found_left (factors_by c.args.filed.now.entries) (factors_by c.take_filed.new.filed.entries) c.args.key.now c.args.amount.0 left.Others c.requires.filing.filing c.in-Others.ensures.takes

@@ -1,9 +1,10 @@
 use Rattle.std.proofs.Common.{◌+ℤ◌, ◌∙◌, FitsSigned, Some, None, subst, sym, ap}
 use Rattle.std.specs.Int.{w128}
 use Rattle.std.proofs.lemmas.List.{take_all}
-use Rattle.book_range.specs.Sizes.{size_at, grown, weighed_at}
+use Rattle.factor_book.specs.Place.{stand_class, stand_side}
+use Rattle.book_range.specs.Sizes.{place_part, size_at, weighed_at}
 use Rattle.book_range.proofs.Rated.{weights_low}
-use Rattle.book_range.proofs.Sizing.{Added, added_none, added_more, one_added, nothing_added, passed, added_fits, rows_added, row_in_range}
+use Rattle.book_range.proofs.Sizing.{Added, added_none, added_more, one_added, grown_by, nothing_added, passed, added_fits, rows_added, row_in_range}
 use Rattle.book_range.proofs.sizes.GrossSizes.add_rows.Goals as goal
 use Rattle.book_range.proofs.sizes.GrossSizes.add_rows.Goals.{in-Some, in_default}
 
@@ -18,8 +19,8 @@ grow-requires c =
     let p = c.args.params.now in
     let weighed = c.in-Some.weighed in
     let low = weights_low p c.facts.ensures.params c.facts.ensures.weighed c.rate_facts.ensures.weighed c.credit_facts.ensures c.priced_facts.ensures in
-    subst (λ z. FitsSigned w128 (size_at c.loop-row.self weighed.at +ℤ z)) (sym (passed weighed.size c.in-Some.ensures.bound))
-    (added_fits p low c.args.self.now c.loop-row.self c.args.rows.now weighed.at c.requires.room c.requires.amounts c.loop-row.row-index weighed.size c.loop-row.invariant c.in-Some.ensures.bound)
+    subst (λ z. FitsSigned w128 (place_part c.loop-row.self weighed.place +ℤ z)) (sym (passed weighed.size c.in-Some.ensures.bound))
+    (added_fits p low c.args.self.now c.loop-row.self c.args.rows.now weighed.place.product (stand_class weighed.place.stand) (stand_side weighed.place.stand) c.requires.room c.requires.amounts c.loop-row.row-index weighed.size c.loop-row.invariant c.in-Some.ensures.bound)
 
 pub loop-row-preserved : goal.loop-row-preserved
 loop-row-preserved c =
@@ -27,12 +28,13 @@ loop-row-preserved c =
       | in-Some w ↦
           let weighed = w.in-Some.weighed in
           added_more c.args.params.now c.args.self.now c.loop-row.self c.match-row_size.self c.args.rows.now c.loop-row.row-index c.row-item.result (Some weighed) c.loop-row-test.true c.row-item.is
-          (λ at. ap (λ o. weighed_at o at) (sym w.in-Some.is) ∙ c.row_size.ensures.value at) c.loop-row.invariant
-          (one_added c.loop-row.self c.match-row_size.self weighed (w.self-is ∙ w.grow.ensures ∙ ap (grown c.loop-row.self weighed.at) (passed weighed.size w.in-Some.ensures.bound)))
+          (λ p k on. ap (λ o. weighed_at o p k on) (sym w.in-Some.is) ∙ c.row_size.ensures.value p k on) c.loop-row.invariant
+          (one_added c.loop-row.self c.match-row_size.self weighed (grown_by c.loop-row.self c.match-row_size.self weighed.place _ weighed.size (passed weighed.size w.in-Some.ensures.bound)
+          (λ p k on. ap (λ s. size_at s p k on) w.self-is ∙ w.grow.ensures p k on)))
       | in_default w ↦
           added_more c.args.params.now c.args.self.now c.loop-row.self c.match-row_size.self c.args.rows.now c.loop-row.row-index c.row-item.result None c.loop-row-test.true c.row-item.is
-          (λ at. ap (λ o. weighed_at o at) (sym w.in_default.is) ∙ c.row_size.ensures.value at) c.loop-row.invariant
-          (λ at. ap (λ s. size_at s at) w.self-is ∙ nothing_added c.loop-row.self at)
+          (λ p k on. ap (λ o. weighed_at o p k on) (sym w.in_default.is) ∙ c.row_size.ensures.value p k on) c.loop-row.invariant
+          (λ p k on. ap (λ s. size_at s p k on) w.self-is ∙ nothing_added c.loop-row.self p k on)
     ]
 
 pub returns : goal.returns

@@ -1,5 +1,5 @@
 use Rattle.std.proofs.Common.{◌≡◌, ◌++◌}
 use Rattle.factor_book.proofs.factors.Factors.copy.Given as goal
 
-abbrev pub invariant-loop-place : goal.invariant-loop-place
-invariant-loop-place l = l.by_place.entries ++ l.place-iterator ≡ l.initial.place-iterator
+abbrev pub invariant-loop-address : goal.invariant-loop-address
+invariant-loop-address l = l.by_place.entries ++ l.address-iterator ≡ l.initial.address-iterator

@@ -16,7 +16,7 @@ keys_left-keys-requires c =
     omega (
       arith,
       c.loop-lent.invariant,
-      next_place (goes c.args.self.now) c.loop-lent.lent-iterator c.next.new.self (c.in-Some.field-0-0.now, c.in-Some.lent.now) c.in-Some.ensures.steps,
+      next_place (goes c.args.self.now) c.loop-lent.lent-iterator c.next.new.self c.in-Some.lent.now c.in-Some.ensures.steps,
       split_all c.args.self.now c.args.leaving.now c.requires.0 c.requires.1,
     )
 

@@ -5,4 +5,4 @@ use Rattle.factor_book.specs.Holdings.{goes}
 use Rattle.factor_book.proofs.factors.Factors.len_without.Given as goal
 
 abbrev pub invariant-loop-lent : goal.invariant-loop-lent
-invariant-loop-lent l = l.keys + count_by (goes l.self) l.leaving ≡ length l.self + count_by (goes l.self) (flat_map (λ e. e.1) l.lent-iterator)
+invariant-loop-lent l = l.keys + count_by (goes l.self) l.leaving ≡ length l.self + count_by (goes l.self) (flat_map (λ lent. lent.factors) l.lent-iterator)

@@ -12,16 +12,16 @@ use Rattle.factor_book.proofs.place_factors.PlaceFactors.add.Goals as goal
 pub joined-requires : goal.joined-requires
 joined-requires c =
     subst (λ (o : Option Holding). IfSome o (λ had. CanJoin had c.args.holding))
-    (sym (c.in-Some.ensures.value ∙ lookup_key c.args.key.now c.self.inside.by_key.entries ∙ ap (lookup (same_key c.args.key.now)) c.self.view_is)) c.requires.room
+    (sym (c.in-Some.ensures.value ∙ lookup_key c.args.key.now c.self.inside.by_key.entries ∙ ap (lookup (same_key c.args.key.now)) (ap (λ lent. lent.factors) c.self.view_is))) c.requires.room
 
 pub returns-in-Some-clause-ok : goal.returns-in-Some-clause-ok
 returns-in-Some-clause-ok c =
     let key = c.args.key.now in
-    let old = c.args.self.now in
+    let old = c.args.self.now.factors in
     let found : Some c.in-Some.had.now ≡ lookup (same_key key) old =
-    c.in-Some.ensures.value ∙ lookup_key key c.self.inside.by_key.entries ∙ ap (lookup (same_key key)) c.self.view_is in
+    c.in-Some.ensures.value ∙ lookup_key key c.self.inside.by_key.entries ∙ ap (lookup (same_key key)) (ap (λ lent. lent.factors) c.self.view_is) in
     written_key c.self.inside.by_key.entries old (c.get_mut.follows.lender c.joined.result).entries key (Some c.joined.result) (Some (joined (lookup (same_key key) old) c.args.holding))
-    c.self.view_is (((c.get_mut.follows.holds c.joined.result).3 (subst IsSome c.in-Some.ensures.value refl)).0) (ap Some (c.joined.ensures ∙ ap (λ o. joined o c.args.holding) found))
+    (ap (λ lent. lent.factors) c.self.view_is) (((c.get_mut.follows.holds c.joined.result).3 (subst IsSome c.in-Some.ensures.value refl)).0) (ap Some (c.joined.ensures ∙ ap (λ o. joined o c.args.holding) found))
 
 pub returns-in-Some-clause-ordered : goal.returns-in-Some-clause-ordered
 returns-in-Some-clause-ordered c = ordered_keys (c.get_mut.follows.lender c.joined.result).entries ((c.get_mut.follows.holds c.joined.result).4)
@@ -29,19 +29,19 @@ returns-in-Some-clause-ordered c = ordered_keys (c.get_mut.follows.lender c.join
 pub returns-in_ok-insert-in-None-clause-ok : goal.returns-in_ok-insert-in-None-clause-ok
 returns-in_ok-insert-in-None-clause-ok c =
     let key = c.args.key.now in
-    let old = c.args.self.now in
+    let old = c.args.self.now.factors in
     let found : None ≡ lookup (same_key key) old =
-    c.in-None.ensures.value ∙ lookup_key key c.self.inside.by_key.entries ∙ ap (lookup (same_key key)) c.self.view_is in
+    c.in-None.ensures.value ∙ lookup_key key c.self.inside.by_key.entries ∙ ap (lookup (same_key key)) (ap (λ lent. lent.factors) c.self.view_is) in
     inserted_key c.get_mut.follows.lender-at-none.entries old c.insert.new.self.entries key c.in_ok-own-in-None.own (Some c.args.holding) (Some (joined (lookup (same_key key) old) c.args.holding))
-    (ap (λ m. m.entries) c.get_mut.follows.holds-at-none ∙ c.self.view_is) c.in_ok-own-in-None.ensures c.in_ok-insert-in-None.ensures.updates.0 (ap (λ o. Some (joined o c.args.holding)) found)
+    (ap (λ m. m.entries) c.get_mut.follows.holds-at-none ∙ (ap (λ lent. lent.factors) c.self.view_is)) c.in_ok-own-in-None.ensures c.in_ok-insert-in-None.ensures.updates.0 (ap (λ o. Some (joined o c.args.holding)) found)
 
 pub returns-in-Some-clause-new : goal.returns-in-Some-clause-new
 returns-in-Some-clause-new c =
-    ap is_none (c.in-Some.ensures.value ∙ lookup_key c.args.key.now c.self.inside.by_key.entries ∙ ap (lookup (same_key c.args.key.now)) c.self.view_is)
+    ap is_none (c.in-Some.ensures.value ∙ lookup_key c.args.key.now c.self.inside.by_key.entries ∙ ap (lookup (same_key c.args.key.now)) (ap (λ lent. lent.factors) c.self.view_is))
 
 pub returns-in_ok-insert-in-None-clause-new : goal.returns-in_ok-insert-in-None-clause-new
 returns-in_ok-insert-in-None-clause-new c =
-    ap is_none (c.in-None.ensures.value ∙ lookup_key c.args.key.now c.self.inside.by_key.entries ∙ ap (lookup (same_key c.args.key.now)) c.self.view_is)
+    ap is_none (c.in-None.ensures.value ∙ lookup_key c.args.key.now c.self.inside.by_key.entries ∙ ap (lookup (same_key c.args.key.now)) (ap (λ lent. lent.factors) c.self.view_is))
 
 pub returns-in_ok-insert-in-None-clause-ordered : goal.returns-in_ok-insert-in-None-clause-ordered
 returns-in_ok-insert-in-None-clause-ordered c = ordered_keys c.insert.new.self.entries c.in_ok-insert-in-None.ensures.ordered

@@ -17,4 +17,4 @@ loop-key-preserved c =
     ap (λ es. es ++ rest)
     (c.in_ok-insert.ensures.entries
     ∙ (λ i. insert_entry (key_orders i) done (c.in_ok-copy.ensures i) c.in-Some.holding.now))
-    ∙ next_copied key_total done rest c.args.self.now (c.in-Some.key.now, c.in-Some.holding.now) (ap (λ es. done ++ es) (sym next) ∙ c.loop-key.invariant) c.iter-key-items.ensures.ordered
+    ∙ next_copied key_total done rest c.args.self.now.factors (c.in-Some.key.now, c.in-Some.holding.now) (ap (λ es. done ++ es) (sym next) ∙ c.loop-key.invariant) c.iter-key-items.ensures.ordered

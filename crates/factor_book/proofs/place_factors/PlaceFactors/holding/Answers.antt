@@ -6,4 +6,4 @@ use Rattle.factor_book.proofs.place_factors.PlaceFactors.holding.Goals as goal
 
 pub returns : goal.returns
 returns c =
-    c.copied.ensures ∙ c.get.ensures.value ∙ lookup_key c.args.key.now c.self.inside.by_key.entries ∙ ap (lookup (same_key c.args.key.now)) c.self.view_is
+    c.copied.ensures ∙ c.get.ensures.value ∙ lookup_key c.args.key.now c.self.inside.by_key.entries ∙ ap (lookup (same_key c.args.key.now)) (ap (λ lent. lent.factors) c.self.view_is)
