@@ -15,7 +15,9 @@ use Rattle.measured_bucket.specs.SimmKinds.declared.factor.Factor.TheVariants as
 use Rattle.measured_bucket.specs.SimmKinds.declared.key.FactorKey.{FactorKey}
 use Rattle.measured_bucket.specs.SimmKinds.Factors.{bucket_id_of}
 use Rattle.measured_bucket.specs.SimmKinds.Order.{same_product, key_cmp, name_cmp, credit_tenor_place, bucket_numbers, same_bucket, same_bucket_id}
-use Rattle.measured_bucket.specs.SimmRules.Risks.{risk, CreditClass, Qualifying, Non_qualifying, CreditPoint, credit_point, Amount}
+use Rattle.measured_bucket.specs.SimmRules.Risks.{risk, CreditPoint, credit_point, Amount}
+use Rattle.measured_bucket.specs.SimmRules.declared.classes.CreditClass.{CreditClass}
+use Rattle.measured_bucket.specs.SimmRules.declared.classes.CreditClass.TheVariants.{Qualifying, NonQualifying}
 use Rattle.measured_bucket.specs.SimmRules.Credit.{as_credit, same_point}
 use Rattle.measured_bucket.specs.FactorBook.declared.holding.Holding.{Holding}
 use Rattle.measured_bucket.specs.FactorBook.Factors.{IsBook}
@@ -88,7 +90,7 @@ is_qualifying at (factor.CommodityVol n b t) x h = absurd (cc)
 is_qualifying at (factor.Fx n) x h = absurd (cc)
 is_qualifying at (factor.FxVol p t) x h = absurd (cc)
 
-is_non_qualifying : (at : Bucket) (f : Factor) (x : CreditPoint) → as_credit Non_qualifying at (risk f) ≡ Some x → IsNonQualifying at f x
+is_non_qualifying : (at : Bucket) (f : Factor) (x : CreditPoint) → as_credit NonQualifying at (risk f) ≡ Some x → IsNonQualifying at f x
 is_non_qualifying at (factor.IrCurve n t s) x h = absurd (cc)
 is_non_qualifying at (factor.Inflation n) x h = absurd (cc)
 is_non_qualifying at (factor.XccyBasis n) x h = absurd (cc)
@@ -115,15 +117,15 @@ stands Qualifying at product k x e =
     let i = is_qualifying at k.factor x e in
     ap (λ f. stands_at (points_place Qualifying at product) (key_with k.product f)) i.is
     ∙ and_last (same_product k.product product) (same_bucket_id (bucket_id_of i.of) (bucket_id_of at)) (bucket_ids i.of at ∙ i.inside)
-stands Non_qualifying at product k x e =
+stands NonQualifying at product k x e =
     let i = is_non_qualifying at k.factor x e in
-    ap (λ f. stands_at (points_place Non_qualifying at product) (key_with k.product f)) i.is
+    ap (λ f. stands_at (points_place NonQualifying at product) (key_with k.product f)) i.is
     ∙ and_last (same_product k.product product) (same_bucket_id (bucket_id_of i.of) (bucket_id_of at)) (bucket_ids i.of at ∙ i.inside)
 
 -- it is the point of its risk
 itself : (class : CreditClass) (at : Bucket) (f : Factor) (x : CreditPoint) → as_credit class at (risk f) ≡ Some x → as_point (risk f) ≡ Some x
 itself Qualifying at f x e = ap (λ g. as_point (risk g)) (is_qualifying at f x e).is
-itself Non_qualifying at f x e = ap (λ g. as_point (risk g)) (is_non_qualifying at f x e).is
+itself NonQualifying at f x e = ap (λ g. as_point (risk g)) (is_non_qualifying at f x e).is
 
 pub not_single : (at : Bucket) → same_bucket_id id.Single (bucket_id_of at) ≡ false
 not_single (bucket.Number n) = refl
@@ -147,23 +149,23 @@ elsewhere Qualifying at product c (factor.Commodity n b) h = and_other (same_pro
 elsewhere Qualifying at product c (factor.CommodityVol n b t) h = and_other (same_product c product) false (same_bucket_id (id.Number b) (bucket_id_of at))
 elsewhere Qualifying at product c (factor.Fx n) h = and_other (same_product c product) true (same_bucket_id id.Single (bucket_id_of at))
 elsewhere Qualifying at product c (factor.FxVol p t) h = and_other (same_product c product) false (same_bucket_id id.Single (bucket_id_of at))
-elsewhere Non_qualifying at product c (factor.IrCurve n t s) h = and_other (same_product c product) true (same_bucket_id (id.Currency n) (bucket_id_of at))
-elsewhere Non_qualifying at product c (factor.Inflation n) h = and_other (same_product c product) true (same_bucket_id (id.Currency n) (bucket_id_of at))
-elsewhere Non_qualifying at product c (factor.XccyBasis n) h = and_other (same_product c product) true (same_bucket_id (id.Currency n) (bucket_id_of at))
-elsewhere Non_qualifying at product c (factor.IrVol n t) h = and_other (same_product c product) false (same_bucket_id (id.Currency n) (bucket_id_of at))
-elsewhere Non_qualifying at product c (factor.InflationVol n t) h = and_other (same_product c product) false (same_bucket_id (id.Currency n) (bucket_id_of at))
-elsewhere Non_qualifying at product c (factor.CreditQ i b t l) h = and_other (same_product c product) true (same_bucket_id (bucket_id_of b) (bucket_id_of at))
-elsewhere Non_qualifying at product c (factor.CreditVol i b t l) h = and_other (same_product c product) false (same_bucket_id (bucket_id_of b) (bucket_id_of at))
-elsewhere Non_qualifying at product c (factor.CreditNonQ i b t l) h =
+elsewhere NonQualifying at product c (factor.IrCurve n t s) h = and_other (same_product c product) true (same_bucket_id (id.Currency n) (bucket_id_of at))
+elsewhere NonQualifying at product c (factor.Inflation n) h = and_other (same_product c product) true (same_bucket_id (id.Currency n) (bucket_id_of at))
+elsewhere NonQualifying at product c (factor.XccyBasis n) h = and_other (same_product c product) true (same_bucket_id (id.Currency n) (bucket_id_of at))
+elsewhere NonQualifying at product c (factor.IrVol n t) h = and_other (same_product c product) false (same_bucket_id (id.Currency n) (bucket_id_of at))
+elsewhere NonQualifying at product c (factor.InflationVol n t) h = and_other (same_product c product) false (same_bucket_id (id.Currency n) (bucket_id_of at))
+elsewhere NonQualifying at product c (factor.CreditQ i b t l) h = and_other (same_product c product) true (same_bucket_id (bucket_id_of b) (bucket_id_of at))
+elsewhere NonQualifying at product c (factor.CreditVol i b t l) h = and_other (same_product c product) false (same_bucket_id (bucket_id_of b) (bucket_id_of at))
+elsewhere NonQualifying at product c (factor.CreditNonQ i b t l) h =
     and_bucket (same_product c product) (same_bucket_id (bucket_id_of b) (bucket_id_of at)) (bucket_ids b at ∙ not_chosen (same_bucket b at) (credit_point i t l) h)
-elsewhere Non_qualifying at product c (factor.CreditVolNonQ i b t l) h = and_side (same_product c product) (same_bucket_id (bucket_id_of b) (bucket_id_of at))
-elsewhere Non_qualifying at product c (factor.BaseCorr i) h = and_other (same_product c product) true (same_bucket_id id.Single (bucket_id_of at))
-elsewhere Non_qualifying at product c (factor.Equity i b) h = and_other (same_product c product) true (same_bucket_id (bucket_id_of b) (bucket_id_of at))
-elsewhere Non_qualifying at product c (factor.EquityVol i b t) h = and_other (same_product c product) false (same_bucket_id (bucket_id_of b) (bucket_id_of at))
-elsewhere Non_qualifying at product c (factor.Commodity n b) h = and_other (same_product c product) true (same_bucket_id (id.Number b) (bucket_id_of at))
-elsewhere Non_qualifying at product c (factor.CommodityVol n b t) h = and_other (same_product c product) false (same_bucket_id (id.Number b) (bucket_id_of at))
-elsewhere Non_qualifying at product c (factor.Fx n) h = and_other (same_product c product) true (same_bucket_id id.Single (bucket_id_of at))
-elsewhere Non_qualifying at product c (factor.FxVol p t) h = and_other (same_product c product) false (same_bucket_id id.Single (bucket_id_of at))
+elsewhere NonQualifying at product c (factor.CreditVolNonQ i b t l) h = and_side (same_product c product) (same_bucket_id (bucket_id_of b) (bucket_id_of at))
+elsewhere NonQualifying at product c (factor.BaseCorr i) h = and_other (same_product c product) true (same_bucket_id id.Single (bucket_id_of at))
+elsewhere NonQualifying at product c (factor.Equity i b) h = and_other (same_product c product) true (same_bucket_id (bucket_id_of b) (bucket_id_of at))
+elsewhere NonQualifying at product c (factor.EquityVol i b t) h = and_other (same_product c product) false (same_bucket_id (bucket_id_of b) (bucket_id_of at))
+elsewhere NonQualifying at product c (factor.Commodity n b) h = and_other (same_product c product) true (same_bucket_id (id.Number b) (bucket_id_of at))
+elsewhere NonQualifying at product c (factor.CommodityVol n b t) h = and_other (same_product c product) false (same_bucket_id (id.Number b) (bucket_id_of at))
+elsewhere NonQualifying at product c (factor.Fx n) h = and_other (same_product c product) true (same_bucket_id id.Single (bucket_id_of at))
+elsewhere NonQualifying at product c (factor.FxVol p t) h = and_other (same_product c product) false (same_bucket_id id.Single (bucket_id_of at))
 
 -- the points of the place are those of the bucket
 pub points_there : (class : CreditClass) (at : Bucket) (product : ProductClass) (fs : List (FactorKey × Holding)) → point_nets (factors_at (points_place class at product) fs) ≡ points_in class at product fs
@@ -191,7 +193,7 @@ less Qualifying at product k l x y p q e d h =
     let i = is_qualifying at k.factor x e in
     let j = is_qualifying at l.factor y d in
     sym (by_factor product k l (factor.CreditQ x.issuer i.of x.tenor x.label) (factor.CreditQ y.issuer j.of y.tenor y.label) p q i.is j.is ∙ by_parts x y i.of j.of at i.inside j.inside) ∙ h
-less Non_qualifying at product k l x y p q e d h =
+less NonQualifying at product k l x y p q e d h =
     let i = is_non_qualifying at k.factor x e in
     let j = is_non_qualifying at l.factor y d in
     sym (by_factor product k l (factor.CreditNonQ x.issuer i.of x.tenor x.label) (factor.CreditNonQ y.issuer j.of y.tenor y.label) p q i.is j.is ∙ by_parts x y i.of j.of at i.inside j.inside) ∙ h

@@ -4,8 +4,6 @@ use Rattle.std.specs.Prelude.{ℕ, ◌^◌, List, map, ℤ, pos, ◌*ℤ◌}
 use Rattle.std.specs.List.Sorted.{IsStrictlySortedBy}
 use Rattle.measured_bucket.specs.MhUnits.Rounding.{away}
 use Rattle.measured_bucket.specs.SimmKinds.declared.kinds.ProductClass.{ProductClass}
-use Rattle.measured_bucket.specs.SimmKinds.declared.kinds.RiskClass.TheVariants as class
-use Rattle.measured_bucket.specs.SimmKinds.declared.kinds.BucketId.TheVariants as bucket
 use Rattle.measured_bucket.specs.SimmKinds.declared.key.FactorKey.{FactorKey}
 use Rattle.measured_bucket.specs.SimmKinds.Order.{name_cmp}
 use Rattle.measured_bucket.specs.SimmRules.Params.{Params}
@@ -13,7 +11,7 @@ use Rattle.measured_bucket.specs.SimmRules.Risks.{Amount, select}
 use Rattle.measured_bucket.specs.SimmRules.Concentration.{one}
 use Rattle.measured_bucket.specs.SimmRules.BaseCorrelation.{as_index}
 use Rattle.measured_bucket.specs.FactorBook.declared.place.Place.{Place}
-use Rattle.measured_bucket.specs.FactorBook.declared.place.BookSide.TheVariants as side
+use Rattle.measured_bucket.specs.FactorBook.declared.place.Stand.TheVariants as stand
 use Rattle.measured_bucket.specs.FactorBook.declared.holding.Holding.{Holding}
 use Rattle.measured_bucket.specs.FactorBook.Factors.{net_of}
 use Rattle.measured_bucket.specs.WeightedBucket.declared.weighed.Weighed.{Weighed}
@@ -22,7 +20,7 @@ use Rattle.class_credit.specs.declared.base.IndexNet.{IndexNet}
 
 -- where they stand: there is one bucket
 abbrev pub base_place : ProductClass → Place
-base_place product = record { product = product; class = class.CreditQ; side = side.Delta; bucket = bucket.Single }
+base_place product = record { product = product; stand = stand.BaseCorrelation }
 
 abbrev pub indices_of : ProductClass → List (FactorKey × Holding) → List (Amount (List ℕ))
 indices_of product factors = select as_index (nets_in product factors)

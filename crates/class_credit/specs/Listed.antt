@@ -3,7 +3,7 @@
 use Rattle.std.specs.Prelude.{Option}
 use Rattle.measured_bucket.specs.SimmKinds.declared.bucket.Bucket.{Bucket}
 use Rattle.measured_bucket.specs.SimmRules.Params.{Params, CreditBucket}
-use Rattle.measured_bucket.specs.SimmRules.Risks.{CreditClass}
+use Rattle.measured_bucket.specs.SimmRules.declared.classes.CreditClass.{CreditClass}
 use Rattle.measured_bucket.specs.SimmRules.Credit.{credit_params}
 use Rattle.measured_bucket.specs.SimmParams.ListedBuckets.{credit_bucket_of}
 

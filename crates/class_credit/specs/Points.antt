@@ -6,19 +6,17 @@ use Rattle.std.specs.declared.cmp.Ordering.{Ordering}
 use Rattle.std.specs.Ordering.{nat_cmp, then_cmp, on}
 use Rattle.std.specs.List.Sorted.{IsStrictlySortedBy}
 use Rattle.measured_bucket.specs.SimmKinds.declared.kinds.ProductClass.{ProductClass}
-use Rattle.measured_bucket.specs.SimmKinds.declared.kinds.RiskClass.{RiskClass}
-use Rattle.measured_bucket.specs.SimmKinds.declared.kinds.RiskClass.TheVariants as class
 use Rattle.measured_bucket.specs.SimmKinds.declared.bucket.Bucket.{Bucket}
 use Rattle.measured_bucket.specs.SimmKinds.declared.key.FactorKey.{FactorKey}
-use Rattle.measured_bucket.specs.SimmKinds.Factors.{bucket_id_of}
 use Rattle.measured_bucket.specs.SimmKinds.Order.{name_cmp, credit_tenor_place}
 use Rattle.measured_bucket.specs.SimmKinds.Tenors.{tenor_at}
-use Rattle.measured_bucket.specs.SimmRules.Risks.{Risk, Of_rate, Of_rate_volatility, Of_credit, Of_credit_volatility, Of_base_correlation, Of_price, Of_price_volatility, Of_currency, Of_pair_volatility, CreditClass, Qualifying, Non_qualifying, CreditPoint, credit_point, Amount, select}
+use Rattle.measured_bucket.specs.SimmRules.Risks.{Risk, Of_rate, Of_rate_volatility, Of_credit, Of_credit_volatility, Of_base_correlation, Of_price, Of_price_volatility, Of_currency, Of_pair_volatility, CreditPoint, credit_point, Amount, select}
+use Rattle.measured_bucket.specs.SimmRules.declared.classes.CreditClass.{CreditClass}
 use Rattle.measured_bucket.specs.SimmRules.Credit.{as_credit, as_credit_volatility}
 use Rattle.measured_bucket.specs.SimmRules.Curvature.{scale_of}
 use Rattle.measured_bucket.specs.FactorBook.declared.place.Place.{Place}
-use Rattle.measured_bucket.specs.FactorBook.declared.place.BookSide.{BookSide}
-use Rattle.measured_bucket.specs.FactorBook.declared.place.BookSide.TheVariants as side
+use Rattle.measured_bucket.specs.FactorBook.declared.place.Stand.TheVariants as stand
+use Rattle.measured_bucket.specs.FactorBook.declared.slot.Slot.TheVariants as slot
 use Rattle.measured_bucket.specs.FactorBook.declared.holding.Holding.{Holding}
 use Rattle.measured_bucket.specs.FactorBook.Factors.{net_of}
 use Rattle.measured_bucket.specs.WeightedBucket.declared.weighed.Weighed.{Weighed}
@@ -29,18 +27,11 @@ use Rattle.class_credit.specs.declared.points.PointNet.{PointNet}
 
 -- ---- where they stand
 
-abbrev pub credit_risk_class : CreditClass → RiskClass
-credit_risk_class Qualifying = class.CreditQ
-credit_risk_class Non_qualifying = class.CreditNonQ
-
-abbrev pub credit_place : BookSide → CreditClass → Bucket → ProductClass → Place
-credit_place side class at product = record { product = product; class = credit_risk_class class; side = side; bucket = bucket_id_of at }
-
 abbrev pub points_place : CreditClass → Bucket → ProductClass → Place
-points_place class at product = credit_place side.Delta class at product
+points_place class at product = record { product = product; stand = stand.Delta (slot.Credit class at) }
 
 abbrev pub volatilities_place : CreditClass → Bucket → ProductClass → Place
-volatilities_place class at product = credit_place side.Volatility class at product
+volatilities_place class at product = record { product = product; stand = stand.Volatility (slot.Credit class at) }
 
 -- ---- their nets, in key order
 

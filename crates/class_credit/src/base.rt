@@ -1,9 +1,11 @@
-//! Base correlation: the index families of credit that qualifies, in one bucket, without concentration.
+//! Base correlation: the index families of credit that qualifies, in one bucket,
+//! without concentration.
 ghost use Rattle.std.specs.Prelude.{◌≡◌, ℕ, ◌+◌, ◌*◌, ◌*ℤ◌, ◌^◌, ◌≤◌, pos, unsigned_abs};
 ghost use Rattle.std.specs.Prelude.{All, IfOk, List, length, map, option_map};
 ghost use Rattle.measured_bucket.specs.MhUnits.Rounding.{away};
 ghost use Rattle.measured_bucket.specs.SimmKinds.Order.{same_name};
-ghost use Rattle.measured_bucket.specs.SimmRules.BaseCorrelation.{as_index, base_value, index_rho, weighted_index};
+ghost use Rattle.measured_bucket.specs.SimmRules.BaseCorrelation.{as_index, base_value};
+ghost use Rattle.measured_bucket.specs.SimmRules.BaseCorrelation.{index_rho, weighted_index};
 ghost use Rattle.measured_bucket.specs.SimmRules.Concentration.{one};
 ghost use Rattle.measured_bucket.specs.SimmRules.Risks.{risk};
 ghost use Rattle.measured_bucket.specs.WeightedBucket.declared.scaling.Scaling.TheVariants as ways;
@@ -66,7 +68,8 @@ impl<'a> Measured for BaseCorrelation<'a> {
 
     ghost cr = { λ _. one };
 
-    ghost near = { λ x. IsNear (10 ^ 10) 346999999 1 (index_weight x.params.now) (indices_view x.indices.now) };
+    ghost near = { λ x.
+        IsNear (10 ^ 10) 346999999 1 (index_weight x.params.now) (indices_view x.indices.now) };
 
     ghost scaling = { ways.Plain };
 
@@ -106,12 +109,12 @@ pub fn base_correlation<L: Ledger>(
     lent: &PlaceFactors,
     steps: &mut Steps<L>,
 ) -> Result<BucketMargin, AllocError>
-    requires { AreIndices params.now (index_nets lent.now) }
-    ensures value { IfOk result (λ m. m ≡ base_value params.now (index_nets lent.now)) }
+    requires { AreIndices params.now (index_nets lent.now.factors) }
+    ensures value { IfOk result (λ m. m ≡ base_value params.now (index_nets lent.now.factors)) }
     ensures sound { IfOk result IsSound }
-    ensures near { let indices = index_nets lent.now in IfOk result (λ m.
+    ensures near { let indices = index_nets lent.now.factors in IfOk result (λ m.
         IsNear (10 ^ 10) 346999999 1 (index_weight params.now) indices (unsigned_abs m.gross)) }
-    ensures steps { let n = length (index_nets lent.now) in steps.new ≤ steps.old + n * n }
+    ensures steps { let n = length (index_nets lent.now.factors) in steps.new ≤ steps.old + n * n }
 {
     let indices = indices_among(alloc, lent)?;
     let measured = BaseCorrelation {
@@ -126,7 +129,7 @@ pub fn indices_among<'a>(
     alloc: Global,
     lent: &'a PlaceFactors,
 ) -> Result<Vec<IndexNet<'a>>, AllocError>
-    ensures { IfOk result (λ nets. indices_view nets.items ≡ index_nets lent.now) }
+    ensures { IfOk result (λ nets. indices_view nets.items ≡ index_nets lent.now.factors) }
 {
     let mut nets = Vec::with_capacity(alloc, lent.len())?;
     for (key, holding) in lent.iter() {
@@ -156,7 +159,8 @@ fn weigh_indices(
     indices: &[IndexNet],
 ) -> Result<Vec<Weighed>, AllocError>
     requires { All (λ index. IsSmall weight.0 index.net) indices.now }
-    ensures { IfOk result (λ weighed. weighed.items ≡ map (λ index. weighed_net weight.0 index.net) indices.now) }
+    ensures { IfOk result (λ weighed.
+        weighed.items ≡ map (λ index. weighed_net weight.0 index.net) indices.now) }
 {
     let mut weighed = Vec::with_capacity(alloc, indices.len())?;
     for index in indices {

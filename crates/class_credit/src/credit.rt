@@ -1,6 +1,7 @@
 //! The values of a bucket of credit that the file lists, of the factors of its place in a book.
 ghost use Rattle.std.specs.Prelude.{◌≡◌, ◌+◌, ◌*◌, ◌^◌, ◌≤◌, IfOk, length, pos, unsigned_abs};
-ghost use Rattle.measured_bucket.specs.SimmRules.Credit.{credit_value, credit_vega_value, credit_curvature_value};
+ghost use Rattle.measured_bucket.specs.SimmRules.Credit.{credit_value, credit_vega_value};
+ghost use Rattle.measured_bucket.specs.SimmRules.Credit.{credit_curvature_value};
 ghost use Rattle.measured_bucket.specs.SimmParams.ListedBuckets.{credit_bucket_view};
 ghost use Rattle.measured_bucket.specs.Measured.{IsNear, IsSound};
 ghost use Rattle.measured_bucket.specs.Values.{alone};
@@ -26,13 +27,14 @@ pub fn credit_delta<L: Ledger>(
     lent: &PlaceFactors,
     steps: &mut Steps<L>,
 ) -> Result<BucketMargin, AllocError>
-    requires { ArePoints listed.bucket.terms.weight.0 (point_nets lent.now) }
+    requires { ArePoints listed.bucket.terms.weight.0 (point_nets lent.now.factors) }
     ensures value { IfOk result (λ m.
-        m ≡ credit_value (credit_bucket_view listed.bucket) (point_nets lent.now)) }
+        m ≡ credit_value (credit_bucket_view listed.bucket) (point_nets lent.now.factors)) }
     ensures sound { IfOk result IsSound }
-    ensures near { let weight = listed.bucket.terms.weight.0 in IfOk result (λ m.
-        IsNear (10 ^ 10) 346999999 1 (λ _. weight) (point_nets lent.now) (unsigned_abs m.gross)) }
-    ensures steps { let n = length (point_nets lent.now) in steps.new ≤ steps.old + n * n }
+    ensures near { let weight = listed.bucket.terms.weight.0 in
+        IfOk result (λ m. IsNear (10 ^ 10) 346999999 1 (λ _. weight) (point_nets lent.now.factors)
+        (unsigned_abs m.gross)) }
+    ensures steps { let n = length (point_nets lent.now.factors) in steps.new ≤ steps.old + n * n }
 {
     let points = points_among(alloc, lent)?;
     let measured = CreditDelta {
@@ -51,13 +53,13 @@ pub fn credit_vega<L: Ledger>(
     lent: &PlaceFactors,
     steps: &mut Steps<L>,
 ) -> Result<BucketMargin, AllocError>
-    requires { ArePoints (pos 10000) (point_nets lent.now) }
+    requires { ArePoints (pos 10000) (point_nets lent.now.factors) }
     ensures value { IfOk result (λ m.
-        m ≡ credit_vega_value (credit_bucket_view listed.bucket) (point_nets lent.now)) }
+        m ≡ credit_vega_value (credit_bucket_view listed.bucket) (point_nets lent.now.factors)) }
     ensures sound { IfOk result IsSound }
     ensures near { IfOk result (λ m.
-        IsNear (10 ^ 10) 693999998 1 alone (point_nets lent.now) (unsigned_abs m.gross)) }
-    ensures steps { let n = length (point_nets lent.now) in steps.new ≤ steps.old + n * n }
+        IsNear (10 ^ 10) 693999998 1 alone (point_nets lent.now.factors) (unsigned_abs m.gross)) }
+    ensures steps { let n = length (point_nets lent.now.factors) in steps.new ≤ steps.old + n * n }
 {
     let points = points_among(alloc, lent)?;
     let measured = CreditVega {
@@ -76,13 +78,13 @@ pub fn credit_curvature<L: Ledger>(
     lent: &PlaceFactors,
     steps: &mut Steps<L>,
 ) -> Result<BucketMargin, AllocError>
-    requires { ArePoints (pos 10000) (point_nets lent.now) }
-    ensures value { IfOk result (λ m.
-        m ≡ credit_curvature_value (credit_bucket_view listed.bucket) (point_nets lent.now)) }
+    requires { ArePoints (pos 10000) (point_nets lent.now.factors) }
+    ensures value { IfOk result (λ m. m ≡ credit_curvature_value (credit_bucket_view listed.bucket)
+        (point_nets lent.now.factors)) }
     ensures sound { IfOk result IsSound }
     ensures near { IfOk result (λ m.
-        IsNear 20000 1 1 alone (point_nets lent.now) (unsigned_abs m.gross)) }
-    ensures steps { let n = length (point_nets lent.now) in steps.new ≤ steps.old + n * n }
+        IsNear 20000 1 1 alone (point_nets lent.now.factors) (unsigned_abs m.gross)) }
+    ensures steps { let n = length (point_nets lent.now.factors) in steps.new ≤ steps.old + n * n }
 {
     let points = points_among(alloc, lent)?;
     let measured = CreditCurvature {

@@ -1,5 +1,6 @@
 //! The curvature of a bucket of credit: the volatilities of its points, without concentration.
-ghost use Rattle.std.specs.Prelude.{◌≡◌, ◌*◌, ◌^◌, ◌≤◌, map, pos, if◌then◌else◌, All, IfOk, unsigned_abs};
+ghost use Rattle.std.specs.Prelude.{◌≡◌, ◌*◌, ◌^◌, ◌≤◌, map, pos};
+ghost use Rattle.std.specs.Prelude.{if◌then◌else◌, All, IfOk, unsigned_abs};
 ghost use Rattle.measured_bucket.specs.SimmRules.Concentration.{one};
 ghost use Rattle.measured_bucket.specs.SimmRules.Credit.{credit_rho, curved_point, same_point};
 ghost use Rattle.measured_bucket.specs.SimmRules.Risks.{CreditPoint};
@@ -9,7 +10,8 @@ ghost use Rattle.measured_bucket.specs.WeightedBucket.declared.scaling.Scaling.T
 ghost use Rattle.measured_bucket.specs.Measured.{IsNear};
 ghost use Rattle.measured_bucket.specs.Risk.{risk_of};
 ghost use Rattle.measured_bucket.specs.Values.{alone};
-ghost use Rattle.class_credit.specs.Points.{credit_view, curved_net, point_view, points_view, ArePoints};
+ghost use Rattle.class_credit.specs.Points.{credit_view, curved_net, point_view, points_view};
+ghost use Rattle.class_credit.specs.Points.{ArePoints};
 ghost use Rattle.class_credit.specs.Unweighed.{scaled_net, uncurved_point, weighing_at};
 
 use crate::groups::group_points;
@@ -46,7 +48,8 @@ impl<'a> Measured for CreditCurvature<'a> {
 
     ghost rho = { λ x. credit_rho (credit_bucket_view x.listed.bucket) };
 
-    ghost weighted = { λ x. map (curved_point x.listed.bucket.terms.curvature) (points_view x.points.now) };
+    ghost weighted = { λ x.
+        map (curved_point x.listed.bucket.terms.curvature) (points_view x.points.now) };
 
     ghost unweighed = { λ x. let terms = x.listed.bucket.terms in
         map (uncurved_point terms.curvature) (points_view x.points.now) };
@@ -84,8 +87,8 @@ impl<'a> Measured for CreditCurvature<'a> {
     }
 }
 
-// The volatility at which a bucket's factors count: 1, since their amounts are already volatility times vega; none where the
-// bucket has no curvature.
+// The volatility at which a bucket's factors count: 1, since their amounts are already volatility
+// times vega; none where the bucket has no curvature.
 fn volatility_in(terms: &BucketTerms) -> Rate4
     ensures value { result.0 ≡ (if terms.now.curvature then pos 10000 else pos 0) }
     ensures range { IsWithin sigmas result.0 }
@@ -105,7 +108,8 @@ fn curve_points(
 ) -> Result<Vec<Weighed>, AllocError>
     requires sigma { IsWithin sigmas sigma.0 }
     requires small { All (λ point. unsigned_abs point.net ≤ 2 * 10 ^ 20) points.now }
-    ensures { IfOk result (λ risks. risks.items ≡ map (λ point. curved_net sigma.0 (point_view point)) points.now) }
+    ensures { IfOk result (λ risks.
+        risks.items ≡ map (λ point. curved_net sigma.0 (point_view point)) points.now) }
 {
     let mut risks = Vec::with_capacity(alloc, points.len())?;
     for point in points {

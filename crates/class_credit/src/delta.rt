@@ -42,7 +42,8 @@ impl<'a> Measured for CreditDelta<'a> {
 
     ghost rho = { λ x. credit_rho (credit_bucket_view x.listed.bucket) };
 
-    ghost weighted = { λ x. let terms = x.listed.bucket.terms in let points = points_view x.points.now in
+    ghost weighted = { λ x. let terms = x.listed.bucket.terms in
+        let points = points_view x.points.now in
         map (weighted_point terms.weight.0 terms.thresholds.delta points) points };
 
     ghost unweighed = { λ x. let terms = x.listed.bucket.terms in
@@ -53,7 +54,8 @@ impl<'a> Measured for CreditDelta<'a> {
 
     ghost cr = { λ _. one };
 
-    ghost near = { λ x. IsNear (10 ^ 10) 346999999 1 (λ _. x.listed.bucket.terms.weight.0) (points_view x.points.now) };
+    ghost near = { λ x. IsNear (10 ^ 10) 346999999 1 (λ _. x.listed.bucket.terms.weight.0)
+        (points_view x.points.now) };
 
     ghost scaling = { ways.Concentrated };
 

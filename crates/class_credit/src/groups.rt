@@ -1,4 +1,5 @@
-//! The points of a bucket of credit in concentration groups: an issuer's points in a bucket are one group.
+//! The points of a bucket of credit in concentration groups: an issuer's points in a bucket are
+//! one group.
 ghost use Rattle.std.specs.Prelude.{◌≡◌, ◌-◌, ◌<◌, IfOk, map, length};
 ghost use Rattle.std.specs.List.Sorted.{IsStrictlySortedBy};
 ghost use Rattle.measured_bucket.specs.WeightedBucket.Group.{group_net};
@@ -13,14 +14,16 @@ use measured_bucket::mh_units::Rate4;
 use measured_bucket::weighted_bucket::{Grouped, Weighed, group_cr, group_nets, weigh};
 use std::alloc::{AllocError, Global};
 
-/// Nets in which an issuer's stand together, each in the group of its issuer. Groups are numbered in the order of their issuers:
-/// names are compared here, once a point, and never pair by pair. The threshold is in cents. Want of memory is the only error.
+/// Nets in which an issuer's stand together, each in the group of its issuer. Groups are numbered
+/// in the order of their issuers: names are compared here, once a point, and never pair by pair.
+/// The threshold is in cents. Want of memory is the only error.
 pub fn group_points(
     alloc: Global,
     threshold: i64,
     points: &[PointNet],
 ) -> Result<Vec<Grouped>, AllocError>
-    ensures { IfOk result (λ grouped. AreGrouped threshold (issuers_view points.now) grouped.items) }
+    ensures { IfOk result (λ grouped.
+        AreGrouped threshold (issuers_view points.now) grouped.items) }
 {
     let mut grouped = Vec::with_capacity(alloc, points.len())?;
     let mut group = 0;
@@ -55,7 +58,8 @@ pub fn weigh_points(
     grouped: &[Grouped],
 ) -> Result<Vec<Weighed>, AllocError>
     requires { CanWeigh weight.0 grouped.now }
-    ensures { IfOk result (λ weighed. weighed.items ≡ map (weighed_in weight.0 grouped.now) grouped.now) }
+    ensures { IfOk result (λ weighed.
+        weighed.items ≡ map (weighed_in weight.0 grouped.now) grouped.now) }
 {
     let crs = group_cr(alloc, grouped)?;
     let mut weighed = Vec::with_capacity(alloc, grouped.len())?;

@@ -13,8 +13,10 @@ pub struct IssuerRho {
     pub same: Corr6,
     /// Of points of two issuers.
     pub rho: Corr6,
-    ghost symmetric: { (i j : ℕ) → issuer_rho same.0 rho.0 grouped.items i j ≡ issuer_rho same.0 rho.0 grouped.items j i },
-    ghost at_most_one: { (i j : ℕ) → unsigned_abs (issuer_rho same.0 rho.0 grouped.items i j) ≤ 1000000 },
+    ghost symmetric: { (i j : ℕ)
+        → issuer_rho same.0 rho.0 grouped.items i j ≡ issuer_rho same.0 rho.0 grouped.items j i },
+    ghost at_most_one: { (i j : ℕ)
+        → unsigned_abs (issuer_rho same.0 rho.0 grouped.items i j) ≤ 1000000 },
 }
 
 impl Rho for IssuerRho {

@@ -1,5 +1,6 @@
-//! Credit that qualifies and that does not: the delta, vega and curvature of a bucket, and base correlation. Each is a measure in a
-//! file of its own: which factors it weighs, how, and how they correlate.
+//! Credit that qualifies and that does not: the delta, vega and curvature of a bucket, and base
+//! correlation. Each is a measure in a file of its own: which factors it weighs, how, and how
+//! they correlate.
 //! (ISDA SIMM methodology, credit spread risk; base correlation margin.)
 #![tactic(auto)]
 

@@ -3,7 +3,6 @@ ghost use Rattle.std.specs.List.Sorted.{IsStrictlySortedBy};
 ghost use Rattle.measured_bucket.specs.SimmRules.Concentration.{one};
 ghost use Rattle.measured_bucket.specs.SimmRules.Credit.{credit_rho, same_point, weighted_point};
 ghost use Rattle.measured_bucket.specs.SimmRules.Lookups.{six};
-ghost use Rattle.measured_bucket.specs.SimmParams.ClassKinds.{credit_class};
 ghost use Rattle.measured_bucket.specs.SimmParams.ListedBuckets.{credit_bucket_view};
 ghost use Rattle.measured_bucket.specs.SimmParams.Weighed.{IsWeighedCredit};
 ghost use Rattle.measured_bucket.specs.Measured.{AreCorrelated, IsNear};
@@ -18,7 +17,8 @@ use crate::points::PointNet;
 use measured_bucket::Column;
 use measured_bucket::mh_units::{Corr6, Rate4};
 use measured_bucket::simm_kinds::Bucket;
-use measured_bucket::simm_params::{CreditBucket, CreditKind, Params};
+use measured_bucket::simm_params::{CreditBucket, Params};
+use measured_bucket::simm_rules::CreditClass;
 use measured_bucket::weighted_bucket::Grouped;
 use std::alloc::{AllocError, Global};
 
@@ -28,16 +28,18 @@ pub struct ListedCredit {
     /// The bucket.
     pub bucket: CreditBucket,
     ghost weighed: { IsWeighedCredit (credit_bucket_view bucket) },
-    ghost terms: { AreTerms (credit_bucket_view bucket).terms.weight (credit_bucket_view bucket).terms.thresholds.delta },
+    ghost terms: { AreTerms (credit_bucket_view bucket).terms.weight
+        (credit_bucket_view bucket).terms.thresholds.delta },
 }
 
 impl ListedCredit {
     /// The bucket of this id; `None` where the file doesn't list it.
-    pub fn of(params: &Params, kind: CreditKind, id: Bucket) -> Option<ListedCredit>
-        ensures { option_map (λ listed. credit_bucket_view listed.bucket) result ≡ bucket_of params.now (credit_class kind) id }
+    pub fn of(params: &Params, class: CreditClass, id: Bucket) -> Option<ListedCredit>
+        ensures { option_map (λ listed. credit_bucket_view listed.bucket) result
+            ≡ bucket_of params.now class id }
     {
         params.facts();
-        let bucket = params.credit_bucket(kind, id)?;
+        let bucket = params.credit_bucket(class, id)?;
         Some(ListedCredit { bucket })
     }
 
@@ -54,8 +56,8 @@ impl ListedCredit {
         }
     }
 
-    /// These points, each weighed by the concentration of its issuer over the threshold, in cents. Want of memory is the only
-    /// error.
+    /// These points, each weighed by the concentration of its issuer over the threshold, in cents.
+    /// Want of memory is the only error.
     pub fn concentrated(
         &self,
         alloc: Global,
@@ -66,12 +68,15 @@ impl ListedCredit {
         requires ascends { IsStrictlySortedBy point_cmp (map (λ a. a.of) (points_view points.now)) }
         requires weighable { AreWeighable weight.0 threshold (points_view points.now) }
         ensures made { let amounts = points_view points.now in
-            IfOk result (λ column. column.factors.items ≡ map weighed_as (map (weighted_point weight.0 threshold amounts) amounts)) }
-        ensures correlated { let amounts = points_view points.now in let rho = credit_rho (credit_bucket_view self.now.bucket) in
-            IfOk result (λ column. AreCorrelated same_point rho (map (weighted_point weight.0 threshold amounts) amounts)
+            IfOk result (λ column. column.factors.items
+            ≡ map weighed_as (map (weighted_point weight.0 threshold amounts) amounts)) }
+        ensures correlated { let amounts = points_view points.now in
+            let rho = credit_rho (credit_bucket_view self.now.bucket) in IfOk result (λ column.
+            AreCorrelated same_point rho (map (weighted_point weight.0 threshold amounts) amounts)
             (issuer_rho column.rho.same.0 column.rho.rho.0 column.rho.grouped.items)) }
         ensures cr { IfOk result (λ column. column.cr.0 ≡ one) }
-        ensures near { IfOk result (λ column. IsNear (10 ^ 10) 346999999 1 (λ _. weight.0) (points_view points.now)
+        ensures near { IfOk result (λ column.
+            IsNear (10 ^ 10) 346999999 1 (λ _. weight.0) (points_view points.now)
             (sum_by (λ factor. unsigned_abs factor.w) column.factors.items)) }
     {
         let grouped = group_points(alloc, threshold, points)?;

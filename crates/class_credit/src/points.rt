@@ -33,7 +33,7 @@ pub fn points_among<'a>(
     alloc: Global,
     lent: &'a PlaceFactors,
 ) -> Result<Vec<PointNet<'a>>, AllocError>
-    ensures { IfOk result (λ nets. points_view nets.items ≡ point_nets lent.now) }
+    ensures { IfOk result (λ nets. points_view nets.items ≡ point_nets lent.now.factors) }
 {
     let mut nets = Vec::with_capacity(alloc, lent.len())?;
     for (key, holding) in lent.iter() {

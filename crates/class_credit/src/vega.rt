@@ -1,4 +1,5 @@
-//! The vega of a bucket of credit: the volatilities of its points, of which an issuer's are one concentration group.
+//! The vega of a bucket of credit: the volatilities of its points, of which an issuer's are one
+//! concentration group.
 ghost use Rattle.std.specs.Prelude.{◌^◌, map, pos};
 ghost use Rattle.measured_bucket.specs.SimmRules.Bucket.{weighted_value};
 ghost use Rattle.measured_bucket.specs.SimmRules.Concentration.{one};
@@ -43,7 +44,8 @@ impl<'a> Measured for CreditVega<'a> {
 
     ghost rho = { λ x. credit_rho (credit_bucket_view x.listed.bucket) };
 
-    ghost weighted = { λ x. let terms = x.listed.bucket.terms in let points = points_view x.points.now in
+    ghost weighted = { λ x. let terms = x.listed.bucket.terms in
+        let points = points_view x.points.now in
         map (weighted_point terms.vrw.0 terms.thresholds.vega points) points };
 
     ghost unweighed = { λ x. let terms = x.listed.bucket.terms in

@@ -3,8 +3,6 @@
 use Rattle.std.specs.Prelude.{ℕ, ◌≡◌, List, [], map, slice_index_or, Option, Some, None, false, if◌then◌else◌, All, ℤ, pos}
 use Rattle.std.specs.List.Sorted.{IsStrictlySortedBy}
 use Rattle.measured_bucket.specs.SimmKinds.declared.kinds.ProductClass.{ProductClass}
-use Rattle.measured_bucket.specs.SimmKinds.declared.kinds.RiskClass.TheVariants as class
-use Rattle.measured_bucket.specs.SimmKinds.declared.kinds.BucketId.TheVariants as bucket
 use Rattle.measured_bucket.specs.SimmKinds.declared.key.FactorKey.{FactorKey}
 use Rattle.measured_bucket.specs.SimmKinds.Order.{name_cmp}
 use Rattle.measured_bucket.specs.SimmRules.Params.{Params}
@@ -15,7 +13,8 @@ use Rattle.measured_bucket.specs.SimmParams.declared.category.VolatilityCategory
 use Rattle.measured_bucket.specs.SimmParams.declared.category.VolatilityCategory.TheVariants.{Regular}
 use Rattle.measured_bucket.specs.SimmParams.Categories.{volatility, category_rho}
 use Rattle.measured_bucket.specs.FactorBook.declared.place.Place.{Place}
-use Rattle.measured_bucket.specs.FactorBook.declared.place.BookSide.TheVariants as side
+use Rattle.measured_bucket.specs.FactorBook.declared.place.Stand.TheVariants as stand
+use Rattle.measured_bucket.specs.FactorBook.declared.slot.Slot.TheVariants as slot
 use Rattle.measured_bucket.specs.FactorBook.declared.holding.Holding.{Holding}
 use Rattle.measured_bucket.specs.FactorBook.Factors.{net_of}
 use Rattle.measured_bucket.specs.WeightedBucket.declared.weighed.Weighed.{Weighed}
@@ -24,7 +23,7 @@ use Rattle.class_exchange.specs.declared.currencies.CurrencyNet.{CurrencyNet}
 
 -- where they stand: there is one bucket
 abbrev pub currency_place : ProductClass → Place
-currency_place product = record { product = product; class = class.FX; side = side.Delta; bucket = bucket.Single }
+currency_place product = record { product = product; stand = stand.Delta slot.Exchange }
 
 -- ---- those that have a risk
 

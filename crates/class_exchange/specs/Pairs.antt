@@ -7,8 +7,6 @@ use Rattle.std.specs.Ordering.{nat_cmp, ordering_then}
 use Rattle.std.specs.List.Sorted.{IsStrictlySortedBy}
 use Rattle.measured_bucket.specs.SimmKinds.declared.currency_pair.CurrencyPair.{CurrencyPair}
 use Rattle.measured_bucket.specs.SimmKinds.declared.kinds.ProductClass.{ProductClass}
-use Rattle.measured_bucket.specs.SimmKinds.declared.kinds.RiskClass.TheVariants as class
-use Rattle.measured_bucket.specs.SimmKinds.declared.kinds.BucketId.TheVariants as bucket
 use Rattle.measured_bucket.specs.SimmKinds.declared.key.FactorKey.{FactorKey}
 use Rattle.measured_bucket.specs.SimmKinds.Order.{pair_cmp, tenor_place}
 use Rattle.measured_bucket.specs.SimmKinds.Pair.{Pair}
@@ -20,7 +18,8 @@ use Rattle.measured_bucket.specs.SimmRules.Bucket.{Weighted, weighted_value}
 use Rattle.measured_bucket.specs.SimmRules.Curvature.{curved}
 use Rattle.measured_bucket.specs.SimmRules.ForeignExchange.{PairVolatility, as_pair_volatility, fx_sigma, fx_vega_threshold, pairs_of, pair_tenors}
 use Rattle.measured_bucket.specs.FactorBook.declared.place.Place.{Place}
-use Rattle.measured_bucket.specs.FactorBook.declared.place.BookSide.TheVariants as side
+use Rattle.measured_bucket.specs.FactorBook.declared.place.Stand.TheVariants as stand
+use Rattle.measured_bucket.specs.FactorBook.declared.slot.Slot.TheVariants as slot
 use Rattle.measured_bucket.specs.FactorBook.declared.holding.Holding.{Holding}
 use Rattle.measured_bucket.specs.FactorBook.Factors.{net_of}
 use Rattle.measured_bucket.specs.declared.runs.TenorNet.{TenorNet}
@@ -35,7 +34,7 @@ use Rattle.class_exchange.specs.declared.pairs.PairVolatility.{PairVolatility as
 
 -- where they stand: there is one bucket
 abbrev pub pairs_place : ProductClass → Place
-pairs_place product = record { product = product; class = class.FX; side = side.Volatility; bucket = bucket.Single }
+pairs_place product = record { product = product; stand = stand.Volatility slot.Exchange }
 
 abbrev pub pair_volatilities : ProductClass → List (FactorKey × Holding) → List (Amount PairVolatility)
 pair_volatilities product factors = select as_pair_volatility (nets_in product factors)

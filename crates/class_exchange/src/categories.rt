@@ -1,5 +1,7 @@
 ghost use Rattle.std.specs.Prelude.{◌≡◌, ◌≤◌, length, unsigned_abs};
-ghost use Rattle.measured_bucket.specs.SimmParams.declared.category.VolatilityCategory.{VolatilityCategory as Category};
+ghost use Rattle.measured_bucket.specs.SimmParams.declared.category.VolatilityCategory.{
+  VolatilityCategory as Category,
+};
 ghost use Rattle.class_exchange.specs.Currencies.{rho_at, rho_of};
 
 use crate::currencies::CurrencyNet;

@@ -29,9 +29,9 @@ pub fn risky_currencies(
     lent: &PlaceFactors,
 ) -> Result<Vec<CurrencyNet>, AllocError>
     ensures nets { IfOk result (λ nets.
-        currencies_view nets.items ≡ risky_nets params.now lent.now) }
+        currencies_view nets.items ≡ risky_nets params.now lent.now.factors) }
     ensures risky { IfOk result (λ nets. All (IsRisky params.now) nets.items) }
-    ensures ready { AreRisky params.now (risky_nets params.now lent.now)
+    ensures ready { AreRisky params.now (risky_nets params.now lent.now.factors)
         → IfOk result (λ nets. AreCurrencies params.now nets.items) }
 {
     let mut nets = Vec::with_capacity(alloc, lent.len())?;

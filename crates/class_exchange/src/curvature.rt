@@ -1,4 +1,5 @@
-//! The curvature of foreign exchange: the volatilities of its pairs of currencies, without concentration.
+//! The curvature of foreign exchange: the volatilities of its pairs of currencies,
+//! without concentration.
 ghost use Rattle.std.specs.Prelude.{◌≡◌, ◌*◌, ◌^◌, ◌≤◌, All, IfOk, map, unsigned_abs};
 ghost use Rattle.measured_bucket.specs.SimmKinds.Order.{pair_cmp, same_pair};
 ghost use Rattle.measured_bucket.specs.SimmKinds.Pair.{Pair};
@@ -26,7 +27,8 @@ use std::alloc::{AllocError, Global};
 pub struct FxCurvature<'a> {
     /// The parameters.
     pub params: &'a Params,
-    /// What the nets to the volatilities of each pair come to, by how near their tenors are; in the order of the pairs.
+    /// What the nets to the volatilities of each pair come to, by how near their tenors are; in
+    /// the order of the pairs.
     pub pairs: &'a [TenorSum<CurrencyPair>],
 }
 
@@ -35,7 +37,8 @@ impl<'a> Measured for FxCurvature<'a> {
 
     type Rho = EvenRho;
 
-    ghost ready = { λ x. AreTotals pair_cmp scale.Curved (fx_sigma x.params.now) (pair_sums x.pairs.now) };
+    ghost ready = { λ x.
+        AreTotals pair_cmp scale.Curved (fx_sigma x.params.now) (pair_sums x.pairs.now) };
 
     ghost Of = { Pair };
 
@@ -88,7 +91,8 @@ fn curve_pairs(
     pairs: &[TenorSum<CurrencyPair>],
 ) -> Result<Vec<Weighed>, AllocError>
     requires { All (λ pair. unsigned_abs pair.sum ≤ 219 * 10 ^ 22) pairs.now }
-    ensures { IfOk result (λ risks. risks.items ≡ map (λ pair. weighed_as (curved_sum params.now (pair_sum pair))) pairs.now) }
+    ensures { IfOk result (λ risks.
+        risks.items ≡ map (λ pair. weighed_as (curved_sum params.now (pair_sum pair))) pairs.now) }
 {
     let mut risks = Vec::with_capacity(alloc, pairs.len())?;
     for pair in pairs {

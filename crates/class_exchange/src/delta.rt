@@ -3,7 +3,8 @@ ghost use Rattle.std.specs.Prelude.{◌≡◌, ℕ, ◌^◌, All, IfOk, List, ma
 ghost use Rattle.measured_bucket.specs.SimmKinds.Order.{same_name};
 ghost use Rattle.measured_bucket.specs.SimmRules.Bucket.{weighted_value};
 ghost use Rattle.measured_bucket.specs.SimmRules.Concentration.{one};
-ghost use Rattle.measured_bucket.specs.SimmRules.ForeignExchange.{currency_rho, fx_weight, weighted_currency};
+ghost use Rattle.measured_bucket.specs.SimmRules.ForeignExchange.{currency_rho, fx_weight};
+ghost use Rattle.measured_bucket.specs.SimmRules.ForeignExchange.{weighted_currency};
 ghost use Rattle.measured_bucket.specs.WeightedBucket.declared.scaling.Scaling.TheVariants as ways;
 ghost use Rattle.measured_bucket.specs.Measured.{IsNear};
 ghost use Rattle.class_exchange.specs.Currencies.{currencies_view, currency_view};
@@ -43,7 +44,8 @@ impl<'a> Measured for FxDelta<'a> {
 
     ghost rho = { λ x. currency_rho x.params.now };
 
-    ghost weighted = { λ x. map (weighted_currency x.params.now) (currencies_view x.currencies.now) };
+    ghost weighted = { λ x.
+        map (weighted_currency x.params.now) (currencies_view x.currencies.now) };
 
     ghost unweighed = { λ x.
         map (unweighed_currency x.params.now) (currencies_view x.currencies.now) };
@@ -52,7 +54,8 @@ impl<'a> Measured for FxDelta<'a> {
 
     ghost cr = { λ _. one };
 
-    ghost near = { λ x. IsNear (10 ^ 10) 346999999 1 (fx_weight x.params.now) (currencies_view x.currencies.now) };
+    ghost near = { λ x.
+        IsNear (10 ^ 10) 346999999 1 (fx_weight x.params.now) (currencies_view x.currencies.now) };
 
     ghost scaling = { ways.Concentrated };
 
@@ -90,7 +93,8 @@ fn weigh_currencies(
     currencies: &[CurrencyNet],
 ) -> Result<Vec<Weighed>, AllocError>
     requires { All (CanWeigh params.now) currencies.now }
-    ensures { IfOk result (λ weighed. weighed.items ≡ map (λ net. weighed_currency params.now (currency_view net)) currencies.now) }
+    ensures { IfOk result (λ weighed. weighed.items
+        ≡ map (λ net. weighed_currency params.now (currency_view net)) currencies.now) }
 {
     let mut weighed = Vec::with_capacity(alloc, currencies.len())?;
     for currency in currencies {

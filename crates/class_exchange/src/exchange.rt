@@ -1,7 +1,9 @@
 //! The values of the one bucket of foreign exchange of a product class, of the factors of its
 //! place in a book.
 ghost use Rattle.std.specs.Prelude.{◌≡◌, ◌+◌, ◌*◌, ◌^◌, ◌≤◌, IfOk, length, unsigned_abs};
-ghost use Rattle.measured_bucket.specs.SimmRules.ForeignExchange.{fx_sigma, fx_weight, fx_value, fx_vega_value, fx_curvature_value, pairs_of};
+ghost use Rattle.measured_bucket.specs.SimmRules.ForeignExchange.{fx_sigma, fx_weight};
+ghost use Rattle.measured_bucket.specs.SimmRules.ForeignExchange.{fx_value, fx_vega_value};
+ghost use Rattle.measured_bucket.specs.SimmRules.ForeignExchange.{fx_curvature_value, pairs_of};
 ghost use Rattle.measured_bucket.specs.Measured.{IsNear, IsSound};
 ghost use Rattle.class_exchange.specs.Currencies.{risky_nets, AreRisky};
 ghost use Rattle.class_exchange.specs.Pairs.{pair_nets, ArePairs};
@@ -28,12 +30,13 @@ pub fn fx_delta<L: Ledger>(
     lent: &PlaceFactors,
     steps: &mut Steps<L>,
 ) -> Result<BucketMargin, AllocError>
-    requires { AreRisky params.now (risky_nets params.now lent.now) }
-    ensures value { IfOk result (λ m. m ≡ fx_value params.now (risky_nets params.now lent.now)) }
+    requires { AreRisky params.now (risky_nets params.now lent.now.factors) }
+    ensures value { IfOk result (λ m.
+        m ≡ fx_value params.now (risky_nets params.now lent.now.factors)) }
     ensures sound { IfOk result IsSound }
-    ensures near { let currencies = risky_nets params.now lent.now in IfOk result (λ m.
+    ensures near { let currencies = risky_nets params.now lent.now.factors in IfOk result (λ m.
         IsNear (10 ^ 10) 346999999 1 (fx_weight params.now) currencies (unsigned_abs m.gross)) }
-    ensures steps { let n = length (risky_nets params.now lent.now) in
+    ensures steps { let n = length (risky_nets params.now lent.now.factors) in
         steps.new ≤ steps.old + n * n }
 {
     let currencies = risky_currencies(alloc, params, lent)?;
@@ -53,12 +56,13 @@ pub fn fx_vega<L: Ledger>(
     lent: &PlaceFactors,
     steps: &mut Steps<L>,
 ) -> Result<BucketMargin, AllocError>
-    requires { ArePairs params.now (pair_nets lent.now) }
-    ensures value { IfOk result (λ m. m ≡ fx_vega_value params.now (pair_nets lent.now)) }
+    requires { ArePairs params.now (pair_nets lent.now.factors) }
+    ensures value { IfOk result (λ m. m ≡ fx_vega_value params.now (pair_nets lent.now.factors)) }
     ensures sound { IfOk result IsSound }
-    ensures near { let volatilities = pair_nets lent.now in IfOk result (λ m.
-        IsNear (10 ^ 10) 832799998 695 (λ v. fx_sigma params.now v.pair) volatilities (unsigned_abs m.gross)) }
-    ensures steps { let n = length (pairs_of (pair_nets lent.now)) in
+    ensures near { let volatilities = pair_nets lent.now.factors in
+        IfOk result (λ m. IsNear (10 ^ 10) 832799998 695
+        (λ v. fx_sigma params.now v.pair) volatilities (unsigned_abs m.gross)) }
+    ensures steps { let n = length (pairs_of (pair_nets lent.now.factors)) in
         steps.new ≤ steps.old + n * n }
 {
     params.facts();
@@ -78,12 +82,13 @@ pub fn fx_curvature<L: Ledger>(
     lent: &PlaceFactors,
     steps: &mut Steps<L>,
 ) -> Result<BucketMargin, AllocError>
-    requires { ArePairs params.now (pair_nets lent.now) }
-    ensures value { IfOk result (λ m. m ≡ fx_curvature_value params.now (pair_nets lent.now)) }
+    requires { ArePairs params.now (pair_nets lent.now.factors) }
+    ensures value { IfOk result (λ m.
+        m ≡ fx_curvature_value params.now (pair_nets lent.now.factors)) }
     ensures sound { IfOk result IsSound }
-    ensures near { let volatilities = pair_nets lent.now in IfOk result (λ m.
+    ensures near { let volatilities = pair_nets lent.now.factors in IfOk result (λ m.
         IsNear 20000 1 1 (λ v. fx_sigma params.now v.pair) volatilities (unsigned_abs m.gross)) }
-    ensures steps { let n = length (pairs_of (pair_nets lent.now)) in
+    ensures steps { let n = length (pairs_of (pair_nets lent.now.factors)) in
         steps.new ≤ steps.old + n * n }
 {
     params.facts();

@@ -1,6 +1,7 @@
-//! Foreign exchange: the delta, vega and curvature of the one bucket of a product class. Each is a measure in a file of its own: which
-//! factors it weighs, how, and how they correlate. A sensitivity to the calculation currency is no risk, and the volatilities of a pair
-//! of currencies at all tenors are one factor.
+//! Foreign exchange: the delta, vega and curvature of the one bucket of a product class. Each is a
+//! measure in a file of its own: which factors it weighs, how, and how they correlate. A
+//! sensitivity to the calculation currency is no risk, and the volatilities of a pair of
+//! currencies at all tenors are one factor.
 //! (ISDA SIMM methodology, foreign exchange risk.)
 #![tactic(auto)]
 

@@ -1,6 +1,7 @@
-//! The pairs of currencies of a product class: what the nets to the volatilities of each, as a book lends them, come to over its
-//! tenors.
-ghost use Rattle.std.specs.Prelude.{◌≡◌, ◌*◌, ◌^◌, ◌≤◌, IfOk, map, option_map, sum_by, unsigned_abs};
+//! The pairs of currencies of a product class: what the nets to the volatilities of each, as a
+//! book lends them, come to over its tenors.
+ghost use Rattle.std.specs.Prelude.{◌≡◌, ◌*◌, ◌^◌, ◌≤◌, IfOk};
+ghost use Rattle.std.specs.Prelude.{map, option_map, sum_by, unsigned_abs};
 ghost use Rattle.std.specs.List.Sorted.{IsStrictlySortedBy};
 ghost use Rattle.measured_bucket.specs.SimmKinds.Order.{pair_cmp};
 ghost use Rattle.measured_bucket.specs.SimmRules.Lookups.{six};
@@ -33,11 +34,13 @@ pub fn volatile_pairs(
     lent: &PlaceFactors,
     scale: TenorScale,
 ) -> Result<Vec<TenorSum<CurrencyPair>>, AllocError>
-    requires order { IsStrictlySortedBy pair_volatility_cmp (map (λ a. a.of) (pair_nets lent.now)) }
-    requires sizes { sum_by (λ a. unsigned_abs a.amount) (pair_nets lent.now) ≤ 2 * 10 ^ 20 }
+    requires order { IsStrictlySortedBy pair_volatility_cmp
+        (map (λ a. a.of) (pair_nets lent.now.factors)) }
+    requires sizes { sum_by (λ a. unsigned_abs a.amount) (pair_nets lent.now.factors)
+        ≤ 2 * 10 ^ 20 }
     ensures sums { IfOk result (λ sums.
-        pair_sums sums.items ≡ pair_totals scale (pair_nets lent.now)) }
-    ensures ready { (p : Params) → IsParams p → ArePairs p (pair_nets lent.now)
+        pair_sums sums.items ≡ pair_totals scale (pair_nets lent.now.factors)) }
+    ensures ready { (p : Params) → IsParams p → ArePairs p (pair_nets lent.now.factors)
         → IfOk result (λ sums.
         AreTotals pair_cmp scale (fx_sigma p) (pair_sums sums.items)) }
 {
@@ -49,7 +52,7 @@ fn tenors_among(
     alloc: Global,
     lent: &PlaceFactors,
 ) -> Result<Vec<TenorNet<CurrencyPair>>, AllocError>
-    ensures { IfOk result (λ nets. map tenor_view nets.items ≡ pair_nets lent.now) }
+    ensures { IfOk result (λ nets. map tenor_view nets.items ≡ pair_nets lent.now.factors) }
 {
     let mut nets = Vec::with_capacity(alloc, lent.len())?;
     for (key, holding) in lent.iter() {

@@ -1,10 +1,12 @@
-//! The vega of foreign exchange: the volatilities of its pairs of currencies, each pair a concentration group by itself.
+//! The vega of foreign exchange: the volatilities of its pairs of currencies, each pair a
+//! concentration group by itself.
 ghost use Rattle.std.specs.Prelude.{◌≡◌, ◌^◌, All, IfOk, map};
 ghost use Rattle.measured_bucket.specs.SimmKinds.Order.{pair_cmp, same_pair};
 ghost use Rattle.measured_bucket.specs.SimmKinds.Pair.{Pair};
 ghost use Rattle.measured_bucket.specs.SimmRules.Bucket.{weighted_value};
 ghost use Rattle.measured_bucket.specs.SimmRules.Concentration.{one};
-ghost use Rattle.measured_bucket.specs.SimmRules.ForeignExchange.{fx_sigma, fx_vega_threshold, pair_rho};
+ghost use Rattle.measured_bucket.specs.SimmRules.ForeignExchange.{fx_sigma};
+ghost use Rattle.measured_bucket.specs.SimmRules.ForeignExchange.{fx_vega_threshold, pair_rho};
 ghost use Rattle.measured_bucket.specs.WeightedBucket.declared.scaling.Scaling.TheVariants as ways;
 ghost use Rattle.measured_bucket.specs.Measured.{IsNear};
 ghost use Rattle.measured_bucket.specs.Runs.{AreTotals};
@@ -28,7 +30,8 @@ use std::alloc::{AllocError, Global};
 pub struct FxVega<'a> {
     /// The parameters.
     pub params: &'a Params,
-    /// What the nets to the volatilities of each pair come to, each tenor counted once; in the order of the pairs.
+    /// What the nets to the volatilities of each pair come to, each tenor counted once; in the
+    /// order of the pairs.
     pub pairs: &'a [TenorSum<CurrencyPair>],
 }
 
@@ -37,7 +40,8 @@ impl<'a> Measured for FxVega<'a> {
 
     type Rho = EvenRho;
 
-    ghost ready = { λ x. AreTotals pair_cmp scale.Even (fx_sigma x.params.now) (pair_sums x.pairs.now) };
+    ghost ready = { λ x.
+        AreTotals pair_cmp scale.Even (fx_sigma x.params.now) (pair_sums x.pairs.now) };
 
     ghost Of = { Pair };
 
@@ -55,7 +59,8 @@ impl<'a> Measured for FxVega<'a> {
 
     ghost cr = { λ _. one };
 
-    ghost near = { λ x. IsNear (10 ^ 10) 832799998 695 (fx_sigma x.params.now) (pair_sums x.pairs.now) };
+    ghost near = { λ x.
+        IsNear (10 ^ 10) 832799998 695 (fx_sigma x.params.now) (pair_sums x.pairs.now) };
 
     ghost scaling = { ways.Concentrated };
 
@@ -93,7 +98,8 @@ fn weigh_pairs(
     pairs: &[TenorSum<CurrencyPair>],
 ) -> Result<Vec<Weighed>, AllocError>
     requires { All (CanWeigh params.now) pairs.now }
-    ensures { IfOk result (λ weighed. weighed.items ≡ map (λ pair. weighed_as (vega_pair params.now (pair_sum pair))) pairs.now) }
+    ensures { IfOk result (λ weighed. weighed.items
+        ≡ map (λ pair. weighed_as (vega_pair params.now (pair_sum pair))) pairs.now) }
 {
     let mut weighed = Vec::with_capacity(alloc, pairs.len())?;
     for pair in pairs {

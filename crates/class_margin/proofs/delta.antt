@@ -1,5 +1,4 @@
 pub mod Lists
-pub mod Places
 pub mod Counts
 pub mod Bounds
 pub mod Totals
@@ -11,4 +10,3 @@ pub mod Classes
 pub mod Margined
 pub mod Currencies
 pub mod OneBucket
-pub mod Lent

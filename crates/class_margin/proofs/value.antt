@@ -1,4 +1,5 @@
-pub mod Slots
 pub mod Own
 pub mod Counts
 pub mod Ready
+pub mod Gathered
+pub mod Parts

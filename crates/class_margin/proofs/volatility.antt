@@ -1,12 +1,10 @@
 pub mod Bounds
-pub mod VolatilePlaces
 pub mod InBook
 pub mod Parts
 pub mod Ready
 pub mod Sizes
 pub mod Currencies
 pub mod Classes
-pub mod ByBucket
 pub mod Margined
 pub mod Pairs
 pub mod CurvatureAlike
@@ -16,7 +14,6 @@ pub mod CurvatureNumbered
 pub mod CurvatureRates
 pub mod CurvaturePairs
 pub mod CurvatureClasses
-pub mod CurvatureByBucket
 pub mod CurvatureMargined
 pub mod NegatedBooks
 pub mod NegatedCurvature

@@ -1,4 +1,5 @@
 pub mod Class
+pub mod At
 pub mod Buckets
 pub mod Values
 pub mod Delta

@@ -1,6 +1,6 @@
-pub mod Slot
 pub mod Delta
 pub mod Volatile
-pub mod Counts
 pub mod Vega
 pub mod Curvature
+pub mod Place
+pub mod Values

@@ -1,5 +1,5 @@
 //! The classes of which the file lists buckets, and the numbered ones of these side by side.
-ghost use Rattle.std.specs.Prelude.{◌≡◌, ◌≤◌, true, unsigned_abs, ℕ, IfOk};
+ghost use Rattle.std.specs.Prelude.{◌≡◌, ◌≤◌, true, unsigned_abs, IfOk};
 ghost use Rattle.std.specs.List.{AllByRecursion};
 ghost use Rattle.class_rates.specs.SimmKinds.Factors.{listed_id};
 ghost use Rattle.class_rates.specs.SimmParams.ListedBuckets.{listed_place};
@@ -7,21 +7,23 @@ ghost use Rattle.class_rates.specs.SimmParams.Weighed.{AreCorrelations};
 ghost use Rattle.class_rates.specs.SimmRules.Across.{numbered, place_among};
 ghost use Rattle.class_rates.specs.SimmRules.Admits.{lists};
 ghost use Rattle.class_rates.specs.SimmRules.Lookups.{at_row};
-ghost use Rattle.class_margin.specs.names_delta.Combine.{listed_in, gamma_in, parts_in, margins_of, places_of, number_place, IsListed};
+ghost use Rattle.class_margin.specs.names_delta.Combine.{listed_in, gamma_in, parts_in};
+ghost use Rattle.class_margin.specs.names_delta.Combine.{margins_of, places_of, number_place};
+ghost use Rattle.class_margin.specs.names_delta.Combine.{IsListed};
 
 use class_rates::mh_units::Rate4;
 use class_rates::simm_kinds::{Bucket, BucketId};
-use class_rates::simm_params::{CreditKind, Params, PricedKind};
-use class_rates::simm_rules::BucketMargin;
+use class_rates::simm_params::Params;
+use class_rates::simm_rules::{BucketMargin, CreditClass, PricedClass};
 use std::alloc::{AllocError, Global};
 
 /// A class of which the file lists buckets.
 #[derive(Clone, Copy)]
 pub enum ListedClass {
     /// A class of credit.
-    Credit(CreditKind),
+    Credit(CreditClass),
     /// Equity or commodities.
-    Priced(PricedKind),
+    Priced(PricedClass),
 }
 
 impl ListedClass {
@@ -48,8 +50,8 @@ impl ListedClass {
         ensures { result ≡ listed_place (listed_in params.now self) bucket }
     {
         match self {
-            ListedClass::Credit(kind) => params.credit_place(kind, bucket),
-            ListedClass::Priced(kind) => params.priced_place(kind, bucket),
+            ListedClass::Credit(class) => params.credit_place(class, bucket),
+            ListedClass::Priced(class) => params.priced_place(class, bucket),
         }
     }
 
@@ -59,13 +61,14 @@ impl ListedClass {
         ensures size { unsigned_abs result.0 ≤ 10000 }
     {
         match self {
-            ListedClass::Credit(kind) => params.credit_gamma(kind, row, column),
-            ListedClass::Priced(kind) => params.priced_gamma(kind, row, column),
+            ListedClass::Credit(class) => params.credit_gamma(class, row, column),
+            ListedClass::Priced(class) => params.priced_gamma(class, row, column),
         }
     }
 }
 
-/// The values of the numbered buckets of a class, and the place of each among the buckets that the file lists.
+/// The values of the numbered buckets of a class, and the place of each among the buckets that the
+/// file lists.
 #[derive(Drop)]
 pub struct Numbered {
     /// The values.
@@ -81,8 +84,10 @@ pub fn number_parts(
     class: ListedClass,
     parts: &[(BucketId, BucketMargin)],
 ) -> Result<Numbered, AllocError>
-    requires { AllByRecursion (λ part. IsListed (listed_in params.now class) (listed_id part.0)) parts.now }
-    ensures margins { IfOk result (λ n. n.margins.items ≡ margins_of (numbered (parts_in parts.now))) }
+    requires { AllByRecursion
+        (λ part. IsListed (listed_in params.now class) (listed_id part.0)) parts.now }
+    ensures margins { IfOk result (λ n.
+        n.margins.items ≡ margins_of (numbered (parts_in parts.now))) }
     ensures places { IfOk result (λ n.
         n.places.items ≡ places_of (listed_in params.now class) (numbered (parts_in parts.now))) }
 {

@@ -22,7 +22,8 @@ impl Ratios<'_> {
     pub fn between(&self, i: usize, j: usize) -> Corr6
         requires row { i < length self.now.buckets.now }
         requires column { j < length self.now.buckets.now }
-        ensures value { let factors = map as_factor self.now.buckets.now in result.0 ≡ ratio (cr_at factors i) (cr_at factors j) }
+        ensures value { let factors = map as_factor self.now.buckets.now in
+            result.0 ≡ ratio (cr_at factors i) (cr_at factors j) }
         ensures size { unsigned_abs result.0 ≤ 1000000 }
     {
         ratio(self.buckets[i].cr, self.buckets[j].cr)

@@ -1,7 +1,8 @@
 //! The correlations of the buckets of a class, by their places among its values.
 ghost use Rattle.std.specs.Prelude.{◌≡◌, ℕ, ◌<◌, ◌≤◌, unsigned_abs};
 ghost use Rattle.class_rates.specs.PairSums.WithItself.{with_itself-one};
-ghost use Rattle.class_margin.specs.Table.{across_at, corr_at, count_of, room_of, scaled_by, table_at, IsInside};
+ghost use Rattle.class_margin.specs.Table.{across_at, corr_at, count_of, room_of};
+ghost use Rattle.class_margin.specs.Table.{scaled_by, table_at, IsInside};
 
 use crate::listed::ListedClass;
 use crate::ratios::Ratios;
@@ -54,7 +55,8 @@ pub enum Scaling<'a> {
     Plain,
     /// Squared: curvature.
     Squared,
-    /// Times the ratio of the concentration factors of these buckets: delta and vega of interest rates.
+    /// Times the ratio of the concentration factors of these buckets: delta and vega of
+    /// interest rates.
     Concentrated(Ratios<'a>),
 }
 
@@ -81,10 +83,13 @@ pub struct GammaTable<'a> {
     pub gamma: Gamma<'a>,
     /// How it counts.
     pub scaling: Scaling<'a>,
-    ghost small: { (i j : ℕ) → i < count_of gamma → j < count_of gamma → unsigned_abs (table_at gamma i j) ≤ 1000000 },
+    ghost small: { (i j : ℕ) → i < count_of gamma → j < count_of gamma
+        → unsigned_abs (table_at gamma i j) ≤ 1000000 },
     ghost sized: { room_of scaling (count_of gamma) ≡ count_of gamma },
-    ghost symmetric: { (i j : ℕ) → i < count_of gamma → j < count_of gamma → corr_at scaling gamma i j ≡ corr_at scaling gamma j i },
-    ghost at_most_one: { (i j : ℕ) → i < count_of gamma → j < count_of gamma → unsigned_abs (corr_at scaling gamma i j) ≤ 1000000 },
+    ghost symmetric: { (i j : ℕ) → i < count_of gamma → j < count_of gamma
+        → corr_at scaling gamma i j ≡ corr_at scaling gamma j i },
+    ghost at_most_one: { (i j : ℕ) → i < count_of gamma → j < count_of gamma
+        → unsigned_abs (corr_at scaling gamma i j) ≤ 1000000 },
 }
 
 impl Correlation for GammaTable<'_> {

@@ -15,7 +15,9 @@ use Rattle.measured_bucket.specs.SimmKinds.declared.factor.Factor.TheVariants as
 use Rattle.measured_bucket.specs.SimmKinds.declared.key.FactorKey.{FactorKey}
 use Rattle.measured_bucket.specs.SimmKinds.Factors.{bucket_id_of}
 use Rattle.measured_bucket.specs.SimmKinds.Order.{same_product, key_cmp, name_cmp, same_name, tenor_place, bucket_numbers, same_bucket, same_bucket_id}
-use Rattle.measured_bucket.specs.SimmRules.Risks.{risk, PricedClass, Equities, Commodities, Amount}
+use Rattle.measured_bucket.specs.SimmRules.Risks.{risk, Amount}
+use Rattle.measured_bucket.specs.SimmRules.declared.classes.PricedClass.{PricedClass}
+use Rattle.measured_bucket.specs.SimmRules.declared.classes.PricedClass.TheVariants.{Equities, Commodities}
 use Rattle.measured_bucket.specs.SimmRules.Priced.{NameVolatility, as_price_volatility}
 use Rattle.measured_bucket.specs.FactorBook.declared.holding.Holding.{Holding}
 use Rattle.measured_bucket.specs.FactorBook.Factors.{IsBook}

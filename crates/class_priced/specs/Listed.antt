@@ -3,7 +3,7 @@
 use Rattle.std.specs.Prelude.{Option}
 use Rattle.measured_bucket.specs.SimmKinds.declared.bucket.Bucket.{Bucket}
 use Rattle.measured_bucket.specs.SimmRules.Params.{Params, PricedBucket}
-use Rattle.measured_bucket.specs.SimmRules.Risks.{PricedClass}
+use Rattle.measured_bucket.specs.SimmRules.declared.classes.PricedClass.{PricedClass}
 use Rattle.measured_bucket.specs.SimmRules.Priced.{priced_params}
 use Rattle.measured_bucket.specs.SimmParams.ListedBuckets.{priced_bucket_of}
 

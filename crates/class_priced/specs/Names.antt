@@ -6,17 +6,15 @@ use Rattle.std.specs.declared.cmp.Ordering.{Ordering}
 use Rattle.std.specs.Ordering.{nat_cmp, ordering_then}
 use Rattle.std.specs.List.Sorted.{IsStrictlySortedBy}
 use Rattle.measured_bucket.specs.SimmKinds.declared.kinds.ProductClass.{ProductClass}
-use Rattle.measured_bucket.specs.SimmKinds.declared.kinds.RiskClass.{RiskClass}
-use Rattle.measured_bucket.specs.SimmKinds.declared.kinds.RiskClass.TheVariants as class
 use Rattle.measured_bucket.specs.SimmKinds.declared.bucket.Bucket.{Bucket}
 use Rattle.measured_bucket.specs.SimmKinds.declared.key.FactorKey.{FactorKey}
-use Rattle.measured_bucket.specs.SimmKinds.Factors.{bucket_id_of}
 use Rattle.measured_bucket.specs.SimmKinds.Order.{name_cmp, tenor_place}
-use Rattle.measured_bucket.specs.SimmRules.Risks.{Risk, Of_rate, Of_rate_volatility, Of_credit, Of_credit_volatility, Of_base_correlation, Of_price, Of_price_volatility, Of_currency, Of_pair_volatility, PricedClass, Equities, Commodities, Amount, select}
+use Rattle.measured_bucket.specs.SimmRules.Risks.{Risk, Of_rate, Of_rate_volatility, Of_credit, Of_credit_volatility, Of_base_correlation, Of_price, Of_price_volatility, Of_currency, Of_pair_volatility, Amount, select}
+use Rattle.measured_bucket.specs.SimmRules.declared.classes.PricedClass.{PricedClass}
 use Rattle.measured_bucket.specs.SimmRules.Priced.{NameVolatility, as_price, as_price_volatility}
 use Rattle.measured_bucket.specs.FactorBook.declared.place.Place.{Place}
-use Rattle.measured_bucket.specs.FactorBook.declared.place.BookSide.{BookSide}
-use Rattle.measured_bucket.specs.FactorBook.declared.place.BookSide.TheVariants as side
+use Rattle.measured_bucket.specs.FactorBook.declared.place.Stand.TheVariants as stand
+use Rattle.measured_bucket.specs.FactorBook.declared.slot.Slot.TheVariants as slot
 use Rattle.measured_bucket.specs.FactorBook.declared.holding.Holding.{Holding}
 use Rattle.measured_bucket.specs.FactorBook.Factors.{net_of}
 use Rattle.measured_bucket.specs.Runs.{AreRunsInRange}
@@ -25,18 +23,11 @@ use Rattle.class_priced.specs.declared.names.NameNet.{NameNet}
 
 -- ---- where they stand
 
-abbrev pub priced_risk_class : PricedClass → RiskClass
-priced_risk_class Equities = class.Equity
-priced_risk_class Commodities = class.Commodity
-
-abbrev pub priced_place : BookSide → PricedClass → Bucket → ProductClass → Place
-priced_place side class at product = record { product = product; class = priced_risk_class class; side = side; bucket = bucket_id_of at }
-
 abbrev pub names_place : PricedClass → Bucket → ProductClass → Place
-names_place class at product = priced_place side.Delta class at product
+names_place class at product = record { product = product; stand = stand.Delta (slot.Priced class at) }
 
 abbrev pub volatilities_place : PricedClass → Bucket → ProductClass → Place
-volatilities_place class at product = priced_place side.Volatility class at product
+volatilities_place class at product = record { product = product; stand = stand.Volatility (slot.Priced class at) }
 
 -- ---- their nets, in key order
 

@@ -1,4 +1,5 @@
-//! The curvature of a bucket of equity or of commodities: the volatilities of its names, without concentration.
+//! The curvature of a bucket of equity or of commodities: the volatilities of its names,
+//! without concentration.
 ghost use Rattle.std.specs.Prelude.{◌≡◌, ℕ, ◌*◌, ◌^◌, ◌≤◌, All, IfOk, List, map, unsigned_abs};
 ghost use Rattle.measured_bucket.specs.SimmKinds.Order.{name_cmp, same_name};
 ghost use Rattle.measured_bucket.specs.SimmRules.Concentration.{one};
@@ -27,7 +28,8 @@ use std::alloc::{AllocError, Global};
 pub struct PricedCurvature<'a> {
     /// The bucket.
     pub listed: ListedPriced,
-    /// What the nets to the volatilities of each name come to, by how near their tenors are; in the order of the names.
+    /// What the nets to the volatilities of each name come to, by how near their tenors are; in
+    /// the order of the names.
     pub names: &'a [TenorSum<&'a FullName>],
 }
 
@@ -36,7 +38,8 @@ impl<'a> Measured for PricedCurvature<'a> {
 
     type Rho = EvenRho;
 
-    ghost ready = { λ x. AreTotals name_cmp scale.Curved (λ _. x.listed.bucket.sigma.0) (name_sums x.names.now) };
+    ghost ready = { λ x.
+        AreTotals name_cmp scale.Curved (λ _. x.listed.bucket.sigma.0) (name_sums x.names.now) };
 
     ghost Of = { List ℕ };
 
@@ -46,7 +49,8 @@ impl<'a> Measured for PricedCurvature<'a> {
 
     ghost rho = { λ x. name_rho (priced_bucket_view x.listed.bucket) };
 
-    ghost weighted = { λ x. map (curved_name (priced_bucket_view x.listed.bucket)) (name_sums x.names.now) };
+    ghost weighted = { λ x.
+        map (curved_name (priced_bucket_view x.listed.bucket)) (name_sums x.names.now) };
 
     ghost unweighed = { λ x. let b = priced_bucket_view x.listed.bucket in
         map (uncurved_name b) (name_sums x.names.now) };
@@ -55,7 +59,8 @@ impl<'a> Measured for PricedCurvature<'a> {
 
     ghost cr = { λ _. one };
 
-    ghost near = { λ x. IsNear 219000000 1 1 (λ _. x.listed.bucket.sigma.0) (name_sums x.names.now) };
+    ghost near = { λ x.
+        IsNear 219000000 1 1 (λ _. x.listed.bucket.sigma.0) (name_sums x.names.now) };
 
     ghost scaling = { ways.Squared };
 
@@ -102,7 +107,8 @@ fn curve_names(
 ) -> Result<Vec<Weighed>, AllocError>
     requires sigma { IsWithin sigmas sigma.0 }
     requires small { All (λ name. unsigned_abs name.sum ≤ 219 * 10 ^ 22) names.now }
-    ensures { IfOk result (λ risks. risks.items ≡ map (λ name. curved_by sigma.0 name.sum) names.now) }
+    ensures { IfOk result (λ risks.
+        risks.items ≡ map (λ name. curved_by sigma.0 name.sum) names.now) }
 {
     let mut risks = Vec::with_capacity(alloc, names.len())?;
     for name in names {

@@ -1,4 +1,5 @@
-//! The delta of a bucket of equity or of commodities: its names, each a concentration group by itself.
+//! The delta of a bucket of equity or of commodities: its names, each a concentration group
+//! by itself.
 ghost use Rattle.std.specs.Prelude.{◌≡◌, ℕ, ◌*◌, ◌^◌, ◌≤◌, All, IfOk, List, map, unsigned_abs};
 ghost use Rattle.measured_bucket.specs.SimmKinds.Order.{same_name};
 ghost use Rattle.measured_bucket.specs.SimmRules.Bucket.{weighted_value};
@@ -45,7 +46,8 @@ impl<'a> Measured for PricedDelta<'a> {
 
     ghost rho = { λ x. name_rho (priced_bucket_view x.listed.bucket) };
 
-    ghost weighted = { λ x. map (delta_name (priced_bucket_view x.listed.bucket)) (names_view x.names.now) };
+    ghost weighted = { λ x.
+        map (delta_name (priced_bucket_view x.listed.bucket)) (names_view x.names.now) };
 
     ghost unweighed = { λ x. let b = priced_bucket_view x.listed.bucket in
         map (unweighed_name b) (names_view x.names.now) };
@@ -54,7 +56,8 @@ impl<'a> Measured for PricedDelta<'a> {
 
     ghost cr = { λ _. one };
 
-    ghost near = { λ x. IsNear (10 ^ 10) 346999999 1 (λ _. x.listed.bucket.terms.weight.0) (names_view x.names.now) };
+    ghost near = { λ x. IsNear (10 ^ 10) 346999999 1 (λ _. x.listed.bucket.terms.weight.0)
+        (names_view x.names.now) };
 
     ghost scaling = { ways.Concentrated };
 
@@ -91,8 +94,10 @@ fn weigh_names(
     names: &[NameNet],
 ) -> Result<Vec<Weighed>, AllocError>
     requires concentrate { All (λ name. CanConcentrate name.net threshold) names.now }
-    requires small { All (λ name. unsigned_abs name.net * unsigned_abs weight.0 ≤ 10 ^ 28) names.now }
-    ensures { IfOk result (λ weighed. weighed.items ≡ map (λ name. weighed_alone weight.0 threshold name.net) names.now) }
+    requires small { All
+        (λ name. unsigned_abs name.net * unsigned_abs weight.0 ≤ 10 ^ 28) names.now }
+    ensures { IfOk result (λ weighed.
+        weighed.items ≡ map (λ name. weighed_alone weight.0 threshold name.net) names.now) }
 {
     let mut weighed = Vec::with_capacity(alloc, names.len())?;
     for name in names {

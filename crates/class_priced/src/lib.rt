@@ -1,5 +1,6 @@
-//! Equity and commodities: the delta, vega and curvature of a bucket of names. Each is a measure in a file of its own: how the names
-//! are weighed, and how they correlate. The volatilities of a name at all tenors are one factor.
+//! Equity and commodities: the delta, vega and curvature of a bucket of names. Each is a measure
+//! in a file of its own: how the names are weighed, and how they correlate. The volatilities of a
+//! name at all tenors are one factor.
 //! (ISDA SIMM methodology, equity and commodity risk.)
 #![tactic(auto)]
 

@@ -1,11 +1,14 @@
 //! The names of a bucket of equity or of commodities, as a book lends them at its place: the net
 //! to each, and what the nets to its volatilities come to over their tenors.
-ghost use Rattle.std.specs.Prelude.{◌≡◌, ◌*◌, ◌^◌, ◌≤◌, ◌≤ℤ◌, ℤ, IfOk, map, option_map, pos, sum_by, unsigned_abs};
+ghost use Rattle.std.specs.Prelude.{◌≡◌, ◌*◌, ◌^◌, ◌≤◌, ◌≤ℤ◌, ℤ, IfOk};
+ghost use Rattle.std.specs.Prelude.{map, option_map, pos, sum_by, unsigned_abs};
 ghost use Rattle.std.specs.List.Sorted.{IsStrictlySortedBy};
 ghost use Rattle.measured_bucket.specs.SimmKinds.Order.{name_cmp};
 ghost use Rattle.measured_bucket.specs.SimmRules.Risks.{risk};
 ghost use Rattle.measured_bucket.specs.Runs.{AreTotals};
-ghost use Rattle.class_priced.specs.Names.{as_name, as_name_volatility, name_nets, name_volatility_cmp, names_view, volatility_nets, AreNameVolatilities};
+ghost use Rattle.class_priced.specs.Names.{as_name, as_name_volatility, name_nets};
+ghost use Rattle.class_priced.specs.Names.{name_volatility_cmp, names_view, volatility_nets};
+ghost use Rattle.class_priced.specs.Names.{AreNameVolatilities};
 ghost use Rattle.class_priced.specs.Sums.{name_sums, name_totals, tenor_view, volatility_view};
 
 use measured_bucket::factor_book::PlaceFactors;
@@ -34,7 +37,7 @@ pub fn delta_names<'a>(
     alloc: Global,
     lent: &'a PlaceFactors,
 ) -> Result<Vec<NameNet<'a>>, AllocError>
-    ensures { IfOk result (λ nets. names_view nets.items ≡ name_nets lent.now) }
+    ensures { IfOk result (λ nets. names_view nets.items ≡ name_nets lent.now.factors) }
 {
     let mut nets = Vec::with_capacity(alloc, lent.len())?;
     for (key, holding) in lent.iter() {
@@ -67,13 +70,14 @@ pub fn volatile_names<'a>(
     lent: &'a PlaceFactors,
     scale: TenorScale,
 ) -> Result<Vec<TenorSum<&'a FullName>>, AllocError>
-    requires order { let nets = volatility_nets lent.now in
+    requires order { let nets = volatility_nets lent.now.factors in
         IsStrictlySortedBy name_volatility_cmp (map (λ a. a.of) nets) }
-    requires sizes { sum_by (λ a. unsigned_abs a.amount) (volatility_nets lent.now) ≤ 2 * 10 ^ 20 }
+    requires sizes { sum_by (λ a. unsigned_abs a.amount) (volatility_nets lent.now.factors)
+        ≤ 2 * 10 ^ 20 }
     ensures sums { IfOk result (λ sums.
-        name_sums sums.items ≡ name_totals scale (volatility_nets lent.now)) }
+        name_sums sums.items ≡ name_totals scale (volatility_nets lent.now.factors)) }
     ensures measured { IfOk result (λ sums. (sigma : ℤ) → pos 0 ≤ℤ sigma
-        → AreNameVolatilities sigma (volatility_nets lent.now)
+        → AreNameVolatilities sigma (volatility_nets lent.now.factors)
         → AreTotals name_cmp scale (λ _. sigma) (name_sums sums.items)) }
 {
     let nets = tenors_among(alloc, lent)?;
@@ -84,7 +88,7 @@ fn tenors_among<'a>(
     alloc: Global,
     lent: &'a PlaceFactors,
 ) -> Result<Vec<TenorNet<&'a FullName>>, AllocError>
-    ensures { IfOk result (λ nets. map tenor_view nets.items ≡ volatility_nets lent.now) }
+    ensures { IfOk result (λ nets. map tenor_view nets.items ≡ volatility_nets lent.now.factors) }
 {
     let mut nets = Vec::with_capacity(alloc, lent.len())?;
     for (key, holding) in lent.iter() {

@@ -1,4 +1,5 @@
-//! The vega of a bucket of equity or of commodities: the volatilities of its names, each a concentration group by itself.
+//! The vega of a bucket of equity or of commodities: the volatilities of its names, each a
+//! concentration group by itself.
 ghost use Rattle.std.specs.Prelude.{◌≡◌, ℕ, ◌*◌, ◌^◌, ◌≤◌, All, IfOk, List, map, unsigned_abs};
 ghost use Rattle.measured_bucket.specs.SimmKinds.Order.{name_cmp, same_name};
 ghost use Rattle.measured_bucket.specs.SimmRules.Bucket.{weighted_value};
@@ -29,7 +30,8 @@ use std::alloc::{AllocError, Global};
 pub struct PricedVega<'a> {
     /// The bucket.
     pub listed: ListedPriced,
-    /// What the nets to the volatilities of each name come to, each tenor counted once; in the order of the names.
+    /// What the nets to the volatilities of each name come to, each tenor counted once; in the
+    /// order of the names.
     pub names: &'a [TenorSum<&'a FullName>],
 }
 
@@ -38,7 +40,8 @@ impl<'a> Measured for PricedVega<'a> {
 
     type Rho = EvenRho;
 
-    ghost ready = { λ x. AreTotals name_cmp scale.Even (λ _. x.listed.bucket.sigma.0) (name_sums x.names.now) };
+    ghost ready = { λ x.
+        AreTotals name_cmp scale.Even (λ _. x.listed.bucket.sigma.0) (name_sums x.names.now) };
 
     ghost Of = { List ℕ };
 
@@ -48,7 +51,8 @@ impl<'a> Measured for PricedVega<'a> {
 
     ghost rho = { λ x. name_rho (priced_bucket_view x.listed.bucket) };
 
-    ghost weighted = { λ x. map (vega_name x.listed.hvr.0 (priced_bucket_view x.listed.bucket)) (name_sums x.names.now) };
+    ghost weighted = { λ x. map (vega_name x.listed.hvr.0 (priced_bucket_view x.listed.bucket))
+        (name_sums x.names.now) };
 
     ghost unweighed = { λ x. let b = priced_bucket_view x.listed.bucket in
         map (unweighed_vega x.listed.hvr.0 b) (name_sums x.names.now) };
@@ -57,7 +61,8 @@ impl<'a> Measured for PricedVega<'a> {
 
     ghost cr = { λ _. one };
 
-    ghost near = { λ x. IsNear (10 ^ 10) 832799998 695 (λ _. x.listed.bucket.sigma.0) (name_sums x.names.now) };
+    ghost near = { λ x.
+        IsNear (10 ^ 10) 832799998 695 (λ _. x.listed.bucket.sigma.0) (name_sums x.names.now) };
 
     ghost scaling = { ways.Concentrated };
 
@@ -107,8 +112,8 @@ fn weigh_names(
 ) -> Result<Vec<Weighed>, AllocError>
     requires sizes { All (λ name. unsigned_abs name.sum ≤ 2 * 10 ^ 20) names.now }
     requires small { All (λ name. IsSmall terms.now.sigma.0 name.sum) names.now }
-    ensures { let t = terms.now in IfOk result (λ weighed.
-        weighed.items ≡ map (λ name. vega_alone t.hvr.0 t.sigma.0 t.weight.0 t.threshold name.sum) names.now) }
+    ensures { let t = terms.now in IfOk result (λ weighed. weighed.items
+        ≡ map (λ name. vega_alone t.hvr.0 t.sigma.0 t.weight.0 t.threshold name.sum) names.now) }
 {
     let mut weighed = Vec::with_capacity(alloc, names.len())?;
     for name in names {

@@ -15,7 +15,6 @@ use Rattle.measured_bucket.specs.SimmKinds.Order.{same_product, same_name, key_c
 use Rattle.measured_bucket.proofs.SimmKinds.Variants.{is_eq-Equal}
 use Rattle.measured_bucket.specs.SimmRules.Net.{Sensitivity}
 use Rattle.measured_bucket.specs.SimmRules.Risks.{Risk, risk, Amount, select}
-use Rattle.measured_bucket.specs.FactorBook.declared.place.BookSide.{BookSide}
 use Rattle.measured_bucket.specs.FactorBook.declared.place.Place.{Place}
 use Rattle.measured_bucket.specs.FactorBook.declared.holding.Holding.{Holding}
 use Rattle.measured_bucket.specs.FactorBook.Factors.{net_of, IsBook}
@@ -24,7 +23,6 @@ use Rattle.measured_bucket.specs.Values.{nets_in}
 use Rattle.measured_bucket.proofs.Keys.{key_with, by_factor, chosen}
 use Rattle.measured_bucket.proofs.Lists.{map-itself}
 use Rattle.measured_bucket.proofs.Selected.{select_none, select_some, issuers_place, select_ascends}
-use Rattle.class_rates.specs.Places.{currency_place}
 
 -- what was read of a list of which nothing is left
 pub read_whole : {X Y : Type 0} (read : List X → List Y) → read [] ≡ [] → (left : List X) (front all : List Y) → left ≡ [] → front ++ read left ≡ all → front ≡ all
@@ -98,9 +96,9 @@ module _ {In X : Type 0} (sort : Risk → Option In) (name : In → List ℕ) (o
     pub says : (other : Risk → Option X) → ((x : X) → other (risk (factor x)) ≡ Some x) → (f : Factor) (x : X) → own (risk f) ≡ Some x → other (risk f) ≡ Some x
     says other itself f x h = ap (λ g. other (risk g)) (is_factor f x h) ∙ itself x
 
-    pub stands : (side : BookSide) (product : ProductClass) → ((c : ProductClass) (x : X) → stands_at (currency_place side currency product) (key_with c (factor x)) ≡ same_product c product)
-        → (k : FactorKey) (x : X) → own (risk k.factor) ≡ Some x → stands_at (currency_place side currency product) k ≡ same_product k.product product
-    stands side product own_stands k x e = ap (λ f. stands_at (currency_place side currency product) (key_with k.product f)) (is_factor k.factor x e) ∙ own_stands k.product x
+    pub stands : (place : Place) (product : ProductClass) → ((c : ProductClass) (x : X) → stands_at place (key_with c (factor x)) ≡ same_product c product)
+        → (k : FactorKey) (x : X) → own (risk k.factor) ≡ Some x → stands_at place k ≡ same_product k.product product
+    stands place product own_stands k x e = ap (λ f. stands_at place (key_with k.product f)) (is_factor k.factor x e) ∙ own_stands k.product x
 
     module _ (cmp : X → X → Ordering) (in_order : (x y : X) → factor_cmp (factor x) (factor y) ≡ cmp x y) where
       less : (product : ProductClass) (k l : FactorKey) (x y : X) → same_product k.product product ≡ true → same_product l.product product ≡ true → own (risk k.factor) ≡ Some x → own (risk l.factor) ≡ Some y → key_cmp k l ≡ Less → cmp x y ≡ Less

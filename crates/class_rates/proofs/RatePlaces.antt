@@ -15,7 +15,6 @@ use Rattle.measured_bucket.specs.SimmKinds.Factors.{bucket_id_of}
 use Rattle.measured_bucket.specs.SimmKinds.Order.{same_product, same_name, factor_cmp, name_cmp, tenor_place, sub_place, same_bucket_id}
 use Rattle.measured_bucket.specs.SimmRules.Risks.{Risk, risk, Rate, Curve, Inflation, Basis, Amount}
 use Rattle.measured_bucket.specs.SimmRules.Rates.{RateIn, as_rate, same_rate}
-use Rattle.measured_bucket.specs.FactorBook.declared.place.BookSide.TheVariants as side
 use Rattle.measured_bucket.specs.FactorBook.declared.holding.Holding.{Holding}
 use Rattle.measured_bucket.specs.FactorBook.Factors.{IsBook}
 use Rattle.measured_bucket.specs.FactorBook.Places.{stands_at, factors_at}
@@ -112,7 +111,7 @@ module _ (currency : List ℕ) where
   rates_there product fs =
       let its = rate_nets (factors_at (rates_place currency product) fs) in
       there as_rate (λ (r : RateIn). r.currency) (λ (r : RateIn). r.rate) currency as_rate_alone (rates_place currency product)
-      (stands as_rate (λ (r : RateIn). r.currency) (λ (r : RateIn). r.rate) currency factor_of is_factor side.Delta product (own_stands product))
+      (stands as_rate (λ (r : RateIn). r.currency) (λ (r : RateIn). r.rate) currency factor_of is_factor (rates_place currency product) product (own_stands product))
       (λ k x e. says as_rate (λ (r : RateIn). r.currency) (λ (r : RateIn). r.rate) currency factor_of is_factor as_rate_alone itself k.factor x e)
       (λ k e. elsewhere product k.product k.factor e) fs (λ rate. record { currency = currency; rate = rate }) (λ v own. ap (λ c. record { currency = c; rate = v.rate }) (sym own)) (λ (a : Amount Rate). a) its (map-itself (λ (a : Amount Rate). a) (λ a. refl) its)
 

@@ -16,7 +16,6 @@ use Rattle.measured_bucket.specs.SimmKinds.Order.{same_product, same_name, facto
 use Rattle.measured_bucket.specs.SimmRules.Risks.{Risk, risk, RateVolatility, Of_rates, Of_inflation, Amount}
 use Rattle.measured_bucket.specs.SimmRules.Rates.{VolatilityIn, as_rate_volatility, same_rate_volatility, tenor_of}
 use Rattle.measured_bucket.specs.FactorBook.declared.place.Place.{Place}
-use Rattle.measured_bucket.specs.FactorBook.declared.place.BookSide.TheVariants as side
 use Rattle.measured_bucket.specs.FactorBook.declared.holding.Holding.{Holding}
 use Rattle.measured_bucket.specs.FactorBook.Factors.{IsBook}
 use Rattle.measured_bucket.specs.FactorBook.Places.{stands_at, factors_at}
@@ -100,7 +99,7 @@ module _ (currency : List ℕ) where
     place = volatilities_place currency product
 
     stand : (k : FactorKey) (x : RateVolatility) → own_volatility (risk k.factor) ≡ Some x → stands_at place k ≡ same_product k.product product
-    stand = stands as_rate_volatility (λ (v : VolatilityIn). v.currency) (λ (v : VolatilityIn). v.volatility) currency factor_of is_factor side.Volatility product (own_stands product)
+    stand = stands as_rate_volatility (λ (v : VolatilityIn). v.currency) (λ (v : VolatilityIn). v.volatility) currency factor_of is_factor place product (own_stands product)
 
     say : (k : FactorKey) (x : RateVolatility) → own_volatility (risk k.factor) ≡ Some x → as_volatility_alone (risk k.factor) ≡ Some x
     say k x e = says as_rate_volatility (λ (v : VolatilityIn). v.currency) (λ (v : VolatilityIn). v.volatility) currency factor_of is_factor as_volatility_alone itself k.factor x e

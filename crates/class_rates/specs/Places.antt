@@ -2,25 +2,20 @@
 -- (ISDA SIMM methodology, interest rate risk: one bucket a currency.)
 use Rattle.std.specs.Prelude.{ℕ, List}
 use Rattle.measured_bucket.specs.SimmKinds.declared.kinds.ProductClass.{ProductClass}
-use Rattle.measured_bucket.specs.SimmKinds.declared.kinds.RiskClass.TheVariants as class
-use Rattle.measured_bucket.specs.SimmKinds.declared.kinds.BucketId.TheVariants as id
 use Rattle.measured_bucket.specs.SimmKinds.declared.key.FactorKey.{FactorKey}
 use Rattle.measured_bucket.specs.SimmRules.Risks.{Amount}
 use Rattle.measured_bucket.specs.SimmRules.Rates.{RateIn, VolatilityIn, rates_in, volatilities_in}
 use Rattle.measured_bucket.specs.FactorBook.declared.place.Place.{Place}
-use Rattle.measured_bucket.specs.FactorBook.declared.place.BookSide.{BookSide}
-use Rattle.measured_bucket.specs.FactorBook.declared.place.BookSide.TheVariants as side
+use Rattle.measured_bucket.specs.FactorBook.declared.place.Stand.TheVariants as stand
+use Rattle.measured_bucket.specs.FactorBook.declared.slot.Slot.TheVariants as slot
 use Rattle.measured_bucket.specs.FactorBook.declared.holding.Holding.{Holding}
 use Rattle.measured_bucket.specs.Values.{nets_in}
 
-abbrev pub currency_place : BookSide → List ℕ → ProductClass → Place
-currency_place side currency product = record { product = product; class = class.IR; side = side; bucket = id.Currency currency }
-
 abbrev pub rates_place : List ℕ → ProductClass → Place
-rates_place currency product = currency_place side.Delta currency product
+rates_place currency product = record { product = product; stand = stand.Delta (slot.Rates currency) }
 
 abbrev pub volatilities_place : List ℕ → ProductClass → Place
-volatilities_place currency product = currency_place side.Volatility currency product
+volatilities_place currency product = record { product = product; stand = stand.Volatility (slot.Rates currency) }
 
 -- ---- the nets of a currency in a product class, in key order
 

@@ -1,6 +1,7 @@
 //! The values of a currency's bucket, of the factors of its place in a book.
 ghost use Rattle.std.specs.Prelude.{◌≡◌, ◌+◌, ◌*◌, ◌^◌, ◌≤◌, IfOk, length, unsigned_abs};
-ghost use Rattle.measured_bucket.specs.SimmRules.Rates.{currency_curvature_value, currency_value, currency_vega_value, rate_weight};
+ghost use Rattle.measured_bucket.specs.SimmRules.Rates.{currency_curvature_value, currency_value};
+ghost use Rattle.measured_bucket.specs.SimmRules.Rates.{currency_vega_value, rate_weight};
 ghost use Rattle.measured_bucket.specs.Measured.{IsNear, IsSound};
 ghost use Rattle.measured_bucket.specs.Values.{alone};
 ghost use Rattle.class_rates.specs.Rates.{rates_among, AreRates};
@@ -29,13 +30,13 @@ pub fn currency_delta<L: Ledger>(
     lent: &PlaceFactors,
     steps: &mut Steps<L>,
 ) -> Result<BucketMargin, AllocError>
-    requires { AreRates params.now (rates_among currency.now lent.now) }
-    ensures value { let rates = rates_among currency.now lent.now in
+    requires { AreRates params.now (rates_among currency.now lent.now.factors) }
+    ensures value { let rates = rates_among currency.now lent.now.factors in
         IfOk result (λ m. m ≡ currency_value params.now currency.now rates) }
     ensures sound { IfOk result IsSound }
-    ensures near { let rates = rates_among currency.now lent.now in IfOk result (λ m.
+    ensures near { let rates = rates_among currency.now lent.now.factors in IfOk result (λ m.
         IsNear (10 ^ 10) 346999999 1 (rate_weight params.now) rates (unsigned_abs m.gross)) }
-    ensures steps { let n = length (rates_among currency.now lent.now) in
+    ensures steps { let n = length (rates_among currency.now lent.now.factors) in
         steps.new ≤ steps.old + n * n }
 {
     let rates = rates_among(alloc, lent)?;
@@ -56,13 +57,13 @@ pub fn currency_vega<L: Ledger>(
     lent: &PlaceFactors,
     steps: &mut Steps<L>,
 ) -> Result<BucketMargin, AllocError>
-    requires { AreVolatilities (volatilities_among currency.now lent.now) }
-    ensures value { let volatilities = volatilities_among currency.now lent.now in
+    requires { AreVolatilities (volatilities_among currency.now lent.now.factors) }
+    ensures value { let volatilities = volatilities_among currency.now lent.now.factors in
         IfOk result (λ m. m ≡ currency_vega_value params.now currency.now volatilities) }
     ensures sound { IfOk result IsSound }
-    ensures near { let volatilities = volatilities_among currency.now lent.now in IfOk result (λ m.
-        IsNear (10 ^ 10) 693999998 1 alone volatilities (unsigned_abs m.gross)) }
-    ensures steps { let n = length (volatilities_among currency.now lent.now) in
+    ensures near { let volatilities = volatilities_among currency.now lent.now.factors in
+        IfOk result (λ m. IsNear (10 ^ 10) 693999998 1 alone volatilities (unsigned_abs m.gross)) }
+    ensures steps { let n = length (volatilities_among currency.now lent.now.factors) in
         steps.new ≤ steps.old + n * n }
 {
     let volatilities = volatilities_among(alloc, lent)?;
@@ -84,13 +85,13 @@ pub fn currency_curvature<L: Ledger>(
     lent: &PlaceFactors,
     steps: &mut Steps<L>,
 ) -> Result<BucketMargin, AllocError>
-    requires { AreVolatilities (volatilities_among currency.now lent.now) }
-    ensures value { let volatilities = volatilities_among currency.now lent.now in
+    requires { AreVolatilities (volatilities_among currency.now lent.now.factors) }
+    ensures value { let volatilities = volatilities_among currency.now lent.now.factors in
         IfOk result (λ m. m ≡ currency_curvature_value params.now volatilities) }
     ensures sound { IfOk result IsSound }
-    ensures near { let volatilities = volatilities_among currency.now lent.now in IfOk result (λ m.
-        IsNear 20000 1 1 alone volatilities (unsigned_abs m.gross)) }
-    ensures steps { let n = length (volatilities_among currency.now lent.now) in
+    ensures near { let volatilities = volatilities_among currency.now lent.now.factors in
+        IfOk result (λ m. IsNear 20000 1 1 alone volatilities (unsigned_abs m.gross)) }
+    ensures steps { let n = length (volatilities_among currency.now lent.now.factors) in
         steps.new ≤ steps.old + n * n }
 {
     let volatilities = volatilities_among(alloc, lent)?;

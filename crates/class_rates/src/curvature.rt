@@ -1,15 +1,18 @@
-//! The curvature of a currency: the volatilities of its rates and of its inflation, without concentration.
+//! The curvature of a currency: the volatilities of its rates and of its inflation,
+//! without concentration.
 ghost use Rattle.std.specs.Prelude.{◌≡◌, ◌*◌, ◌^◌, ◌≤◌, map, pos, All, IfOk, unsigned_abs};
 ghost use Rattle.measured_bucket.specs.SimmRules.Concentration.{one};
 ghost use Rattle.measured_bucket.specs.SimmRules.Risks.{RateVolatility};
-ghost use Rattle.measured_bucket.specs.SimmRules.Rates.{curved_rate_volatility, rate_volatility_rho, same_rate_volatility};
+ghost use Rattle.measured_bucket.specs.SimmRules.Rates.{curved_rate_volatility};
+ghost use Rattle.measured_bucket.specs.SimmRules.Rates.{rate_volatility_rho, same_rate_volatility};
 ghost use Rattle.measured_bucket.specs.WeightedBucket.declared.scaling.Scaling.TheVariants as ways;
 ghost use Rattle.measured_bucket.specs.Explained.{without_group};
 ghost use Rattle.measured_bucket.specs.Measured.{IsNear};
 ghost use Rattle.measured_bucket.specs.Risk.{risk_of};
 ghost use Rattle.measured_bucket.specs.Values.{alone};
 ghost use Rattle.class_rates.specs.Unweighed.{scaled_net, uncurved_volatility};
-ghost use Rattle.class_rates.specs.Volatilities.{curved_net, rule_volatility, volatilities_view, AreVolatilities};
+ghost use Rattle.class_rates.specs.Volatilities.{curved_net, rule_volatility, volatilities_view};
+ghost use Rattle.class_rates.specs.Volatilities.{AreVolatilities};
 
 use crate::volatilities::VolatilityNet;
 use crate::volatility_rho::VolatilityRho;
@@ -20,7 +23,8 @@ use measured_bucket::weighted_bucket::{Scaling, Weighed};
 use measured_bucket::{Column, Measured, TenorScale, Weighing, curve};
 use std::alloc::{AllocError, Global};
 
-/// The volatility at which a volatility counts: 1, since its amount is already volatility times vega.
+/// The volatility at which a volatility counts: 1, since its amount is already volatility
+/// times vega.
 const UNIT: Rate4 = Rate4(10_000);
 
 /// The curvature of the volatilities of a currency.
@@ -49,7 +53,8 @@ impl<'a> Measured for CurrencyCurvature<'a> {
 
     ghost rho = { λ x. rate_volatility_rho x.params.now };
 
-    ghost weighted = { λ x. map curved_rate_volatility (volatilities_view x.currency.now x.volatilities.now) };
+    ghost weighted = { λ x.
+        map curved_rate_volatility (volatilities_view x.currency.now x.volatilities.now) };
 
     ghost unweighed = { λ x. let its = volatilities_view x.currency.now x.volatilities.now in
         map uncurved_volatility its };
@@ -58,7 +63,8 @@ impl<'a> Measured for CurrencyCurvature<'a> {
 
     ghost cr = { λ _. one };
 
-    ghost near = { λ x. IsNear 20000 1 1 alone (volatilities_view x.currency.now x.volatilities.now) };
+    ghost near = { λ x.
+        IsNear 20000 1 1 alone (volatilities_view x.currency.now x.volatilities.now) };
 
     ghost scaling = { ways.Squared };
 

@@ -1,9 +1,12 @@
-//! The delta of a currency: its curves and its inflation, which are one concentration group, and its basis, which is in none.
-ghost use Rattle.std.specs.Prelude.{◌≡◌, ◌*◌, ◌^◌, ◌<◌, ◌≤◌, ◌≤ℤ◌, ◌<ℤ◌, pos, map, sum_by, All, IfOk, unsigned_abs};
+//! The delta of a currency: its curves and its inflation, which are one concentration group, and
+//! its basis, which is in none.
+ghost use Rattle.std.specs.Prelude.{◌≡◌, ◌*◌, ◌^◌, ◌<◌, ◌≤◌, ◌≤ℤ◌, ◌<ℤ◌};
+ghost use Rattle.std.specs.Prelude.{pos, map, sum_by, All, IfOk, unsigned_abs};
 ghost use Rattle.measured_bucket.specs.SimmRules.Bucket.{weighted_value};
 ghost use Rattle.measured_bucket.specs.SimmRules.Concentration.{one};
 ghost use Rattle.measured_bucket.specs.SimmRules.Risks.{Rate as RuleRate};
-ghost use Rattle.measured_bucket.specs.SimmRules.Rates.{rate_cr, rate_rho, rate_weight, same_rate, weighted_rate};
+ghost use Rattle.measured_bucket.specs.SimmRules.Rates.{rate_cr, rate_rho, rate_weight};
+ghost use Rattle.measured_bucket.specs.SimmRules.Rates.{same_rate, weighted_rate};
 ghost use Rattle.measured_bucket.specs.WeightedBucket.declared.scaling.Scaling.TheVariants as ways;
 ghost use Rattle.measured_bucket.specs.Measured.{IsNear};
 ghost use Rattle.class_rates.specs.Rates.{rates_view, rule_rate, AreRates};
@@ -57,7 +60,8 @@ impl<'a> Measured for CurrencyDelta<'a> {
 
     ghost cr = { λ x. rate_cr x.params.now x.currency.now (rates_view x.currency.now x.rates.now) };
 
-    ghost near = { λ x. IsNear (10 ^ 10) 346999999 1 (rate_weight x.params.now) (rates_view x.currency.now x.rates.now) };
+    ghost near = { λ x. IsNear (10 ^ 10) 346999999 1 (rate_weight x.params.now)
+        (rates_view x.currency.now x.rates.now) };
 
     ghost scaling = { ways.Plain };
 
@@ -134,7 +138,8 @@ fn group_part(net: &RateNet) -> i128
     }
 }
 
-// The net to each rate of a currency of this category, weighed. `cr` is the concentration factor of the currency.
+// The net to each rate of a currency of this category, weighed. `cr` is the concentration factor
+// of the currency.
 fn weigh_rates(
     alloc: Global,
     params: &Params,
@@ -142,9 +147,11 @@ fn weigh_rates(
     cr: Corr6,
     rates: &[RateNet],
 ) -> Result<Vec<Weighed>, AllocError>
-    requires small { All (λ n. unsigned_abs n.net * unsigned_abs (weight_in params.now category n.rate) ≤ 10 ^ 17) rates.now }
+    requires small { All (λ n. unsigned_abs n.net
+        * unsigned_abs (weight_in params.now category n.rate) ≤ 10 ^ 17) rates.now }
     requires below { unsigned_abs cr.0 < 347000000 }
-    ensures { IfOk result (λ weighed. weighed.items ≡ map (weighed_in params.now category cr.0) rates.now) }
+    ensures { IfOk result (λ weighed.
+        weighed.items ≡ map (weighed_in params.now category cr.0) rates.now) }
 {
     let mut weighed = Vec::with_capacity(alloc, rates.len())?;
     for net in rates {
@@ -154,7 +161,8 @@ fn weigh_rates(
 }
 
 fn weigh_rate(params: &Params, category: CurveCategory, cr: Corr6, net: &RateNet) -> Weighed
-    requires small { unsigned_abs net.now.net * unsigned_abs (weight_in params.now category net.now.rate) ≤ 10 ^ 17 }
+    requires small { unsigned_abs net.now.net
+        * unsigned_abs (weight_in params.now category net.now.rate) ≤ 10 ^ 17 }
     requires below { unsigned_abs cr.0 < 347000000 }
     ensures { result ≡ weighed_in params.now category cr.0 net.now }
 {

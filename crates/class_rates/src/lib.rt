@@ -1,5 +1,5 @@
-//! Interest rates: the delta, vega and curvature of a currency's bucket. Each is a measure in a file of its own: which factors it
-//! weighs, how, and how they correlate.
+//! Interest rates: the delta, vega and curvature of a currency's bucket. Each is a measure in a
+//! file of its own: which factors it weighs, how, and how they correlate.
 //! (ISDA SIMM methodology, interest rate risk.)
 #![tactic(auto)]
 

@@ -16,7 +16,8 @@ pub enum Rate {
 }
 
 impl Rate {
-    /// The rate that a key is a sensitivity to, of whatever currency; `None` where it is to no rate.
+    /// The rate that a key is a sensitivity to, of whatever currency; `None` where it is to
+    /// no rate.
     pub fn of(key: &FactorKey) -> Option<Rate>
         ensures { option_map rule_rate result ≡ as_rate_alone (risk key.now.factor) }
     {

@@ -16,7 +16,8 @@ pub struct RateRho<'a> {
     pub params: &'a Params,
     /// The rates.
     pub rates: &'a [RateNet],
-    ghost symmetric: { (i j : ℕ) → rho_at params.now rates.now i j ≡ rho_at params.now rates.now j i },
+    ghost symmetric: { (i j : ℕ)
+        → rho_at params.now rates.now i j ≡ rho_at params.now rates.now j i },
     ghost at_most_one: { (i j : ℕ) → unsigned_abs (rho_at params.now rates.now i j) ≤ 1000000 },
 }
 

@@ -19,7 +19,7 @@ pub struct RateNet {
 /// Want of memory is the only error.
 pub fn rates_among(alloc: Global, lent: &PlaceFactors) -> Result<Vec<RateNet>, AllocError>
     ensures { IfOk result (λ nets. (currency : List ℕ) →
-        rates_view currency nets.items ≡ rates_among currency lent.now) }
+        rates_view currency nets.items ≡ rates_among currency lent.now.factors) }
 {
     let mut nets = Vec::with_capacity(alloc, lent.len())?;
     for (key, holding) in lent.iter() {

@@ -1,14 +1,20 @@
-//! The vega of a currency: the volatilities of its rates and of its inflation, which are one concentration group.
-ghost use Rattle.std.specs.Prelude.{◌≡◌, ◌*◌, ◌^◌, ◌<◌, ◌≤◌, ◌≤ℤ◌, ◌<ℤ◌, pos, map, sum_by, All, IfOk, unsigned_abs};
+//! The vega of a currency: the volatilities of its rates and of its inflation, which are one
+//! concentration group.
+ghost use Rattle.std.specs.Prelude.{◌≡◌, ◌*◌, ◌^◌, ◌<◌, ◌≤◌, ◌≤ℤ◌, ◌<ℤ◌};
+ghost use Rattle.std.specs.Prelude.{pos, map, sum_by, All, IfOk, unsigned_abs};
 ghost use Rattle.measured_bucket.specs.SimmRules.Bucket.{weighted_value};
 ghost use Rattle.measured_bucket.specs.SimmRules.Concentration.{one};
 ghost use Rattle.measured_bucket.specs.SimmRules.Risks.{RateVolatility};
-ghost use Rattle.measured_bucket.specs.SimmRules.Rates.{rate_volatility_cr, rate_volatility_rho, same_rate_volatility, weighted_rate_volatility};
+ghost use Rattle.measured_bucket.specs.SimmRules.Rates.{rate_volatility_cr, rate_volatility_rho};
+ghost use Rattle.measured_bucket.specs.SimmRules.Rates.{same_rate_volatility};
+ghost use Rattle.measured_bucket.specs.SimmRules.Rates.{weighted_rate_volatility};
 ghost use Rattle.measured_bucket.specs.WeightedBucket.declared.scaling.Scaling.TheVariants as ways;
 ghost use Rattle.measured_bucket.specs.Measured.{IsNear};
 ghost use Rattle.measured_bucket.specs.Values.{alone};
-ghost use Rattle.class_rates.specs.Unweighed.{unweighed_volatility, volatilities_group, volatility_from};
-ghost use Rattle.class_rates.specs.Volatilities.{group_net, rule_volatility, volatilities_view, weighed_by, AreVolatilities};
+ghost use Rattle.class_rates.specs.Unweighed.{unweighed_volatility};
+ghost use Rattle.class_rates.specs.Unweighed.{volatilities_group, volatility_from};
+ghost use Rattle.class_rates.specs.Volatilities.{group_net, rule_volatility, volatilities_view};
+ghost use Rattle.class_rates.specs.Volatilities.{weighed_by, AreVolatilities};
 
 use crate::volatilities::VolatilityNet;
 use crate::volatility_rho::VolatilityRho;
@@ -46,8 +52,10 @@ impl<'a> Measured for CurrencyVega<'a> {
 
     ghost rho = { λ x. rate_volatility_rho x.params.now };
 
-    ghost weighted = { λ x. let volatilities = volatilities_view x.currency.now x.volatilities.now in
-        map (weighted_rate_volatility x.params.now (rate_volatility_cr x.params.now x.currency.now volatilities)) volatilities };
+    ghost weighted = { λ x.
+        let volatilities = volatilities_view x.currency.now x.volatilities.now in
+        map (weighted_rate_volatility x.params.now
+        (rate_volatility_cr x.params.now x.currency.now volatilities)) volatilities };
 
     ghost unweighed = { λ x. let its = volatilities_view x.currency.now x.volatilities.now in
         let group = volatilities_group x.params.now x.currency.now its in
@@ -55,9 +63,11 @@ impl<'a> Measured for CurrencyVega<'a> {
 
     ghost weigh = { weighted_value };
 
-    ghost cr = { λ x. rate_volatility_cr x.params.now x.currency.now (volatilities_view x.currency.now x.volatilities.now) };
+    ghost cr = { λ x. rate_volatility_cr x.params.now x.currency.now
+        (volatilities_view x.currency.now x.volatilities.now) };
 
-    ghost near = { λ x. IsNear (10 ^ 10) 693999998 1 alone (volatilities_view x.currency.now x.volatilities.now) };
+    ghost near = { λ x.
+        IsNear (10 ^ 10) 693999998 1 alone (volatilities_view x.currency.now x.volatilities.now) };
 
     ghost scaling = { ways.Plain };
 
@@ -90,7 +100,8 @@ impl<'a> Measured for CurrencyVega<'a> {
 // The concentration factor of a currency.
 fn currency_cr(params: &Params, currency: &Currency, volatilities: &[VolatilityNet]) -> Corr6
     requires { AreVolatilities (volatilities_view currency.now volatilities.now) }
-    ensures value { result.0 ≡ rate_volatility_cr params.now currency.now (volatilities_view currency.now volatilities.now) }
+    ensures value { result.0 ≡ rate_volatility_cr params.now currency.now
+        (volatilities_view currency.now volatilities.now) }
     ensures from_one { one ≤ℤ result.0 }
     ensures below { result.0 <ℤ pos 347000000 }
 {
@@ -134,7 +145,8 @@ fn weigh_volatilities(
 ) -> Result<Vec<Weighed>, AllocError>
     requires small { All (λ n. unsigned_abs n.net * unsigned_abs vrw.0 ≤ 10 ^ 28) volatilities.now }
     requires below { unsigned_abs cr.0 < 347000000 }
-    ensures { IfOk result (λ weighed. weighed.items ≡ map (weighed_by vrw.0 cr.0) volatilities.now) }
+    ensures { IfOk result (λ weighed.
+        weighed.items ≡ map (weighed_by vrw.0 cr.0) volatilities.now) }
 {
     let mut weighed = Vec::with_capacity(alloc, volatilities.len())?;
     for net in volatilities {

@@ -22,7 +22,7 @@ pub fn volatilities_among(
     lent: &PlaceFactors,
 ) -> Result<Vec<VolatilityNet>, AllocError>
     ensures { IfOk result (λ nets. (currency : List ℕ) →
-        volatilities_view currency nets.items ≡ volatilities_among currency lent.now) }
+        volatilities_view currency nets.items ≡ volatilities_among currency lent.now.factors) }
 {
     let mut nets = Vec::with_capacity(alloc, lent.len())?;
     for (key, holding) in lent.iter() {

@@ -15,7 +15,8 @@ pub enum Volatility {
 }
 
 impl Volatility {
-    /// The volatility that a key is a sensitivity to, of whatever currency; `None` where it is to none of a currency.
+    /// The volatility that a key is a sensitivity to, of whatever currency; `None` where it is to
+    /// none of a currency.
     pub fn of(key: &FactorKey) -> Option<Volatility>
         ensures { option_map rule_volatility result ≡ as_volatility_alone (risk key.now.factor) }
     {

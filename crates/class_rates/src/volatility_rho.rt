@@ -15,8 +15,10 @@ pub struct VolatilityRho<'a> {
     pub params: &'a Params,
     /// The volatilities.
     pub volatilities: &'a [VolatilityNet],
-    ghost symmetric: { (i j : ℕ) → volatility_rho_at params.now volatilities.now i j ≡ volatility_rho_at params.now volatilities.now j i },
-    ghost at_most_one: { (i j : ℕ) → unsigned_abs (volatility_rho_at params.now volatilities.now i j) ≤ 1000000 },
+    ghost symmetric: { (i j : ℕ) → volatility_rho_at params.now volatilities.now i j
+        ≡ volatility_rho_at params.now volatilities.now j i },
+    ghost at_most_one: { (i j : ℕ)
+        → unsigned_abs (volatility_rho_at params.now volatilities.now i j) ≤ 1000000 },
 }
 
 impl Rho for VolatilityRho<'_> {

@@ -11,7 +11,10 @@ use Rattle.simm_params.specs.SimmKinds.Order.{same_bucket, bucket_numbers}
 use Rattle.simm_params.specs.Buckets.{bucket_slot, AreInOrder}
 use Rattle.measured_bucket.proofs.Keys.{then_Equal, is_eq-nat}
 use Rattle.simm_params.specs.SimmRules.Params.{Params, CreditBucket, PricedBucket}
-use Rattle.simm_params.specs.SimmRules.Risks.{CreditClass, Qualifying, Non_qualifying, PricedClass, Equities, Commodities}
+use Rattle.simm_params.specs.SimmRules.declared.classes.CreditClass.{CreditClass}
+use Rattle.simm_params.specs.SimmRules.declared.classes.CreditClass.TheVariants.{Qualifying, NonQualifying}
+use Rattle.simm_params.specs.SimmRules.declared.classes.PricedClass.{PricedClass}
+use Rattle.simm_params.specs.SimmRules.declared.classes.PricedClass.TheVariants.{Equities, Commodities}
 use Rattle.simm_params.specs.SimmRules.Credit.{credit_params}
 use Rattle.simm_params.specs.SimmRules.Priced.{priced_params}
 use Rattle.simm_params.specs.ClassRanges.{IsCreditBucket, IsPricedBucket}
@@ -33,7 +36,7 @@ found P test (x ∷ xs) y each h = found_step P (test x) x y (find test xs) each
 
 credit_of : (p : Params) → IsParams p → (class : CreditClass) → IsCreditParams (credit_params p class)
 credit_of p facts Qualifying = facts.credit_q
-credit_of p facts Non_qualifying = facts.credit_nq
+credit_of p facts NonQualifying = facts.credit_nq
 
 pub credit_terms : (p : Params) → IsParams p → (class : CreditClass) (at : Bucket) (b : CreditBucket) → credit_bucket_of (credit_params p class).buckets at ≡ Some b → IsWeighedCredit b → AreTerms (b.terms).weight ((b.terms).thresholds).delta
 credit_terms p facts class at b e weighed =

@@ -1,5 +1,5 @@
 -- What volatilities in range come to over tenors can be measured, and what is near these sums is near the volatilities.
-use Rattle.std.proofs.Common.{◌≡◌, ◌^◌, ℕ, ◌*◌, ◌+◌, ◌<◌, ◌≤◌, List, map, length, ap, ℤ, pos, ◌*ℤ◌, ◌≤ℤ◌, unsigned_abs, arith, mul-le-mul_right}
+use Rattle.std.proofs.Common.{◌≡◌, ◌^◌, ℕ, ◌*◌, ◌+◌, ◌<◌, ◌≤◌, List, length, ap, ℤ, pos, ◌*ℤ◌, ◌≤ℤ◌, unsigned_abs, arith, mul-le-mul_right}
 use Rattle.std.specs.Prelude.{sum_by}
 use Rattle.std.proofs.Math.Nat.{le_of_mul-le-mul_right}
 use Rattle.std.proofs.lemmas.Int.{ints}

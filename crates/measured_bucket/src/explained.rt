@@ -17,16 +17,19 @@ pub struct Explained<N> {
     pub weighed: Weighed,
 }
 
-/// The factors of the bucket, in their order, each with what it is weighed from. They are weighed by the very steps that make
-/// the bucket's value. Want of memory is the only error.
+/// The factors of the bucket, in their order, each with what it is weighed from. They are weighed
+/// by the very steps that make the bucket's value. Want of memory is the only error.
 pub fn explain<M: Measured>(
     alloc: Global,
     measured: &M,
 ) -> Result<Vec<Explained<M::Net>>, AllocError>
     requires { M.ready measured.now }
-    ensures from { IfOk result (λ factors. map (unweighed_view M.of) factors.items ≡ M.unweighed measured.now) }
-    ensures weighted { IfOk result (λ factors. map (weighted_view M.of) factors.items ≡ M.weighted measured.now) }
-    ensures made { M.weighted measured.now ≡ map (weighted_from M.weigh) (M.unweighed measured.now) }
+    ensures from { IfOk result (λ factors.
+        map (unweighed_view M.of) factors.items ≡ M.unweighed measured.now) }
+    ensures weighted { IfOk result (λ factors.
+        map (weighted_view M.of) factors.items ≡ M.weighted measured.now) }
+    ensures made { M.weighted measured.now
+        ≡ map (weighted_from M.weigh) (M.unweighed measured.now) }
 {
     let weighings = measured.weighings(alloc)?;
     let column = measured.column(alloc)?;

@@ -1,5 +1,6 @@
-//! The value of one bucket, by whatever measures its factors: a measure says how the factors are weighed and how they
-//! correlate, and what each is of; the value is that of the written rule for the list that it weighs.
+//! The value of one bucket, by whatever measures its factors: a measure says how the factors are
+//! weighed and how they correlate, and what each is of; the value is that of the written rule for
+//! the list that it weighs.
 //! (ISDA SIMM methodology, weighted sensitivities and aggregation within a bucket.)
 #![tactic(auto)]
 

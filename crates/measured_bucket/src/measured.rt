@@ -1,4 +1,5 @@
-ghost use Rattle.std.specs.Prelude.{◌≡◌, ℕ, ◌+◌, ◌*◌, ◌≤◌, Bool, List, IfOk, length, map, sum_by, ℤ, unsigned_abs};
+ghost use Rattle.std.specs.Prelude.{◌≡◌, ℕ, ◌+◌, ◌*◌, ◌≤◌, Bool, List, IfOk};
+ghost use Rattle.std.specs.Prelude.{length, map, sum_by, ℤ, unsigned_abs};
 ghost use Rattle.simm_params.specs.SimmRules.Bucket.{Weighted};
 ghost use Rattle.weighted_bucket.specs.declared.scaling.Scaling.{Scaling};
 ghost use Rattle.measured_bucket.specs.Explained.{Unweighed, weighted_from};
@@ -13,7 +14,8 @@ use std::sync::ledger::Ledger;
 use weighted_bucket::pair_sum::Steps;
 use weighted_bucket::{Rho, Scaling, bucket_margin};
 
-/// One measure of the factors of one bucket, which it borrows: how they are weighed and how they correlate.
+/// One measure of the factors of one bucket, which it borrows: how they are weighed and how
+/// they correlate.
 pub trait Measured {
     /// The net sensitivity to a factor, with what it is of.
     type Net: Copy;
@@ -65,26 +67,31 @@ pub trait Measured {
     fn weighings(&self, alloc: Global) -> Result<Vec<Weighing>, AllocError>
         requires { ready self.now }
         ensures made { weighted self.now ≡ map (weighted_from weigh) (unweighed self.now) }
-        ensures listed { IfOk result (λ weighings. weighings.items ≡ map (λ factor. factor.from) (unweighed self.now)) };
+        ensures listed { IfOk result (λ weighings.
+            weighings.items ≡ map (λ factor. factor.from) (unweighed self.now)) };
 
     /// The factors, weighed, in their order. Want of memory is the only error.
     fn column(&self, alloc: Global) -> Result<Column<Self::Rho>, AllocError>
         requires { ready self.now }
-        ensures made { IfOk result (λ column. column.factors.items ≡ map weighed_as (weighted self.now)) }
-        ensures correlated { IfOk result (λ column. AreCorrelated same (rho self.now) (weighted self.now) (Self.Rho.rho column.rho)) }
+        ensures made { IfOk result (λ column.
+            column.factors.items ≡ map weighed_as (weighted self.now)) }
+        ensures correlated { IfOk result (λ column.
+            AreCorrelated same (rho self.now) (weighted self.now) (Self.Rho.rho column.rho)) }
         ensures cr { IfOk result (λ column. column.cr.0 ≡ cr self.now) }
-        ensures near { IfOk result (λ column. near self.now (sum_by (λ factor. unsigned_abs factor.w) column.factors.items)) };
+        ensures near { IfOk result (λ column.
+            near self.now (sum_by (λ factor. unsigned_abs factor.w) column.factors.items)) };
 }
 
-/// The value of the bucket of these factors. `n` factors of the rule take at most `n * n` steps. Want of memory is the only
-/// error.
+/// The value of the bucket of these factors. `n` factors of the rule take at most `n * n` steps.
+/// Want of memory is the only error.
 pub fn measure<M: Measured, L: Ledger>(
     alloc: Global,
     measured: &M,
     steps: &mut Steps<L>,
 ) -> Result<BucketMargin, AllocError>
     requires { M.ready measured.now }
-    ensures value { IfOk result (λ m. m ≡ value_by M.scaling M.same (M.rho measured.now) (M.cr measured.now) (M.weighted measured.now)) }
+    ensures value { IfOk result (λ m. m ≡ value_by M.scaling M.same (M.rho measured.now)
+        (M.cr measured.now) (M.weighted measured.now)) }
     ensures sound { IfOk result IsSound }
     ensures near { IfOk result (λ m. M.near measured.now (unsigned_abs m.gross)) }
     ensures steps { let n = length (M.weighted measured.now) in steps.new ≤ steps.old + n * n }

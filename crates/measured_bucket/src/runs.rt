@@ -1,5 +1,5 @@
-//! Nets to volatilities, of which those of one thing stand together by tenor: the tenors of a name, or of a pair of currencies, are one
-//! factor, whose nets add up.
+//! Nets to volatilities, of which those of one thing stand together by tenor: the tenors of a
+//! name, or of a pair of currencies, are one factor, whose nets add up.
 ghost use Rattle.std.specs.Prelude.{◌≡◌, ◌+◌, ◌*◌, ◌^◌, ◌≤◌, IfOk, map, sum_by, unsigned_abs};
 ghost use Rattle.measured_bucket.specs.Runs.{plus, scaled_net, sum_view, summed};
 
@@ -27,15 +27,16 @@ pub struct TenorSum<K> {
     pub sum: i128,
 }
 
-/// A sum for each run of nets to one thing, in their order. The sizes of the nets come to no more than those of 200,000 amounts that
-/// a batch can have. Want of memory is the only error.
+/// A sum for each run of nets to one thing, in their order. The sizes of the nets come to no more
+/// than those of 200,000 amounts that a batch can have. Want of memory is the only error.
 pub fn tenor_sums<K: Copy + PartialEq>(
     alloc: Global,
     scale: TenorScale,
     nets: &[TenorNet<K>],
 ) -> Result<Vec<TenorSum<K>>, AllocError>
     requires { sum_by (λ n. unsigned_abs n.net) nets.now ≤ 2 * 10 ^ 20 }
-    ensures { IfOk result (λ sums. map sum_view sums.items ≡ summed K.eq (map (scaled_net scale) nets.now)) }
+    ensures { IfOk result (λ sums.
+        map sum_view sums.items ≡ summed K.eq (map (scaled_net scale) nets.now)) }
 {
     let mut sums = Vec::with_capacity(alloc, nets.len())?;
     if nets.is_empty() {

@@ -25,8 +25,8 @@ impl TenorScale {
         }
     }
 
-    /// A net at this tenor, in cents, times what the tenor counts. A net is no more than 200,000 amounts come to that a batch
-    /// can have.
+    /// A net at this tenor, in cents, times what the tenor counts. A net is no more than 200,000
+    /// amounts come to that a batch can have.
     pub fn scaled(self, tenor: Tenor, net: i128) -> i128
         requires { unsigned_abs net ≤ 2 * 10 ^ 20 }
         ensures { result ≡ scale_by self tenor *ℤ net }

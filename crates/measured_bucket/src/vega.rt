@@ -27,12 +27,13 @@ pub struct VegaTerms {
     ghost thick: { IsWeighed (pos 10000) threshold },
 }
 
-/// The vega risk of a net change for one unit of volatility, in cents, weighed by its own concentration. A net is no more than
-/// 200,000 amounts come to that a batch can have.
+/// The vega risk of a net change for one unit of volatility, in cents, weighed by its own
+/// concentration. A net is no more than 200,000 amounts come to that a batch can have.
 pub fn weigh_vega(terms: &VegaTerms, net: i128) -> Weighed
     requires size { unsigned_abs net ≤ 2 * 10 ^ 20 }
     requires small { IsSmall terms.now.sigma.0 net }
-    ensures { let t = terms.now in result ≡ vega_alone t.hvr.0 t.sigma.0 t.weight.0 t.threshold net }
+    ensures { let t = terms.now in
+        result ≡ vega_alone t.hvr.0 t.sigma.0 t.weight.0 t.threshold net }
 {
     let risk = vega_risk(terms.hvr, terms.sigma, net);
     weigh_alone(terms.weight, terms.threshold, risk)
@@ -47,7 +48,8 @@ pub fn vega_weighing(terms: &VegaTerms, net: i128) -> Weighing
     Weighing::of_itself(terms.weight, terms.threshold, risk)
 }
 
-// The historical volatility ratio times the volatility times the net change, away from zero to the cent.
+// The historical volatility ratio times the volatility times the net change, away from zero to
+// the cent.
 fn vega_risk(hvr: Rate4, sigma: Rate4, net: i128) -> i128
     requires hvr { IsWithin hvrs hvr.0 }
     requires sigma { IsWithin sigmas sigma.0 }

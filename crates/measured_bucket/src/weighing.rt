@@ -15,7 +15,8 @@ pub struct Group {
 /// What the weighted value of a factor is made of.
 #[derive(Clone, Copy)]
 pub struct Weighing {
-    /// The amount that is weighed: in cents; in curvature in 21,900ths of a cent, each net times what its tenor counts.
+    /// The amount that is weighed: in cents; in curvature in 21,900ths of a cent, each net times
+    /// what its tenor counts.
     pub amount: i128,
     /// The concentration group; `None` where no concentration scales the factor.
     pub group: Option<Group>,

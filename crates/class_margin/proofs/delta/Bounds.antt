@@ -16,7 +16,11 @@ use Rattle.class_rates.specs.SimmRules.declared.values.BucketMargin.{BucketMargi
 use Rattle.class_rates.specs.SimmRules.Params.{Params, CreditBucket, PricedBucket}
 use Rattle.class_rates.specs.SimmRules.Sums.{total_by}
 use Rattle.class_rates.specs.SimmRules.Net.{Sensitivity, sensitivities, in_product}
-use Rattle.class_rates.specs.SimmRules.Risks.{CreditClass, Qualifying, Non_qualifying, PricedClass, Equities, Commodities, Amount, select}
+use Rattle.class_rates.specs.SimmRules.Risks.{Amount, select}
+use Rattle.class_rates.specs.SimmRules.declared.classes.CreditClass.{CreditClass}
+use Rattle.class_rates.specs.SimmRules.declared.classes.CreditClass.TheVariants.{Qualifying, NonQualifying}
+use Rattle.class_rates.specs.SimmRules.declared.classes.PricedClass.{PricedClass}
+use Rattle.class_rates.specs.SimmRules.declared.classes.PricedClass.TheVariants.{Equities, Commodities}
 use Rattle.class_rates.specs.SimmRules.BaseCorrelation.{as_index, weighted_index, base_value}
 use Rattle.class_rates.specs.SimmRules.Bucket.{Weighted}
 use Rattle.class_rates.specs.SimmRules.Credit.{as_credit, credit_params}
@@ -161,7 +165,7 @@ module _ (p : Params) (facts : IsParams p) (held : List CrifRow) (bounded : IsBo
 
   credit_of : (class : CreditClass) → IsCreditParams (credit_params p class)
   credit_of Qualifying = facts.credit_q
-  credit_of Non_qualifying = facts.credit_nq
+  credit_of NonQualifying = facts.credit_nq
 
   priced_of : (class : PricedClass) → IsPricedParams (priced_params p class)
   priced_of Equities = facts.equity
@@ -177,7 +181,7 @@ module _ (p : Params) (facts : IsParams p) (held : List CrifRow) (bounded : IsBo
 
   credit_small : (class : CreditClass) → credit_size p class ss ≤ℤ pos (10 ^ 17)
   credit_small Qualifying = omega (arith, ints, bounded.delta product class.CreditQ, size_low (λ (index : List ℕ). p.base_weight) (λ index. omega (arith, ints, facts.base_weight.low)) (select as_index ss))
-  credit_small Non_qualifying = bounded.delta product class.CreditNonQ
+  credit_small NonQualifying = bounded.delta product class.CreditNonQ
 
   priced_small : (class : PricedClass) → price_size p class ss ≤ℤ pos (10 ^ 17)
   priced_small Equities = bounded.delta product class.Equity

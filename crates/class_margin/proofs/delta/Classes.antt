@@ -13,15 +13,21 @@ use Rattle.class_rates.specs.SimmKinds.Factors.{bucket_id_of, listed_id}
 use Rattle.class_rates.specs.SimmKinds.Order.{bucket_id_cmp, same_bucket_id}
 use Rattle.class_rates.specs.SimmRules.Params.{Params, CreditBucket, PricedBucket}
 use Rattle.class_rates.specs.SimmRules.Net.{Sensitivity}
-use Rattle.class_rates.specs.SimmRules.Risks.{CreditClass, Qualifying, Non_qualifying, PricedClass, Equities, Commodities, CreditPoint, Amount, select}
+use Rattle.class_rates.specs.SimmRules.Risks.{CreditPoint, Amount, select}
+use Rattle.class_rates.specs.SimmRules.declared.classes.CreditClass.{CreditClass}
+use Rattle.class_rates.specs.SimmRules.declared.classes.CreditClass.TheVariants.{Qualifying, NonQualifying}
+use Rattle.class_rates.specs.SimmRules.declared.classes.PricedClass.{PricedClass}
+use Rattle.class_rates.specs.SimmRules.declared.classes.PricedClass.TheVariants.{Equities, Commodities}
 use Rattle.class_rates.specs.SimmRules.Across.{margin_over}
 use Rattle.class_rates.specs.SimmRules.Admits.{admits}
 use Rattle.class_rates.specs.SimmRules.Credit.{as_credit, credit_params, listed_credit, weighted_point, credit_value, credit_delta as credit_margin}
 use Rattle.class_rates.specs.SimmRules.Priced.{as_price, priced_params, listed_priced, weighted_name, price_value, price_delta}
 use Rattle.class_rates.specs.SimmParams.Facts.{IsParams}
-use Rattle.class_rates.specs.FactorBook.declared.at.ClassAt.{ClassAt}
+use Rattle.class_margin.specs.declared.class_at.ClassAt.{ClassAt}
 use Rattle.class_rates.specs.FactorBook.declared.holding.Holding.{Holding}
 use Rattle.class_rates.specs.FactorBook.Factors.{factors_of}
+use Rattle.class_rates.specs.FactorBook.Filing.{filed_at}
+use Rattle.class_rates.specs.FactorBook.Place.{address_of}
 use Rattle.class_rates.specs.FactorBook.Places.{factors_at}
 use Rattle.book_range.specs.Bounded.{IsBounded}
 use Rattle.class_margin.specs.names_delta.Combine.{parts_in, IsListed, HasBucket, AreSized}
@@ -94,11 +100,11 @@ module _ (p : Params) (facts : IsParams p) (held : List CrifRow) (bounded : IsBo
     no_points : (b : Bucket) → factors_at (points_place c b product) fs ≡ [] → points b ≡ []
     no_points b e = sym (points_there c b product fs) ∙ ap point_nets e
 
-    no_credit : (parts : List Whole) (at : ClassAt) → ids parts ≡ listed_buckets at fs → (b : Bucket) → place_in at b ≡ points_place c b product → list_any (λ k. same_bucket_id k (bucket_id_of b)) (ids parts) ≡ false → select (as_credit c b) ss ≡ []
+    no_credit : (parts : List Whole) (at : ClassAt) → ids parts ≡ listed_buckets at fs → (b : Bucket) → place_in at b ≡ address_of (points_place c b product) → list_any (λ k. same_bucket_id k (bucket_id_of b)) (ids parts) ≡ false → select (as_credit c b) ss ≡ []
     no_credit parts at are b there none =
-        no_points b (ap (λ place. factors_at place fs) (sym there) ∙ none_at at b fs (sym (ap (list_any (λ k. same_bucket_id k (bucket_id_of b))) are) ∙ none))
+        no_points b (ap (λ at. filed_at at fs) (sym there) ∙ none_at at b fs (sym (ap (list_any (λ k. same_bucket_id k (bucket_id_of b))) are) ∙ none))
 
-    credit_total : (parts : List Whole) (at : ClassAt) → AllByRecursion credit_owned parts → ids parts ≡ listed_buckets at fs → ((b : Bucket) → place_in at b ≡ points_place c b product) → margin_over (listed_credit (credit_params p c)) (credit_params p c).gamma (parts_in parts) ≡ credit_margin (credit_params p c) c ss
+    credit_total : (parts : List Whole) (at : ClassAt) → AllByRecursion credit_owned parts → ids parts ≡ listed_buckets at fs → ((b : Bucket) → place_in at b ≡ address_of (points_place c b product)) → margin_over (listed_credit (credit_params p c)) (credit_params p c).gamma (parts_in parts) ≡ credit_margin (credit_params p c) c ss
     credit_total parts at own are there =
         margin_of_parts (λ (b : CreditBucket). (b.terms).id) (λ b. (b.terms).weight) points (credit_params p c).buckets its_credit credit_value (IsSizedIn (λ b. (b.terms).weight)) (margin_over (listed_credit (credit_params p c)) (credit_params p c).gamma) (alike_margin (listed_credit (credit_params p c)) (credit_params p c).gamma) parts own (subst (IsStrictlySortedBy bucket_id_cmp) (sym are) (listed_ascend at fs))
         ∙ credit_kept (credit_params p c) c ss (λ b. list_any (λ k. same_bucket_id k (bucket_id_of b)) (ids parts)) (λ b none. no_credit parts at are b (there b) none)
@@ -125,11 +131,11 @@ module _ (p : Params) (facts : IsParams p) (held : List CrifRow) (bounded : IsBo
     no_names : (b : Bucket) → factors_at (names_place c b product) fs ≡ [] → names b ≡ []
     no_names b e = sym (names_there c b product fs) ∙ ap name_nets e
 
-    no_priced : (parts : List Whole) (at : ClassAt) → ids parts ≡ listed_buckets at fs → (b : Bucket) → place_in at b ≡ names_place c b product → list_any (λ k. same_bucket_id k (bucket_id_of b)) (ids parts) ≡ false → select (as_price c b) ss ≡ []
+    no_priced : (parts : List Whole) (at : ClassAt) → ids parts ≡ listed_buckets at fs → (b : Bucket) → place_in at b ≡ address_of (names_place c b product) → list_any (λ k. same_bucket_id k (bucket_id_of b)) (ids parts) ≡ false → select (as_price c b) ss ≡ []
     no_priced parts at are b there none =
-        no_names b (ap (λ place. factors_at place fs) (sym there) ∙ none_at at b fs (sym (ap (list_any (λ k. same_bucket_id k (bucket_id_of b))) are) ∙ none))
+        no_names b (ap (λ at. filed_at at fs) (sym there) ∙ none_at at b fs (sym (ap (list_any (λ k. same_bucket_id k (bucket_id_of b))) are) ∙ none))
 
-    priced_total : (parts : List Whole) (at : ClassAt) → AllByRecursion priced_owned parts → ids parts ≡ listed_buckets at fs → ((b : Bucket) → place_in at b ≡ names_place c b product) → margin_over (listed_priced (priced_params p c)) (priced_params p c).gamma (parts_in parts) ≡ price_delta (priced_params p c) c ss
+    priced_total : (parts : List Whole) (at : ClassAt) → AllByRecursion priced_owned parts → ids parts ≡ listed_buckets at fs → ((b : Bucket) → place_in at b ≡ address_of (names_place c b product)) → margin_over (listed_priced (priced_params p c)) (priced_params p c).gamma (parts_in parts) ≡ price_delta (priced_params p c) c ss
     priced_total parts at own are there =
         margin_of_parts (λ (b : PricedBucket). (b.terms).id) (λ b. (b.terms).weight) names (priced_params p c).buckets its_priced price_value (IsSizedIn (λ b. (b.terms).weight)) (margin_over (listed_priced (priced_params p c)) (priced_params p c).gamma) (alike_margin (listed_priced (priced_params p c)) (priced_params p c).gamma) parts own (subst (IsStrictlySortedBy bucket_id_cmp) (sym are) (listed_ascend at fs))
         ∙ priced_kept (priced_params p c) c ss (λ b. list_any (λ k. same_bucket_id k (bucket_id_of b)) (ids parts)) (λ b none. no_priced parts at are b (there b) none)
@@ -174,12 +180,12 @@ module _ (p : Params) (facts : IsParams p) (held : List CrifRow) (bounded : IsBo
             small = credit_small Qualifying own s;
           }
       done class.CreditNonQ n are values =
-          let own : AllByRecursion (credit_owned Non_qualifying) parts = each_weaker (Both class.CreditNonQ) (credit_owned Non_qualifying) (λ part h. credit_owns Non_qualifying part h.0 h.1.value h.1.sized) parts (both class.CreditNonQ n are values) in
+          let own : AllByRecursion (credit_owned NonQualifying) parts = each_weaker (Both class.CreditNonQ) (credit_owned NonQualifying) (λ part h. credit_owns NonQualifying part h.0 h.1.value h.1.sized) parts (both class.CreditNonQ n are values) in
           let s = ascend class.CreditNonQ are in
           record {
-            are = record { buckets = has_buckets class.CreditNonQ n are; sized = credit_sized Non_qualifying own s };
-            margin = λ z e. was_some z _ e ∙ credit_total Non_qualifying parts (record { product = product; class = class.CreditNonQ }) own are (λ b. refl);
-            small = credit_small Non_qualifying own s;
+            are = record { buckets = has_buckets class.CreditNonQ n are; sized = credit_sized NonQualifying own s };
+            margin = λ z e. was_some z _ e ∙ credit_total NonQualifying parts (record { product = product; class = class.CreditNonQ }) own are (λ b. refl);
+            small = credit_small NonQualifying own s;
           }
       done class.Equity n are values =
           let own : AllByRecursion (priced_owned Equities) parts = each_weaker (Both class.Equity) (priced_owned Equities) (λ part h. priced_owns Equities part h.0 h.1.value h.1.sized) parts (both class.Equity n are values) in

@@ -4,7 +4,8 @@ use Rattle.class_rates.specs.SimmKinds.declared.kinds.ProductClass.{ProductClass
 use Rattle.class_rates.specs.SimmKinds.declared.bucket.Bucket.{Bucket}
 use Rattle.class_rates.specs.SimmKinds.declared.key.FactorKey.{FactorKey}
 use Rattle.class_rates.specs.SimmRules.Params.{Params}
-use Rattle.class_rates.specs.SimmRules.Risks.{CreditClass, PricedClass}
+use Rattle.class_rates.specs.SimmRules.declared.classes.CreditClass.{CreditClass}
+use Rattle.class_rates.specs.SimmRules.declared.classes.PricedClass.{PricedClass}
 use Rattle.class_rates.specs.SimmRules.Rates.{rates_in}
 use Rattle.class_rates.specs.FactorBook.declared.holding.Holding.{Holding}
 use Rattle.class_rates.specs.FactorBook.Places.{factors_at}

@@ -20,13 +20,15 @@ use Rattle.class_rates.specs.SimmKinds.Order.{same_product, same_class, bucket_i
 use Rattle.class_rates.specs.SimmRules.Params.{Params}
 use Rattle.class_rates.specs.SimmRules.Net.{Sensitivity, sensitivities, keys_of}
 use Rattle.class_rates.specs.SimmRules.Admits.{admits_factor, admits}
-use Rattle.class_rates.specs.FactorBook.declared.at.ClassAt.{ClassAt}
+use Rattle.class_margin.specs.declared.class_at.ClassAt.{ClassAt}
 use Rattle.class_rates.specs.FactorBook.declared.holding.Holding.{Holding}
 use Rattle.class_rates.specs.FactorBook.declared.place.BookSide.TheVariants as side
-use Rattle.class_rates.specs.FactorBook.declared.place.Place.{Place}
+use Rattle.class_rates.specs.FactorBook.declared.address.Address.{Address}
 use Rattle.class_rates.specs.FactorBook.Factors.{factor_of, factors_of}
-use Rattle.class_rates.specs.FactorBook.Place.{book_side}
-use Rattle.class_rates.specs.FactorBook.Places.{same_side, factors_at, is_on}
+use Rattle.class_rates.specs.FactorBook.Address.{book_side}
+use Rattle.class_rates.specs.FactorBook.Address.{same_side}
+use Rattle.class_rates.specs.FactorBook.Filing.{filed_at}
+use Rattle.class_margin.specs.delta.At.{is_on}
 use Rattle.class_margin.specs.rates_delta.Parts.{IsCurrency}
 use Rattle.class_margin.specs.names_delta.Combine.{HasBucket}
 use Rattle.class_rates.proofs.MeasuredBucket.Lists.{each_weaker, each_both, each_map, each_kept, kept_pass}
@@ -49,7 +51,7 @@ listed_ascend at fs = IsStrictlySortedBy-filter bucket_id_cmp (λ b. not (is_sin
 -- ---- whether a listed bucket has a factor
 
 -- where its factors of delta stand
-abbrev pub place_in : ClassAt → Bucket → Place
+abbrev pub place_in : ClassAt → Bucket → Address
 place_in at b = record { product = at.product; class = at.class; side = side.Delta; bucket = bucket_id_of b }
 
 not_single : (b : Bucket) (k : BucketId) → same_bucket_id k (bucket_id_of b) ≡ true → not (is_single k) ≡ true
@@ -69,7 +71,7 @@ any_kept t p h (x ∷ xs) = by (p x) (t x) (h x) refl (any_kept t p h xs)
     by false false g e i = i
 
 -- one that is not among the listed ones has none
-pub none_at : (at : ClassAt) (b : Bucket) (fs : List (FactorKey × Holding)) → list_any (λ k. same_bucket_id k (bucket_id_of b)) (listed_buckets at fs) ≡ false → factors_at (place_in at b) fs ≡ []
+pub none_at : (at : ClassAt) (b : Bucket) (fs : List (FactorKey × Holding)) → list_any (λ k. same_bucket_id k (bucket_id_of b)) (listed_buckets at fs) ≡ false → filed_at (place_in at b) fs ≡ []
 none_at at b fs h =
     none_on (delta_side at) (bucket_id_of b) fs
     (sym (any_kept (λ k. same_bucket_id k (bucket_id_of b)) (λ k. not (is_single k)) (not_single b) (delta_buckets at fs)) ∙ h)

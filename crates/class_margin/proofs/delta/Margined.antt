@@ -13,11 +13,11 @@ use Rattle.class_rates.specs.SimmRules.Params.{Params}
 use Rattle.class_rates.specs.SimmRules.ForeignExchange.{fx_weight}
 use Rattle.class_rates.specs.SimmRules.Rates.{RateIn, rate_weight}
 use Rattle.class_rates.specs.SimmParams.Facts.{IsParams}
-use Rattle.class_rates.specs.FactorBook.declared.at.BucketAt.{BucketAt}
-use Rattle.class_rates.specs.FactorBook.declared.at.ClassAt.{ClassAt}
+use Rattle.class_margin.specs.delta.At.{BucketAt}
+use Rattle.class_margin.specs.declared.class_at.ClassAt.{ClassAt}
 use Rattle.class_rates.specs.FactorBook.declared.holding.Holding.{Holding}
 use Rattle.class_rates.specs.FactorBook.Factors.{factors_of}
-use Rattle.class_rates.specs.FactorBook.Places.{factors_at}
+use Rattle.class_rates.specs.FactorBook.Filing.{filed_at}
 use Rattle.book_range.specs.Bounded.{IsMarginable}
 use Rattle.class_margin.specs.rates_delta.Range.{IsClass}
 use Rattle.class_credit.specs.Base.{indices_of, index_weight}
@@ -35,10 +35,10 @@ use Rattle.class_margin.proofs.OnSide.{each_on}
 use Rattle.class_margin.proofs.Valued.{Whole, ids}
 
 -- a bucket that has a factor is one that its class has, or that of base correlation
-pub own_there : (p : Params) (fs : List (FactorKey × Holding)) → IsMarginable p fs → (at : BucketAt) → factors_at (delta_place at) fs ≢ [] → IsOwn p at.class at.bucket
+pub own_there : (p : Params) (fs : List (FactorKey × Holding)) → IsMarginable p fs → (at : BucketAt) → filed_at (delta_place at) fs ≢ [] → IsOwn p at.class at.bucket
 own_there p fs its at =
     let own : ClassAt = record { product = at.product; class = at.class } in
-    subst (λ f. factors_at (delta_place at) f ≢ [] → IsOwn p at.class at.bucket) (sym its.are)
+    subst (λ f. filed_at (delta_place at) f ≢ [] → IsOwn p at.class at.bucket) (sym its.are)
     (each_on (delta_side own) at.bucket (IsOwn p at.class) (factors_of its.held) (own_each p own its.held its.admitted))
 
 module _ (p : Params) (facts : IsParams p) (fs : List (FactorKey × Holding)) (its : IsMarginable p fs) (sizes : SizesAreNetted its.held) where

@@ -15,10 +15,11 @@ use Rattle.class_rates.specs.SimmRules.Params.{Params}
 use Rattle.class_rates.specs.SimmRules.ForeignExchange.{fx_weight, weighted_currency, fx_value, fx_delta}
 use Rattle.class_rates.specs.SimmRules.BaseCorrelation.{base_value, base_margin}
 use Rattle.class_rates.specs.SimmParams.Facts.{IsParams}
-use Rattle.class_rates.specs.FactorBook.declared.at.ClassAt.{ClassAt}
-use Rattle.class_rates.specs.FactorBook.declared.at.SideAt.{SideAt}
+use Rattle.class_margin.specs.declared.class_at.ClassAt.{ClassAt}
+use Rattle.class_margin.specs.delta.At.{SideAt}
 use Rattle.class_rates.specs.FactorBook.declared.holding.Holding.{Holding}
-use Rattle.class_rates.specs.FactorBook.Places.{factors_at, place_in, buckets_on}
+use Rattle.class_rates.specs.FactorBook.Filing.{filed_at}
+use Rattle.class_margin.specs.delta.At.{place_in, buckets_on}
 use Rattle.book_range.specs.Bounded.{IsMarginable}
 use Rattle.class_credit.specs.Base.{indices_of, index_nets, index_weight}
 use Rattle.class_credit.proofs.Indices.{indices_there}
@@ -69,7 +70,7 @@ single_each P none (part ∷ parts) each = by (is_single part.0) refl (single_ea
     by false e later = subst P (sym (ap (found part parts) e)) later
 
 -- where there is none, the book has no factor there
-pub none_single : (at : SideAt) (fs : List (FactorKey × Holding)) (parts : List Whole) → ids parts ≡ buckets_on at fs → list_any (λ k. same_bucket_id k id.Single) (ids parts) ≡ false → factors_at (place_in at id.Single) fs ≡ []
+pub none_single : (at : SideAt) (fs : List (FactorKey × Holding)) (parts : List Whole) → ids parts ≡ buckets_on at fs → list_any (λ k. same_bucket_id k id.Single) (ids parts) ≡ false → filed_at (place_in at id.Single) fs ≡ []
 none_single at fs parts are none = none_on at id.Single fs (ap (list_any (λ k. same_bucket_id k id.Single)) (sym are) ∙ none)
 
 -- a margin from 0 to so many cents

@@ -5,8 +5,8 @@ use Rattle.std.specs.List.{AllByRecursion}
 use Rattle.class_rates.specs.SimmKinds.declared.kinds.RiskClass.{RiskClass}
 use Rattle.class_rates.specs.SimmKinds.declared.kinds.RiskClass.TheVariants as class
 use Rattle.class_rates.specs.SimmKinds.Factors.{listed_id}
-use Rattle.class_rates.specs.SimmParams.declared.class_kind.CreditKind.TheVariants as credit
-use Rattle.class_rates.specs.SimmParams.declared.class_kind.PricedKind.TheVariants as priced
+use Rattle.class_rates.specs.SimmRules.declared.classes.CreditClass.TheVariants as credit
+use Rattle.class_rates.specs.SimmRules.declared.classes.PricedClass.TheVariants as priced
 use Rattle.class_rates.specs.SimmRules.Params.{Params}
 use Rattle.class_margin.specs.declared.listed.ListedClass.{ListedClass}
 use Rattle.class_margin.specs.declared.listed.ListedClass.TheVariants as its_class

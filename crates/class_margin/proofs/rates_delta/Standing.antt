@@ -18,8 +18,8 @@ use Rattle.class_rates.specs.SimmRules.Rates.{RateIn, as_rate}
 use Rattle.class_rates.specs.FactorBook.declared.place.BookSide.TheVariants as side
 use Rattle.class_rates.specs.FactorBook.declared.holding.Holding.{Holding}
 use Rattle.class_rates.specs.FactorBook.Factors.{net_of}
-use Rattle.class_rates.specs.FactorBook.Place.{book_side}
-use Rattle.class_rates.specs.FactorBook.Places.{same_side}
+use Rattle.class_rates.specs.FactorBook.Address.{book_side}
+use Rattle.class_rates.specs.FactorBook.Address.{same_side}
 use Rattle.class_margin.specs.rates_delta.Bucket.{nets_of, is_rate, buckets_at}
 use Rattle.class_margin.specs.rates_delta.Parts.{currencies_of}
 use Rattle.class_rates.proofs.MeasuredBucket.Selected.{select_none, select_some}

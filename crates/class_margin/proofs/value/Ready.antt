@@ -1,32 +1,32 @@
--- The factors of each bucket of a book that can be margined can be measured.
-use Rattle.std.proofs.Common.{◌≡◌, ◌≢◌, ℕ, List, [], Option, true, false, refl, sym, subst, pos, ◌≤ℤ◌}
-use Rattle.std.specs.Prelude.{option_map, IsSomeAnd}
+-- The factors of each place of a book that can be margined can be measured.
+use Rattle.std.proofs.Common.{◌≡◌, ◌≢◌, ℕ, List, [], true, refl, sym, subst, pos, ◌≤ℤ◌}
+use Rattle.std.specs.Prelude.{IsSomeAnd}
 use Rattle.std.specs.List.{list_all}
-use Rattle.std.proofs.lemmas.Bool.{false≢true}
 use Rattle.class_rates.specs.SimmKinds.declared.kinds.ProductClass.{ProductClass}
-use Rattle.class_rates.specs.SimmKinds.declared.kinds.RiskClass.{RiskClass}
-use Rattle.class_rates.specs.SimmKinds.declared.kinds.RiskClass.TheVariants as class
-use Rattle.class_rates.specs.SimmKinds.declared.kinds.BucketId.{BucketId}
-use Rattle.class_rates.specs.SimmKinds.declared.kinds.BucketId.TheVariants as id
 use Rattle.class_rates.specs.SimmKinds.declared.bucket.Bucket.{Bucket}
+use Rattle.class_rates.specs.SimmKinds.declared.bucket.Bucket.TheVariants as bucket
 use Rattle.class_rates.specs.SimmKinds.declared.key.FactorKey.{FactorKey}
 use Rattle.class_rates.specs.SimmKinds.declared.row.CrifRow.{CrifRow}
 use Rattle.class_rates.specs.SimmKinds.Batch.{is_in_range}
 use Rattle.class_rates.specs.SimmRules.Admits.{lists}
 use Rattle.class_rates.specs.SimmRules.Params.{Params, CreditBucket, PricedBucket}
 use Rattle.class_rates.specs.SimmRules.Net.{Sensitivity}
-use Rattle.class_rates.specs.SimmRules.Risks.{CreditClass, Qualifying, Non_qualifying, PricedClass, Equities, Commodities}
+use Rattle.class_rates.specs.SimmRules.declared.classes.CreditClass.{CreditClass}
+use Rattle.class_rates.specs.SimmRules.declared.classes.CreditClass.TheVariants.{Qualifying, NonQualifying}
+use Rattle.class_rates.specs.SimmRules.declared.classes.PricedClass.{PricedClass}
+use Rattle.class_rates.specs.SimmRules.declared.classes.PricedClass.TheVariants.{Equities, Commodities}
 use Rattle.class_rates.specs.SimmRules.Rates.{RateIn, rate_weight, rates_in}
 use Rattle.class_rates.specs.SimmRules.Credit.{credit_params, listed_credit}
 use Rattle.class_rates.specs.SimmRules.Priced.{priced_params, listed_priced}
 use Rattle.class_rates.specs.SimmRules.ForeignExchange.{fx_weight}
 use Rattle.class_rates.specs.SimmParams.Facts.{IsParams}
-use Rattle.class_rates.specs.SimmParams.declared.class_kind.CreditKind.TheVariants as credit
-use Rattle.class_rates.specs.SimmParams.declared.class_kind.PricedKind.TheVariants as priced
+use Rattle.class_rates.specs.SimmRules.declared.classes.CreditClass.TheVariants as credit
+use Rattle.class_rates.specs.SimmRules.declared.classes.PricedClass.TheVariants as priced
 use Rattle.class_rates.specs.SimmParams.ListedBuckets.{credit_bucket_of, priced_bucket_of}
-use Rattle.class_rates.specs.FactorBook.declared.at.BucketAt.{BucketAt}
+use Rattle.class_margin.specs.delta.At.{BucketAt}
 use Rattle.class_rates.specs.FactorBook.declared.holding.Holding.{Holding}
 use Rattle.class_rates.specs.FactorBook.Factors.{factors_of, IsBook}
+use Rattle.class_rates.specs.FactorBook.Filing.{filed_at}
 use Rattle.class_rates.specs.FactorBook.Places.{factors_at}
 use Rattle.class_rates.specs.MeasuredBucket.Runs.{AreRunsInRange}
 use Rattle.book_range.specs.Bounded.{IsBounded, IsMarginable}
@@ -47,15 +47,17 @@ use Rattle.class_exchange.specs.Currencies.{currency_place, risky_nets, AreRisky
 use Rattle.class_exchange.specs.Pairs.{pairs_place, pair_nets, ArePairs}
 use Rattle.class_exchange.proofs.RiskyCurrencies.{currencies_there, currencies_ascend}
 use Rattle.class_exchange.proofs.VolatilePairs.{pairs_there, volatilities_ascend as pair_volatilities_ascend}
-use Rattle.class_margin.specs.declared.value.slot.Slot.{Slot}
-use Rattle.class_margin.specs.declared.value.slot.Slot.TheVariants as slot
-use Rattle.class_margin.specs.value.Slot.{slot_of, is_base}
+use Rattle.class_rates.specs.FactorBook.declared.slot.Slot.{Slot}
+use Rattle.class_rates.specs.FactorBook.declared.slot.Slot.TheVariants as slot
+use Rattle.class_rates.specs.FactorBook.declared.place.Place.{Place}
+use Rattle.class_rates.specs.FactorBook.declared.place.Stand.{Stand}
+use Rattle.class_rates.specs.FactorBook.declared.place.Stand.TheVariants as stand
+use Rattle.class_rates.specs.FactorBook.Place.{slot_bucket, slot_class}
+use Rattle.class_margin.specs.value.Place.{IsReady}
 use Rattle.class_margin.specs.value.Delta.{IsDeltaReady}
 use Rattle.class_margin.specs.value.Volatile.{IsVolatileReady}
 use Rattle.class_margin.specs.delta.Buckets.{delta_place}
-use Rattle.class_margin.specs.names_delta.Combine.{HasBucket}
 use Rattle.class_margin.specs.names_delta.Values.{nets_in, IsInRange}
-use Rattle.class_margin.specs.rates_delta.Parts.{IsCurrency}
 use Rattle.class_margin.specs.rates_delta.Range.{IsBucket, IsClass}
 use Rattle.class_margin.specs.volatilities.Ranges.{alone}
 use Rattle.class_margin.specs.volatility.Vega.{volatility_place}
@@ -63,12 +65,12 @@ use Rattle.class_margin.proofs.names_delta.Shrinking.{SizesAreNetted}
 use Rattle.class_margin.proofs.delta.Bounds.{indices_range, currencies_range, rates_range, credit_class as delta_credit, priced_class as delta_priced}
 use Rattle.class_margin.proofs.delta.InBook.{IsOwn}
 use Rattle.class_margin.proofs.delta.Margined.{own_there}
-use Rattle.class_margin.proofs.value.Slots.{at_class, by_base}
+use Rattle.class_margin.proofs.value.Own.{at_class}
 use Rattle.class_margin.proofs.volatility.Bounds.{pairs_range}
 use Rattle.class_margin.proofs.volatility.InBook.{IsOwn as IsVolatileOwn}
 use Rattle.class_margin.proofs.delta.Owned.{ready}
 use Rattle.class_margin.proofs.volatility.Margined.{own_fits}
-use Rattle.class_margin.proofs.volatility.Parts.{some_and, at_listed}
+use Rattle.class_margin.proofs.volatility.Parts.{some_and}
 use Rattle.class_margin.proofs.volatility.Ready.{each_range, credit_found, priced_found}
 
 -- what is known of the parameters' weights: none is negative, and the rates of each currency of a class in range are in range
@@ -114,40 +116,17 @@ module _ (p : Params) (facts : IsParams p) (weights : AreWeights p) (held : List
       (record { ascends = indices_ascend product fs book; range = indices_range p facts held bounded product sizes })
 
   -- the bucket of a slot that its class has
-  abbrev IsDelta : RiskClass → BucketId → Option Slot → Type 0
-  IsDelta c k o = IsSomeAnd o (λ s. IsDeltaReady p s (factors_at (delta_place (at_class product c k)) fs))
-
-  currency_ready : (k : BucketId) → IsCurrency k → IsDelta class.IR k (slot_of class.IR k)
-  currency_ready (id.Number n) h = absurd h
-  currency_ready id.Residual h = absurd h
-  currency_ready (id.Currency currency) h = rates_ready currency
-  currency_ready id.Single h = absurd h
-
-  credit_q_ready : (k : BucketId) → HasBucket p class.CreditQ k → IsDelta class.CreditQ k (slot_of class.CreditQ k)
-  credit_q_ready = at_listed (listed_credit p.credit_q) (λ k o. IsDelta class.CreditQ k (option_map (slot.Credit credit.Qualifying) o)) (credit_ready Qualifying)
-
-  credit_nq_ready : (k : BucketId) → HasBucket p class.CreditNonQ k → IsDelta class.CreditNonQ k (slot_of class.CreditNonQ k)
-  credit_nq_ready = at_listed (listed_credit p.credit_nq) (λ k o. IsDelta class.CreditNonQ k (option_map (slot.Credit credit.NonQualifying) o)) (credit_ready Non_qualifying)
-
-  equity_ready : (k : BucketId) → HasBucket p class.Equity k → IsDelta class.Equity k (slot_of class.Equity k)
-  equity_ready = at_listed (listed_priced p.equity) (λ k o. IsDelta class.Equity k (option_map (slot.Priced priced.Equities) o)) (priced_ready Equities)
-
-  commodity_ready : (k : BucketId) → HasBucket p class.Commodity k → IsDelta class.Commodity k (slot_of class.Commodity k)
-  commodity_ready = at_listed (listed_priced p.commodity) (λ k o. IsDelta class.Commodity k (option_map (slot.Priced priced.Commodities) o)) (priced_ready Commodities)
-
-  delta_ready : (c : RiskClass) (k : BucketId) → is_base c k ≡ false → IsOwn p c k → IsDelta c k (slot_of c k)
-  delta_ready class.IR k other own = currency_ready k own
-  delta_ready class.CreditQ (id.Number n) other own = credit_q_ready (id.Number n) (own refl)
-  delta_ready class.CreditQ id.Residual other own = credit_q_ready id.Residual (own refl)
-  delta_ready class.CreditQ (id.Currency currency) other own = absurd (own refl)
-  delta_ready class.CreditQ id.Single other own = absurd (false≢true (sym other))
-  delta_ready class.CreditNonQ k other own = credit_nq_ready k own
-  delta_ready class.Equity k other own = equity_ready k own
-  delta_ready class.Commodity k other own = commodity_ready k own
-  delta_ready class.FX k other own = subst (λ l. IsDelta class.FX l (slot_of class.FX l)) (sym own) exchange_ready
-
-  base_ready : (c : RiskClass) (k : BucketId) → is_base c k ≡ true → AreIndices p (index_nets (factors_at (delta_place (at_class product c k)) fs))
-  base_ready = by_base (λ c k. AreIndices p (index_nets (factors_at (delta_place (at_class product c k)) fs))) indices_ready
+  delta_ready : (s : Slot) → IsOwn p (slot_class s) (slot_bucket s) → IsDeltaReady p s (filed_at (delta_place (at_class product (slot_class s) (slot_bucket s))) fs)
+  delta_ready (slot.Rates currency) own = rates_ready currency
+  delta_ready (slot.Credit credit.Qualifying (bucket.Number n)) own = credit_ready Qualifying (bucket.Number n) (own refl)
+  delta_ready (slot.Credit credit.Qualifying bucket.Residual) own = credit_ready Qualifying bucket.Residual (own refl)
+  delta_ready (slot.Credit credit.NonQualifying (bucket.Number n)) own = credit_ready NonQualifying (bucket.Number n) own
+  delta_ready (slot.Credit credit.NonQualifying bucket.Residual) own = credit_ready NonQualifying bucket.Residual own
+  delta_ready (slot.Priced priced.Equities (bucket.Number n)) own = priced_ready Equities (bucket.Number n) own
+  delta_ready (slot.Priced priced.Equities bucket.Residual) own = priced_ready Equities bucket.Residual own
+  delta_ready (slot.Priced priced.Commodities (bucket.Number n)) own = priced_ready Commodities (bucket.Number n) own
+  delta_ready (slot.Priced priced.Commodities bucket.Residual) own = priced_ready Commodities bucket.Residual own
+  delta_ready slot.Exchange own = exchange_ready
 
   -- ---- vega and curvature
 
@@ -173,37 +152,42 @@ module _ (p : Params) (facts : IsParams p) (weights : AreWeights p) (held : List
       subst (ArePairs p) (sym (pairs_there product fs))
       (record { ascends = pair_volatilities_ascend product fs book; range = pairs_range p facts held bounded amounts product sizes })
 
-  abbrev IsVolatile : RiskClass → BucketId → Option Slot → Type 0
-  IsVolatile c k o = IsSomeAnd o (λ s. IsVolatileReady p s (factors_at (volatility_place (at_class product c k)) fs))
+  volatile_ready : (s : Slot) → IsVolatileOwn p (slot_class s) (slot_bucket s) → IsVolatileReady p s (filed_at (volatility_place (at_class product (slot_class s) (slot_bucket s))) fs)
+  volatile_ready (slot.Rates currency) own = volatile_rates currency
+  volatile_ready (slot.Credit credit.Qualifying (bucket.Number n)) own = volatile_credit Qualifying (bucket.Number n) own
+  volatile_ready (slot.Credit credit.Qualifying bucket.Residual) own = volatile_credit Qualifying bucket.Residual own
+  volatile_ready (slot.Credit credit.NonQualifying (bucket.Number n)) own = volatile_credit NonQualifying (bucket.Number n) own
+  volatile_ready (slot.Credit credit.NonQualifying bucket.Residual) own = volatile_credit NonQualifying bucket.Residual own
+  volatile_ready (slot.Priced priced.Equities (bucket.Number n)) own = volatile_priced Equities (bucket.Number n) own
+  volatile_ready (slot.Priced priced.Equities bucket.Residual) own = volatile_priced Equities bucket.Residual own
+  volatile_ready (slot.Priced priced.Commodities (bucket.Number n)) own = volatile_priced Commodities (bucket.Number n) own
+  volatile_ready (slot.Priced priced.Commodities bucket.Residual) own = volatile_priced Commodities bucket.Residual own
+  volatile_ready slot.Exchange own = volatile_exchange
 
-  volatile_currency : (k : BucketId) → IsCurrency k → IsVolatile class.IR k (slot_of class.IR k)
-  volatile_currency (id.Number n) h = absurd h
-  volatile_currency id.Residual h = absurd h
-  volatile_currency (id.Currency currency) h = volatile_rates currency
-  volatile_currency id.Single h = absurd h
+-- ---- each place that has a factor
 
-  volatile_ready : (c : RiskClass) (k : BucketId) → IsVolatileOwn p c k → IsVolatile c k (slot_of c k)
-  volatile_ready class.IR k own = volatile_currency k own
-  volatile_ready class.CreditQ k own = at_listed (listed_credit p.credit_q) (λ k o. IsVolatile class.CreditQ k (option_map (slot.Credit credit.Qualifying) o)) (volatile_credit Qualifying) k own
-  volatile_ready class.CreditNonQ k own = at_listed (listed_credit p.credit_nq) (λ k o. IsVolatile class.CreditNonQ k (option_map (slot.Credit credit.NonQualifying) o)) (volatile_credit Non_qualifying) k own
-  volatile_ready class.Equity k own = at_listed (listed_priced p.equity) (λ k o. IsVolatile class.Equity k (option_map (slot.Priced priced.Equities) o)) (volatile_priced Equities) k own
-  volatile_ready class.Commodity k own = at_listed (listed_priced p.commodity) (λ k o. IsVolatile class.Commodity k (option_map (slot.Priced priced.Commodities) o)) (volatile_priced Commodities) k own
-  volatile_ready class.FX k own = subst (λ l. IsVolatile class.FX l (slot_of class.FX l)) (sym own) volatile_exchange
+module _ (p : Params) (facts : IsParams p) (weights : AreWeights p) (fs : List (FactorKey × Holding)) (its : IsMarginable p fs) (sizes : SizesAreNetted its.held) (product : ProductClass) where
+  abbrev of_stand : Stand → Place
+  of_stand s = record { product = product; stand = s }
 
--- ---- each that has a factor
+  delta_measurable : (s : Slot) → factors_at (of_stand (stand.Delta s)) fs ≢ [] → IsDeltaReady p s (factors_at (of_stand (stand.Delta s)) fs)
+  delta_measurable s some =
+      let at : BucketAt = at_class product (slot_class s) (slot_bucket s) in
+      subst (λ f. IsDeltaReady p s (filed_at (delta_place at) f)) (sym its.are)
+      (delta_ready p facts weights its.held its.bounded its.amounts product sizes s (own_there p fs its at some))
 
-module _ (p : Params) (facts : IsParams p) (weights : AreWeights p) (fs : List (FactorKey × Holding)) (its : IsMarginable p fs) (sizes : SizesAreNetted its.held) (at : BucketAt) where
-  pub delta_measurable : factors_at (delta_place at) fs ≢ [] → is_base at.class at.bucket ≡ false → IsSomeAnd (slot_of at.class at.bucket) (λ s. IsDeltaReady p s (factors_at (delta_place at) fs))
-  delta_measurable some other =
-      subst (λ f. IsSomeAnd (slot_of at.class at.bucket) (λ s. IsDeltaReady p s (factors_at (delta_place at) f))) (sym its.are)
-      (delta_ready p facts weights its.held its.bounded its.amounts at.product sizes at.class at.bucket other (own_there p fs its at some))
+  base_measurable : AreIndices p (index_nets (factors_at (of_stand stand.BaseCorrelation) fs))
+  base_measurable =
+      subst (λ f. AreIndices p (index_nets (factors_at (base_place product) f))) (sym its.are)
+      (indices_ready p facts weights its.held its.bounded its.amounts product sizes)
 
-  pub base_measurable : is_base at.class at.bucket ≡ true → AreIndices p (index_nets (factors_at (delta_place at) fs))
-  base_measurable base =
-      subst (λ f. AreIndices p (index_nets (factors_at (delta_place at) f))) (sym its.are)
-      (base_ready p facts weights its.held its.bounded its.amounts at.product sizes at.class at.bucket base)
+  volatility_measurable : (s : Slot) → factors_at (of_stand (stand.Volatility s)) fs ≢ [] → IsVolatileReady p s (factors_at (of_stand (stand.Volatility s)) fs)
+  volatility_measurable s some =
+      let at : BucketAt = at_class product (slot_class s) (slot_bucket s) in
+      subst (λ f. IsVolatileReady p s (filed_at (volatility_place at) f)) (sym its.are)
+      (volatile_ready p facts weights its.held its.bounded its.amounts product sizes s (own_fits p fs its at some))
 
-  pub volatility_measurable : factors_at (volatility_place at) fs ≢ [] → IsSomeAnd (slot_of at.class at.bucket) (λ s. IsVolatileReady p s (factors_at (volatility_place at) fs))
-  volatility_measurable some =
-      subst (λ f. IsSomeAnd (slot_of at.class at.bucket) (λ s. IsVolatileReady p s (factors_at (volatility_place at) f))) (sym its.are)
-      (volatile_ready p facts weights its.held its.bounded its.amounts at.product sizes at.class at.bucket (own_fits p fs its at some))
+  pub measurable : (s : Stand) → factors_at (of_stand s) fs ≢ [] → IsReady p s (factors_at (of_stand s) fs)
+  measurable (stand.Delta s) some = delta_measurable s some
+  measurable stand.BaseCorrelation some = base_measurable
+  measurable (stand.Volatility s) some = volatility_measurable s some

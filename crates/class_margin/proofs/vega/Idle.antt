@@ -10,7 +10,9 @@ use Rattle.class_rates.specs.SimmKinds.Order.{same_name, same_pair}
 use Rattle.class_rates.specs.SimmRules.declared.values.BucketMargin.{BucketMargin}
 use Rattle.class_rates.specs.SimmRules.Params.{Params, CreditBucket, PricedBucket, CreditParams, PricedParams}
 use Rattle.class_rates.specs.SimmRules.Net.{Sensitivity}
-use Rattle.class_rates.specs.SimmRules.Risks.{CreditClass, PricedClass, select}
+use Rattle.class_rates.specs.SimmRules.Risks.{select}
+use Rattle.class_rates.specs.SimmRules.declared.classes.CreditClass.{CreditClass}
+use Rattle.class_rates.specs.SimmRules.declared.classes.PricedClass.{PricedClass}
 use Rattle.class_rates.specs.SimmRules.Concentration.{one}
 use Rattle.class_rates.specs.SimmRules.Bucket.{Weighted, concentrated, bucket_value}
 use Rattle.class_rates.specs.SimmRules.Across.{Part, outer, margin_over}

@@ -18,8 +18,9 @@ use Rattle.class_rates.specs.SimmRules.Rates.{VolatilityIn, as_rate_volatility, 
 use Rattle.class_rates.specs.FactorBook.declared.place.BookSide.TheVariants as side
 use Rattle.class_rates.specs.FactorBook.declared.holding.Holding.{Holding}
 use Rattle.class_rates.specs.FactorBook.Factors.{net_of}
-use Rattle.class_rates.specs.FactorBook.Place.{book_side}
-use Rattle.class_rates.specs.FactorBook.Places.{same_side, is_on}
+use Rattle.class_rates.specs.FactorBook.Address.{book_side}
+use Rattle.class_rates.specs.FactorBook.Address.{same_side}
+use Rattle.class_margin.specs.delta.At.{is_on}
 use Rattle.class_margin.specs.names_delta.Values.{nets_in}
 use Rattle.class_rates.proofs.MeasuredBucket.Selected.{select_none, select_some}
 use Rattle.class_margin.proofs.rates_delta.Lists.{different-map}

@@ -15,7 +15,11 @@ use Rattle.class_rates.specs.SimmKinds.Order.{same_product}
 use Rattle.class_rates.specs.SimmRules.Params.{Params, CreditBucket, PricedBucket}
 use Rattle.class_rates.specs.SimmRules.Sums.{total_by}
 use Rattle.class_rates.specs.SimmRules.Net.{Sensitivity, sensitivities, in_product}
-use Rattle.class_rates.specs.SimmRules.Risks.{CreditClass, Qualifying, Non_qualifying, PricedClass, Equities, Commodities, select}
+use Rattle.class_rates.specs.SimmRules.Risks.{select}
+use Rattle.class_rates.specs.SimmRules.declared.classes.CreditClass.{CreditClass}
+use Rattle.class_rates.specs.SimmRules.declared.classes.CreditClass.TheVariants.{Qualifying, NonQualifying}
+use Rattle.class_rates.specs.SimmRules.declared.classes.PricedClass.{PricedClass}
+use Rattle.class_rates.specs.SimmRules.declared.classes.PricedClass.TheVariants.{Equities, Commodities}
 use Rattle.class_rates.specs.SimmRules.Credit.{as_credit_volatility, credit_params}
 use Rattle.class_rates.specs.SimmRules.ForeignExchange.{PairVolatility, as_pair_volatility, fx_sigma}
 use Rattle.class_rates.specs.SimmRules.Gross.{size_by, credit_volatility_size, price_volatility_size}
@@ -110,7 +114,7 @@ module _ (p : Params) (facts : IsParams p) (held : List CrifRow) (bounded : IsBo
 
   credit_of : (class : CreditClass) → IsCreditParams (credit_params p class)
   credit_of Qualifying = facts.credit_q
-  credit_of Non_qualifying = facts.credit_nq
+  credit_of NonQualifying = facts.credit_nq
 
   priced_of : (class : PricedClass) → IsPricedParams (priced_params p class)
   priced_of Equities = facts.equity
@@ -123,7 +127,7 @@ module _ (p : Params) (facts : IsParams p) (held : List CrifRow) (bounded : IsBo
 
   credit_small : (class : CreditClass) → credit_volatility_size p class ss ≤ℤ pos (10 ^ 17)
   credit_small Qualifying = bounded.vega product class.CreditQ
-  credit_small Non_qualifying = bounded.vega product class.CreditNonQ
+  credit_small NonQualifying = bounded.vega product class.CreditNonQ
 
   priced_small : (class : PricedClass) → price_volatility_size p class ss ≤ℤ pos (10 ^ 17)
   priced_small Equities = bounded.vega product class.Equity

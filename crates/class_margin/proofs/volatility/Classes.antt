@@ -15,14 +15,18 @@ use Rattle.class_rates.specs.SimmKinds.Order.{bucket_id_cmp}
 use Rattle.class_rates.specs.SimmRules.declared.values.BucketMargin.{BucketMargin}
 use Rattle.class_rates.specs.SimmRules.Params.{Params, CreditBucket, PricedBucket}
 use Rattle.class_rates.specs.SimmRules.Net.{Sensitivity}
-use Rattle.class_rates.specs.SimmRules.Risks.{CreditClass, Qualifying, Non_qualifying, PricedClass, Equities, Commodities, CreditPoint, Amount}
+use Rattle.class_rates.specs.SimmRules.Risks.{CreditPoint, Amount}
+use Rattle.class_rates.specs.SimmRules.declared.classes.CreditClass.{CreditClass}
+use Rattle.class_rates.specs.SimmRules.declared.classes.CreditClass.TheVariants.{Qualifying, NonQualifying}
+use Rattle.class_rates.specs.SimmRules.declared.classes.PricedClass.{PricedClass}
+use Rattle.class_rates.specs.SimmRules.declared.classes.PricedClass.TheVariants.{Equities, Commodities}
 use Rattle.class_rates.specs.SimmRules.Across.{margin_over}
 use Rattle.class_rates.specs.SimmRules.Admits.{admits}
 use Rattle.class_rates.specs.SimmRules.Credit.{credit_params, listed_credit, credit_vega_value, credit_vega}
 use Rattle.class_rates.specs.SimmRules.Priced.{NameVolatility, priced_params, listed_priced, price_vega_value, price_vega}
 use Rattle.class_rates.specs.SimmRules.Rates.{volatilities_in, volatility_currencies, currency_vega_value, rate_vega}
 use Rattle.class_rates.specs.SimmParams.Facts.{IsParams}
-use Rattle.class_rates.specs.FactorBook.declared.at.ClassAt.{ClassAt}
+use Rattle.class_margin.specs.declared.class_at.ClassAt.{ClassAt}
 use Rattle.class_rates.specs.FactorBook.declared.holding.Holding.{Holding}
 use Rattle.class_rates.specs.FactorBook.Factors.{factors_of}
 use Rattle.book_range.specs.Bounded.{IsBounded}
@@ -32,8 +36,8 @@ use Rattle.class_margin.specs.names_delta.Combine.{parts_in, IsListed, HasBucket
 use Rattle.class_margin.proofs.names_delta.ByClass.{combined_by_class, AreParts}
 use Rattle.class_margin.proofs.delta.InBook.{IsNumbered}
 use Rattle.class_rates.specs.SimmKinds.Factors.{listed_id}
-use Rattle.class_priced.specs.Names.{priced_risk_class}
-use Rattle.class_credit.specs.Points.{credit_risk_class}
+use Rattle.class_rates.specs.SimmRules.RiskClasses.{priced_risk_class}
+use Rattle.class_rates.specs.SimmRules.RiskClasses.{credit_risk_class}
 use Rattle.class_margin.specs.names_delta.Values.{nets_in, IsInRange}
 use Rattle.class_rates.proofs.MeasuredBucket.Lists.{each_weaker, each_both}
 use Rattle.class_margin.proofs.names_delta.Shrinking.{SizesAreNetted}
@@ -206,12 +210,12 @@ module _ (p : Params) (facts : IsParams p) (held : List CrifRow) (bounded : IsBo
             small = credit_small Qualifying own s;
           }
       done class.CreditNonQ n are values =
-          let own : AllByRecursion (credit_owned Non_qualifying) parts = each_weaker (Both class.CreditNonQ) (credit_owned Non_qualifying) (λ part h. credit_owns Non_qualifying part h.0 h.1.value h.1.sized) parts (both class.CreditNonQ tt are values) in
+          let own : AllByRecursion (credit_owned NonQualifying) parts = each_weaker (Both class.CreditNonQ) (credit_owned NonQualifying) (λ part h. credit_owns NonQualifying part h.0 h.1.value h.1.sized) parts (both class.CreditNonQ tt are values) in
           let s = ascend class.CreditNonQ parts are in
           record {
-            are = named_parts class.CreditNonQ tt are (credit_sized Non_qualifying own s);
-            margin = λ z e. was_some z _ e ∙ credit_total Non_qualifying parts own are;
-            small = credit_small Non_qualifying own s;
+            are = named_parts class.CreditNonQ tt are (credit_sized NonQualifying own s);
+            margin = λ z e. was_some z _ e ∙ credit_total NonQualifying parts own are;
+            small = credit_small NonQualifying own s;
           }
       done class.Equity n are values =
           let own : AllByRecursion (priced_owned Equities) parts = each_weaker (Both class.Equity) (priced_owned Equities) (λ part h. priced_owns Equities part h.0 h.1.value h.1.sized) parts (both class.Equity tt are values) in

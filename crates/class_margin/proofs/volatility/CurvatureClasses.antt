@@ -9,10 +9,11 @@ use Rattle.class_rates.specs.SimmKinds.declared.row.CrifRow.{CrifRow}
 use Rattle.class_rates.specs.SimmKinds.Batch.{is_in_range}
 use Rattle.class_rates.specs.SimmRules.Params.{Params}
 use Rattle.class_rates.specs.SimmRules.Net.{Sensitivity}
-use Rattle.class_rates.specs.SimmRules.Risks.{Qualifying, Non_qualifying, Equities, Commodities}
+use Rattle.class_rates.specs.SimmRules.declared.classes.CreditClass.TheVariants.{Qualifying, NonQualifying}
+use Rattle.class_rates.specs.SimmRules.declared.classes.PricedClass.TheVariants.{Equities, Commodities}
 use Rattle.class_rates.specs.SimmRules.Admits.{admits}
 use Rattle.class_rates.specs.SimmParams.Facts.{IsParams}
-use Rattle.class_rates.specs.FactorBook.declared.at.ClassAt.{ClassAt}
+use Rattle.class_margin.specs.declared.class_at.ClassAt.{ClassAt}
 use Rattle.class_rates.specs.FactorBook.declared.holding.Holding.{Holding}
 use Rattle.class_rates.specs.FactorBook.Factors.{factors_of}
 use Rattle.book_range.specs.Bounded.{IsBounded}
@@ -68,9 +69,9 @@ module _ (p : Params) (facts : IsParams p) (held : List CrifRow) (range : IsBoun
         (λ part h. credit_owns p facts held range amounts product netted Qualifying part h.0 h.1.value h.1.sized) parts (both class.CreditQ tt are values) in
         done_by p class.CreditQ ss parts (have class.CreditQ tt are) (credit_joinable p facts held range amounts product netted Qualifying parts own are) (credit_total p facts held range amounts product netted Qualifying parts own are)
     done class.CreditNonQ are values =
-        let own : AllByRecursion (credit_owned p facts held range amounts product netted Non_qualifying) parts = each_weaker (Both class.CreditNonQ) (credit_owned p facts held range amounts product netted Non_qualifying)
-        (λ part h. credit_owns p facts held range amounts product netted Non_qualifying part h.0 h.1.value h.1.sized) parts (both class.CreditNonQ tt are values) in
-        done_by p class.CreditNonQ ss parts (have class.CreditNonQ tt are) (credit_joinable p facts held range amounts product netted Non_qualifying parts own are) (credit_total p facts held range amounts product netted Non_qualifying parts own are)
+        let own : AllByRecursion (credit_owned p facts held range amounts product netted NonQualifying) parts = each_weaker (Both class.CreditNonQ) (credit_owned p facts held range amounts product netted NonQualifying)
+        (λ part h. credit_owns p facts held range amounts product netted NonQualifying part h.0 h.1.value h.1.sized) parts (both class.CreditNonQ tt are values) in
+        done_by p class.CreditNonQ ss parts (have class.CreditNonQ tt are) (credit_joinable p facts held range amounts product netted NonQualifying parts own are) (credit_total p facts held range amounts product netted NonQualifying parts own are)
     done class.Equity are values =
         let own : AllByRecursion (priced_owned p facts held range amounts product netted Equities) parts = each_weaker (Both class.Equity) (priced_owned p facts held range amounts product netted Equities)
         (λ part h. priced_owns p facts held range amounts product netted Equities part h.0 h.1.value h.1.sized) parts (both class.Equity tt are values) in

@@ -7,7 +7,9 @@ use Rattle.class_rates.specs.SimmKinds.Order.{same_bucket}
 use Rattle.class_rates.specs.SimmRules.Params.{Params, CreditBucket, PricedBucket}
 use Rattle.class_rates.specs.SimmRules.Sums.{total_by}
 use Rattle.class_rates.specs.SimmRules.Net.{Sensitivity}
-use Rattle.class_rates.specs.SimmRules.Risks.{Risk, Of_credit_volatility, Of_price_volatility, risk, CreditClass, PricedClass, select}
+use Rattle.class_rates.specs.SimmRules.Risks.{Risk, Of_credit_volatility, Of_price_volatility, risk, select}
+use Rattle.class_rates.specs.SimmRules.declared.classes.CreditClass.{CreditClass}
+use Rattle.class_rates.specs.SimmRules.declared.classes.PricedClass.{PricedClass}
 use Rattle.class_rates.specs.SimmRules.Credit.{same_credit, as_credit_volatility, credit_params}
 use Rattle.class_rates.specs.SimmRules.Priced.{same_priced, as_price_volatility, priced_params}
 use Rattle.class_rates.specs.SimmParams.Buckets.{AreInOrder}

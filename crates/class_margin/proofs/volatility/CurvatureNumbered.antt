@@ -15,20 +15,22 @@ use Rattle.class_rates.specs.SimmRules.declared.values.BucketMargin.{BucketMargi
 use Rattle.class_rates.specs.SimmRules.Params.{Params, CreditBucket, PricedBucket}
 use Rattle.class_rates.specs.SimmRules.Net.{Sensitivity}
 use Rattle.class_rates.specs.SimmRules.Sums.{total_by}
-use Rattle.class_rates.specs.SimmRules.Risks.{CreditClass, PricedClass, CreditPoint, Amount}
+use Rattle.class_rates.specs.SimmRules.Risks.{CreditPoint, Amount}
+use Rattle.class_rates.specs.SimmRules.declared.classes.CreditClass.{CreditClass}
+use Rattle.class_rates.specs.SimmRules.declared.classes.PricedClass.{PricedClass}
 use Rattle.class_rates.specs.SimmRules.Credit.{credit_params, listed_credit, credit_curvature_value, credit_curvature}
 use Rattle.class_rates.specs.SimmRules.Curvature.{curvature_over}
 use Rattle.class_rates.specs.SimmRules.Priced.{NameVolatility, priced_params, listed_priced, price_curvature_value, price_curvature}
 use Rattle.class_rates.specs.SimmParams.Facts.{IsParams}
-use Rattle.class_rates.specs.FactorBook.declared.at.ClassAt.{ClassAt}
+use Rattle.class_margin.specs.declared.class_at.ClassAt.{ClassAt}
 use Rattle.class_rates.specs.FactorBook.declared.holding.Holding.{Holding}
 use Rattle.class_rates.specs.FactorBook.Factors.{factors_of}
 use Rattle.book_range.specs.Bounded.{IsBounded}
 use Rattle.class_margin.proofs.rates_delta.Sums.{total_by-pos}
 use Rattle.class_margin.specs.names_delta.Combine.{parts_in, IsListed}
 use Rattle.class_rates.specs.SimmKinds.Factors.{listed_id}
-use Rattle.class_priced.specs.Names.{priced_risk_class}
-use Rattle.class_credit.specs.Points.{credit_risk_class}
+use Rattle.class_rates.specs.SimmRules.RiskClasses.{priced_risk_class}
+use Rattle.class_rates.specs.SimmRules.RiskClasses.{credit_risk_class}
 use Rattle.class_margin.specs.names_delta.Values.{nets_in, IsInRange}
 use Rattle.class_rates.proofs.MeasuredBucket.Lists.{each_always, each_weaker}
 use Rattle.class_margin.proofs.names_delta.Shrinking.{SizesAreNetted}

@@ -22,7 +22,7 @@ use Rattle.class_rates.specs.SimmRules.Curvature.{curvature_part}
 use Rattle.class_rates.specs.SimmRules.ForeignExchange.{PairVolatility, fx_sigma, fx_curvature_value, fx_curvature}
 use Rattle.class_rates.specs.SimmRules.Gross.{size_by}
 use Rattle.class_rates.specs.SimmParams.Facts.{IsParams}
-use Rattle.class_rates.specs.FactorBook.declared.at.ClassAt.{ClassAt}
+use Rattle.class_margin.specs.declared.class_at.ClassAt.{ClassAt}
 use Rattle.class_rates.specs.FactorBook.declared.holding.Holding.{Holding}
 use Rattle.class_rates.specs.FactorBook.Factors.{factors_of}
 use Rattle.book_range.specs.Bounded.{IsBounded}

@@ -20,7 +20,7 @@ use Rattle.class_rates.specs.SimmRules.Risks.{Amount, select}
 use Rattle.class_rates.specs.SimmRules.Gross.{size_by}
 use Rattle.class_rates.specs.SimmRules.Rates.{VolatilityIn, as_rate_volatility, volatilities_in, volatility_currencies, currency_curvature_value, rate_curvature}
 use Rattle.class_rates.specs.SimmParams.Facts.{IsParams}
-use Rattle.class_rates.specs.FactorBook.declared.at.ClassAt.{ClassAt}
+use Rattle.class_margin.specs.declared.class_at.ClassAt.{ClassAt}
 use Rattle.class_rates.specs.FactorBook.declared.holding.Holding.{Holding}
 use Rattle.class_rates.specs.FactorBook.Factors.{factors_of}
 use Rattle.class_rates.proofs.FactorBook.Sums.{total_by-map}

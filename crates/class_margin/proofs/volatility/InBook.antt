@@ -15,14 +15,18 @@ use Rattle.class_rates.specs.SimmKinds.declared.row.CrifRow.{CrifRow}
 use Rattle.class_rates.specs.SimmKinds.Factors.{class_of, side_of, bucket_of, bucket_id_of}
 use Rattle.class_rates.specs.SimmKinds.Order.{same_product, same_class, bucket_id_cmp}
 use Rattle.class_rates.specs.SimmRules.Params.{Params}
-use Rattle.class_rates.specs.SimmRules.Risks.{CreditClass, PricedClass}
+use Rattle.class_rates.specs.SimmRules.declared.classes.CreditClass.{CreditClass}
+use Rattle.class_rates.specs.SimmRules.declared.classes.PricedClass.{PricedClass}
 use Rattle.class_rates.specs.SimmRules.Admits.{admits_factor, admits}
-use Rattle.class_rates.specs.FactorBook.declared.at.ClassAt.{ClassAt}
+use Rattle.class_margin.specs.declared.class_at.ClassAt.{ClassAt}
 use Rattle.class_rates.specs.FactorBook.declared.holding.Holding.{Holding}
 use Rattle.class_rates.specs.FactorBook.declared.place.BookSide.TheVariants as side
 use Rattle.class_rates.specs.FactorBook.Factors.{factors_of}
-use Rattle.class_rates.specs.FactorBook.Place.{book_side}
-use Rattle.class_rates.specs.FactorBook.Places.{same_side, factors_at, is_on, place_in}
+use Rattle.class_rates.specs.FactorBook.Address.{book_side}
+use Rattle.class_rates.specs.FactorBook.Address.{same_side}
+use Rattle.class_rates.specs.FactorBook.Filing.{filed_at}
+use Rattle.class_rates.specs.FactorBook.Places.{factors_at}
+use Rattle.class_margin.specs.delta.At.{is_on, place_in}
 use Rattle.class_margin.specs.rates_delta.Parts.{IsCurrency}
 use Rattle.class_margin.specs.names_delta.Combine.{HasBucket}
 use Rattle.class_rates.proofs.MeasuredBucket.Lists.{each_weaker, each_both, each_map, each_unmap, each_kept, kept_pass}
@@ -52,7 +56,7 @@ abbrev is_volatile : ClassAt → FactorKey → Bool
 is_volatile at k = is_on (volatility_side at) k
 
 -- so what comes of the factors of a listed bucket alone is none
-pub none_of : {Y : Type 0} (own : Bucket → List Y) (at : ClassAt) (fs : List (FactorKey × Holding)) → ((b : Bucket) → factors_at (place_in (volatility_side at) (bucket_id_of b)) fs ≡ [] → own b ≡ []) → (ks : List BucketId) → ks ≡ volatility_buckets at fs → (b : Bucket) → has ks b ≡ false → own b ≡ []
+pub none_of : {Y : Type 0} (own : Bucket → List Y) (at : ClassAt) (fs : List (FactorKey × Holding)) → ((b : Bucket) → filed_at (place_in (volatility_side at) (bucket_id_of b)) fs ≡ [] → own b ≡ []) → (ks : List BucketId) → ks ≡ volatility_buckets at fs → (b : Bucket) → has ks b ≡ false → own b ≡ []
 none_of own at fs idle ks are b none = idle b (none_on (volatility_side at) (bucket_id_of b) fs (ap (λ ls. has ls b) (sym are) ∙ none))
 
 -- ---- what a place without factors has
@@ -140,5 +144,5 @@ module _ (p : Params) where
       (subst (AllByRecursion (HasBucket p at.class)) (sym are) (each_weaker (IsOwn at.class) (HasBucket p at.class) (own_named at.class named) (volatility_buckets at (factors_of held)) (own_each at held h)))
 
   -- so is one that has a volatility
-  pub own_there : (at : ClassAt) (b : BucketId) → (held : List CrifRow) → list_all (admits p) held ≡ true → factors_at (place_in (volatility_side at) b) (factors_of held) ≢ [] → IsOwn at.class b
+  pub own_there : (at : ClassAt) (b : BucketId) → (held : List CrifRow) → list_all (admits p) held ≡ true → filed_at (place_in (volatility_side at) b) (factors_of held) ≢ [] → IsOwn at.class b
   own_there at b held h some = each_on (volatility_side at) b (IsOwn at.class) (factors_of held) (own_each at held h) some

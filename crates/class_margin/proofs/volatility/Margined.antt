@@ -5,10 +5,10 @@ use Rattle.class_rates.specs.SimmKinds.declared.kinds.RiskClass.{RiskClass}
 use Rattle.class_rates.specs.SimmKinds.declared.kinds.RiskClass.TheVariants as class
 use Rattle.class_rates.specs.SimmRules.Params.{Params}
 use Rattle.class_rates.specs.SimmParams.Facts.{IsParams}
-use Rattle.class_rates.specs.FactorBook.declared.at.BucketAt.{BucketAt}
-use Rattle.class_rates.specs.FactorBook.declared.at.ClassAt.{ClassAt}
+use Rattle.class_margin.specs.delta.At.{BucketAt}
+use Rattle.class_margin.specs.declared.class_at.ClassAt.{ClassAt}
 use Rattle.class_rates.specs.FactorBook.declared.holding.Holding.{Holding}
-use Rattle.class_rates.specs.FactorBook.Places.{factors_at}
+use Rattle.class_rates.specs.FactorBook.Filing.{filed_at}
 use Rattle.book_range.specs.Bounded.{IsMarginable}
 use Rattle.class_margin.specs.names_delta.Values.{nets_in}
 use Rattle.class_margin.proofs.delta.InBook.{IsNumbered}
@@ -19,8 +19,8 @@ use Rattle.class_margin.proofs.volatility.Classes.{IsDone, AreRatesDone, AreRate
 use Rattle.class_margin.proofs.volatility.InBook.{IsOwn, own_there}
 
 -- a bucket that has a volatility is one that its class has
-pub own_fits : (p : Params) (fs : List (FactorKey × Holding)) → IsMarginable p fs → (at : BucketAt) → factors_at (volatility_place at) fs ≢ [] → IsOwn p at.class at.bucket
-own_fits p fs its at = subst (λ f. factors_at (volatility_place at) f ≢ [] → IsOwn p at.class at.bucket) (sym its.are) (own_there p (record { product = at.product; class = at.class }) at.bucket its.held its.admitted)
+pub own_fits : (p : Params) (fs : List (FactorKey × Holding)) → IsMarginable p fs → (at : BucketAt) → filed_at (volatility_place at) fs ≢ [] → IsOwn p at.class at.bucket
+own_fits p fs its at = subst (λ f. filed_at (volatility_place at) f ≢ [] → IsOwn p at.class at.bucket) (sym its.are) (own_there p (record { product = at.product; class = at.class }) at.bucket its.held its.admitted)
 
 module _ (p : Params) (facts : IsParams p) (fs : List (FactorKey × Holding)) (its : IsMarginable p fs) (sizes : SizesAreNetted its.held) where
   -- all of a class of which the file lists buckets

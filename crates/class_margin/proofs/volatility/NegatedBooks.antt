@@ -15,11 +15,12 @@ use Rattle.class_rates.specs.SimmRules.Gross.{delta_size, vega_size}
 use Rattle.class_rates.specs.SimmRules.Sums.{different}
 use Rattle.class_rates.specs.SimmRules.Net.{Sensitivity, sensitivities, in_product}
 use Rattle.class_rates.specs.FactorBook.declared.holding.Holding.{Holding}
-use Rattle.class_rates.specs.FactorBook.declared.at.ClassAt.{ClassAt}
-use Rattle.class_rates.specs.FactorBook.declared.at.SideAt.{SideAt}
+use Rattle.class_margin.specs.declared.class_at.ClassAt.{ClassAt}
+use Rattle.class_margin.specs.delta.At.{SideAt}
 use Rattle.class_rates.specs.FactorBook.declared.place.Place.{Place}
 use Rattle.class_rates.specs.FactorBook.Factors.{factors_of, net_of}
-use Rattle.class_rates.specs.FactorBook.Places.{stands_at, factors_at, is_on}
+use Rattle.class_rates.specs.FactorBook.Places.{stands_at, factors_at}
+use Rattle.class_margin.specs.delta.At.{is_on}
 use Rattle.book_range.specs.Bounded.{IsBounded, IsMarginable}
 use Rattle.negated_book.specs.Negated.{negated_row, negated, negated_nets, negated_factor, negated_factors}
 use Rattle.negated_book.specs.Turned.{IsEven}

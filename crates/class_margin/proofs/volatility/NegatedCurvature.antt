@@ -16,8 +16,8 @@ use Rattle.class_rates.specs.SimmRules.Credit.{as_credit_volatility, credit_para
 use Rattle.class_rates.specs.SimmRules.Priced.{as_price_volatility, priced_params, price_curvature_value}
 use Rattle.class_rates.specs.SimmRules.ForeignExchange.{as_pair_volatility, fx_sigma, fx_curvature_value}
 use Rattle.class_rates.specs.SimmParams.ListedBuckets.{credit_bucket_of, priced_bucket_of}
-use Rattle.class_rates.specs.FactorBook.declared.at.BucketAt.{BucketAt}
-use Rattle.class_rates.specs.FactorBook.declared.at.ClassAt.{ClassAt}
+use Rattle.class_margin.specs.delta.At.{BucketAt}
+use Rattle.class_margin.specs.declared.class_at.ClassAt.{ClassAt}
 use Rattle.class_rates.specs.FactorBook.declared.holding.Holding.{Holding}
 use Rattle.class_rates.proofs.MeasuredBucket.Lists.{each_weaker, each_map}
 use Rattle.class_rates.proofs.MhUnits.Integers.{unsigned_abs-neg}

@@ -11,7 +11,7 @@ use Rattle.class_rates.specs.SimmKinds.Order.{same_bucket_id}
 use Rattle.class_rates.specs.SimmRules.declared.values.BucketMargin.{BucketMargin}
 use Rattle.class_rates.specs.SimmRules.Params.{Params}
 use Rattle.class_rates.specs.SimmRules.ForeignExchange.{fx_vega_value, fx_vega}
-use Rattle.class_rates.specs.FactorBook.declared.at.ClassAt.{ClassAt}
+use Rattle.class_margin.specs.declared.class_at.ClassAt.{ClassAt}
 use Rattle.class_rates.specs.FactorBook.declared.holding.Holding.{Holding}
 use Rattle.class_margin.specs.names_delta.Values.{nets_in}
 use Rattle.class_rates.proofs.MeasuredBucket.Lists.{each_weaker}

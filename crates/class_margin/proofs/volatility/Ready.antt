@@ -10,7 +10,9 @@ use Rattle.class_rates.specs.SimmKinds.declared.row.CrifRow.{CrifRow}
 use Rattle.class_rates.specs.SimmKinds.Batch.{is_in_range}
 use Rattle.class_rates.specs.SimmKinds.Order.{same_name}
 use Rattle.class_rates.specs.SimmRules.Params.{Params, CreditBucket, PricedBucket}
-use Rattle.class_rates.specs.SimmRules.Risks.{CreditClass, PricedClass, select}
+use Rattle.class_rates.specs.SimmRules.Risks.{select}
+use Rattle.class_rates.specs.SimmRules.declared.classes.CreditClass.{CreditClass}
+use Rattle.class_rates.specs.SimmRules.declared.classes.PricedClass.{PricedClass}
 use Rattle.class_rates.specs.SimmRules.Admits.{lists}
 use Rattle.class_rates.specs.SimmRules.Rates.{VolatilityIn, as_rate_volatility}
 use Rattle.class_rates.specs.SimmRules.Credit.{credit_params, listed_credit}

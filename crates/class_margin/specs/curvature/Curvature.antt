@@ -9,7 +9,7 @@ use Rattle.class_rates.specs.SimmRules.Credit.{credit_params, credit_curvature_v
 use Rattle.class_rates.specs.SimmRules.Priced.{priced_params, price_curvature_value}
 use Rattle.class_rates.specs.SimmRules.ForeignExchange.{fx_sigma, fx_curvature_value}
 use Rattle.class_rates.specs.SimmParams.ListedBuckets.{credit_bucket_of, priced_bucket_of}
-use Rattle.class_rates.specs.FactorBook.declared.at.BucketAt.{BucketAt}
+use Rattle.class_margin.specs.delta.At.{BucketAt}
 use Rattle.class_rates.specs.FactorBook.declared.holding.Holding.{Holding}
 use Rattle.class_margin.specs.volatilities.Buckets.{VolatileBucket, Currency_bucket, Credit_bucket, Priced_bucket, Pairs_bucket, volatile_bucket}
 use Rattle.class_margin.specs.volatilities.Places.{volatilities_of, points_of, name_volatilities, pair_volatilities}

@@ -5,13 +5,11 @@ use Rattle.std.specs.List.{filter}
 use Rattle.class_rates.specs.SimmKinds.declared.kinds.BucketId.{BucketId}
 use Rattle.class_rates.specs.SimmKinds.declared.kinds.BucketId.TheVariants as id
 use Rattle.class_rates.specs.SimmKinds.declared.key.FactorKey.{FactorKey}
-use Rattle.class_rates.specs.FactorBook.declared.at.BucketAt.{BucketAt}
-use Rattle.class_rates.specs.FactorBook.declared.at.ClassAt.{ClassAt}
-use Rattle.class_rates.specs.FactorBook.declared.at.SideAt.{SideAt}
+use Rattle.class_margin.specs.declared.class_at.ClassAt.{ClassAt}
 use Rattle.class_rates.specs.FactorBook.declared.holding.Holding.{Holding}
-use Rattle.class_rates.specs.FactorBook.declared.place.Place.{Place}
+use Rattle.class_rates.specs.FactorBook.declared.address.Address.{Address}
 use Rattle.class_rates.specs.FactorBook.declared.place.BookSide.TheVariants as side
-use Rattle.class_rates.specs.FactorBook.Places.{buckets_on}
+use Rattle.class_margin.specs.delta.At.{buckets_on, BucketAt, SideAt}
 
 abbrev pub delta_side : ClassAt → SideAt
 delta_side at = record { product = at.product; class = at.class; side = side.Delta }
@@ -33,6 +31,6 @@ listed_buckets at factors = filter (λ b. not (is_single b)) (delta_buckets at f
 abbrev pub bucket_at : ClassAt → BucketId → BucketAt
 bucket_at at b = record { product = at.product; class = at.class; bucket = b }
 
--- where the factors of a bucket stand
-abbrev pub delta_place : BucketAt → Place
+-- what the factors of a bucket are sorted by
+abbrev pub delta_place : BucketAt → Address
 delta_place at = record { product = at.product; class = at.class; side = side.Delta; bucket = at.bucket }

@@ -11,12 +11,13 @@ use Rattle.class_rates.specs.SimmKinds.declared.bucket.Bucket.TheVariants as buc
 use Rattle.class_rates.specs.SimmKinds.declared.key.FactorKey.{FactorKey}
 use Rattle.class_rates.specs.SimmRules.declared.values.BucketMargin.{BucketMargin}
 use Rattle.class_rates.specs.SimmRules.Params.{Params}
-use Rattle.class_rates.specs.SimmRules.Risks.{Qualifying, Non_qualifying, Equities, Commodities}
+use Rattle.class_rates.specs.SimmRules.declared.classes.CreditClass.TheVariants.{Qualifying, NonQualifying}
+use Rattle.class_rates.specs.SimmRules.declared.classes.PricedClass.TheVariants.{Equities, Commodities}
 use Rattle.class_rates.specs.SimmRules.Rates.{rates_in, currency_value}
 use Rattle.class_rates.specs.SimmRules.BaseCorrelation.{base_value}
 use Rattle.class_rates.specs.SimmRules.ForeignExchange.{fx_weight}
-use Rattle.class_rates.specs.FactorBook.declared.at.BucketAt.{BucketAt}
-use Rattle.class_rates.specs.FactorBook.declared.at.ClassAt.{ClassAt}
+use Rattle.class_margin.specs.delta.At.{BucketAt}
+use Rattle.class_margin.specs.declared.class_at.ClassAt.{ClassAt}
 use Rattle.class_rates.specs.FactorBook.declared.holding.Holding.{Holding}
 use Rattle.book_range.specs.Bounded.{IsMarginable}
 use Rattle.class_margin.specs.rates_delta.Range.{IsPart}
@@ -46,7 +47,7 @@ qualifying_delta_at p id.Single product factors = Some (base_value p (indices_of
 abbrev pub delta_by_class : Params → RiskClass → BucketId → ProductClass → List (FactorKey × Holding) → Option BucketMargin
 delta_by_class p class.IR b product factors = rate_delta_at p b product factors
 delta_by_class p class.CreditQ b product factors = qualifying_delta_at p b product factors
-delta_by_class p class.CreditNonQ b product factors = credit_delta p Non_qualifying (listed_id b) product factors
+delta_by_class p class.CreditNonQ b product factors = credit_delta p NonQualifying (listed_id b) product factors
 delta_by_class p class.Equity b product factors = priced_delta p Equities (listed_id b) product factors
 delta_by_class p class.Commodity b product factors = priced_delta p Commodities (listed_id b) product factors
 delta_by_class p class.FX b product factors = fx_delta p b product factors
@@ -71,7 +72,7 @@ IsFxSized p id.Single product factors value = IsSized (fx_weight p) (currencies_
 abbrev pub IsSizedByClass : Params → RiskClass → BucketId → ProductClass → List (FactorKey × Holding) → BucketMargin → Type 0
 IsSizedByClass p class.IR b product factors value = IsPart value
 IsSizedByClass p class.CreditQ b product factors value = IsQualifyingSized p b product factors value
-IsSizedByClass p class.CreditNonQ b product factors value = IsCreditSized p Non_qualifying (listed_id b) product factors value
+IsSizedByClass p class.CreditNonQ b product factors value = IsCreditSized p NonQualifying (listed_id b) product factors value
 IsSizedByClass p class.Equity b product factors value = IsPricedSized p Equities (listed_id b) product factors value
 IsSizedByClass p class.Commodity b product factors value = IsPricedSized p Commodities (listed_id b) product factors value
 IsSizedByClass p class.FX b product factors value = IsFxSized p b product factors value

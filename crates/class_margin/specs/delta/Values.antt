@@ -3,8 +3,8 @@ use Rattle.std.specs.Prelude.{◌≡◌, List, map, Option, Some}
 use Rattle.std.specs.List.{AllByRecursion}
 use Rattle.class_rates.specs.SimmKinds.declared.kinds.BucketId.{BucketId}
 use Rattle.class_rates.specs.SimmRules.declared.values.BucketMargin.{BucketMargin}
-use Rattle.class_rates.specs.FactorBook.declared.at.BucketAt.{BucketAt}
-use Rattle.class_rates.specs.FactorBook.declared.at.ClassAt.{ClassAt}
+use Rattle.class_margin.specs.delta.At.{BucketAt}
+use Rattle.class_margin.specs.declared.class_at.ClassAt.{ClassAt}
 use Rattle.class_margin.specs.delta.Buckets.{bucket_at}
 
 -- a bucket with its value

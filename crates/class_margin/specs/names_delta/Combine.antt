@@ -18,9 +18,8 @@ use Rattle.class_rates.specs.SimmRules.Across.{Part, residual, place_among, marg
 use Rattle.class_rates.specs.SimmRules.Admits.{lists}
 use Rattle.class_rates.specs.SimmRules.Credit.{credit_params, listed_credit}
 use Rattle.class_rates.specs.SimmRules.Priced.{priced_params, listed_priced}
-use Rattle.class_rates.specs.SimmParams.declared.class_kind.CreditKind.TheVariants as credit
-use Rattle.class_rates.specs.SimmParams.declared.class_kind.PricedKind.TheVariants as priced
-use Rattle.class_rates.specs.SimmParams.ClassKinds.{credit_class, priced_class}
+use Rattle.class_rates.specs.SimmRules.declared.classes.CreditClass.TheVariants as credit
+use Rattle.class_rates.specs.SimmRules.declared.classes.PricedClass.TheVariants as priced
 use Rattle.class_margin.specs.declared.listed.ListedClass.{ListedClass}
 use Rattle.class_margin.specs.declared.listed.ListedClass.TheVariants as its_class
 use Rattle.class_rates.specs.SimmKinds.Factors.{listed_id}
@@ -38,12 +37,12 @@ listed_class class.FX = None
 -- what the file says of it
 
 abbrev pub listed_in : Params → ListedClass → List Bucket
-listed_in p (its_class.Credit kind) = listed_credit (credit_params p (credit_class kind))
-listed_in p (its_class.Priced kind) = listed_priced (priced_params p (priced_class kind))
+listed_in p (its_class.Credit class) = listed_credit (credit_params p class)
+listed_in p (its_class.Priced class) = listed_priced (priced_params p class)
 
 abbrev pub gamma_in : Params → ListedClass → List (List ℤ)
-gamma_in p (its_class.Credit kind) = (credit_params p (credit_class kind)).gamma
-gamma_in p (its_class.Priced kind) = (priced_params p (priced_class kind)).gamma
+gamma_in p (its_class.Credit class) = (credit_params p class).gamma
+gamma_in p (its_class.Priced class) = (priced_params p class).gamma
 
 -- the correlation of the buckets at two places of a list, each by its place among those that the file lists, in millionths
 abbrev pub gamma_at : List (List ℤ) → List ℕ → ℕ → ℕ → ℤ

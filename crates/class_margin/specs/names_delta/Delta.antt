@@ -10,11 +10,14 @@ use Rattle.class_rates.specs.SimmKinds.declared.bucket.Bucket.{Bucket}
 use Rattle.class_rates.specs.SimmKinds.declared.key.FactorKey.{FactorKey}
 use Rattle.class_rates.specs.SimmRules.declared.values.BucketMargin.{BucketMargin}
 use Rattle.class_rates.specs.SimmRules.Params.{Params}
-use Rattle.class_rates.specs.SimmRules.Risks.{CreditClass, Qualifying, Non_qualifying, PricedClass, Equities, Commodities}
+use Rattle.class_rates.specs.SimmRules.declared.classes.CreditClass.{CreditClass}
+use Rattle.class_rates.specs.SimmRules.declared.classes.CreditClass.TheVariants.{Qualifying, NonQualifying}
+use Rattle.class_rates.specs.SimmRules.declared.classes.PricedClass.{PricedClass}
+use Rattle.class_rates.specs.SimmRules.declared.classes.PricedClass.TheVariants.{Equities, Commodities}
 use Rattle.class_rates.specs.SimmRules.Credit.{credit_params, credit_value}
 use Rattle.class_rates.specs.SimmRules.Priced.{priced_params, price_value}
 use Rattle.class_rates.specs.SimmRules.ForeignExchange.{fx_weight, fx_value}
-use Rattle.class_rates.specs.FactorBook.declared.at.BucketAt.{BucketAt}
+use Rattle.class_margin.specs.delta.At.{BucketAt}
 use Rattle.class_rates.specs.FactorBook.declared.holding.Holding.{Holding}
 use Rattle.class_rates.specs.SimmParams.ListedBuckets.{credit_bucket_of, priced_bucket_of}
 use Rattle.class_exchange.specs.Currencies.{currencies_in}
@@ -44,7 +47,7 @@ fx_delta p id.Single product factors = Some (fx_value p (currencies_in p product
 abbrev pub delta_by_class : Params → RiskClass → BucketId → ProductClass → List (FactorKey × Holding) → Option BucketMargin
 delta_by_class p class.IR b product factors = None
 delta_by_class p class.CreditQ b product factors = credit_delta p Qualifying (listed_id b) product factors
-delta_by_class p class.CreditNonQ b product factors = credit_delta p Non_qualifying (listed_id b) product factors
+delta_by_class p class.CreditNonQ b product factors = credit_delta p NonQualifying (listed_id b) product factors
 delta_by_class p class.Equity b product factors = priced_delta p Equities (listed_id b) product factors
 delta_by_class p class.Commodity b product factors = priced_delta p Commodities (listed_id b) product factors
 delta_by_class p class.FX b product factors = fx_delta p b product factors
@@ -67,7 +70,7 @@ IsPricedSized p class (Some at) product factors value =
 abbrev pub IsSizedByClass : Params → RiskClass → BucketId → ProductClass → List (FactorKey × Holding) → BucketMargin → Type 0
 IsSizedByClass p class.IR b product factors value = ⊥
 IsSizedByClass p class.CreditQ b product factors value = IsCreditSized p Qualifying (listed_id b) product factors value
-IsSizedByClass p class.CreditNonQ b product factors value = IsCreditSized p Non_qualifying (listed_id b) product factors value
+IsSizedByClass p class.CreditNonQ b product factors value = IsCreditSized p NonQualifying (listed_id b) product factors value
 IsSizedByClass p class.Equity b product factors value = IsPricedSized p Equities (listed_id b) product factors value
 IsSizedByClass p class.Commodity b product factors value = IsPricedSized p Commodities (listed_id b) product factors value
 IsSizedByClass p class.FX b product factors value = IsSized (fx_weight p) (currencies_in p product factors) value

@@ -11,8 +11,8 @@ use Rattle.class_rates.specs.SimmKinds.Order.{same_product, same_class, bucket_i
 use Rattle.class_rates.specs.SimmRules.Sums.{different}
 use Rattle.class_rates.specs.FactorBook.declared.place.BookSide.TheVariants as side
 use Rattle.class_rates.specs.FactorBook.declared.holding.Holding.{Holding}
-use Rattle.class_rates.specs.FactorBook.Place.{book_side}
-use Rattle.class_rates.specs.FactorBook.Places.{same_side}
+use Rattle.class_rates.specs.FactorBook.Address.{book_side}
+use Rattle.class_rates.specs.FactorBook.Address.{same_side}
 pub use Rattle.class_rates.specs.MeasuredBucket.Values.{nets_in as nets_of}
 
 -- whether a key is one of delta of interest rates in a product class

@@ -10,10 +10,10 @@ use Rattle.class_rates.specs.SimmRules.Net.{Sensitivity}
 use Rattle.class_rates.specs.SimmRules.Risks.{select}
 use Rattle.class_rates.specs.SimmRules.Gross.{size_by}
 use Rattle.class_rates.specs.SimmRules.Rates.{as_rate_volatility, volatilities_in, volatility_currencies, currency_vega_value}
-use Rattle.class_rates.specs.FactorBook.declared.at.ClassAt.{ClassAt}
+use Rattle.class_margin.specs.declared.class_at.ClassAt.{ClassAt}
 use Rattle.class_rates.specs.FactorBook.declared.holding.Holding.{Holding}
 use Rattle.class_rates.specs.FactorBook.declared.place.BookSide.TheVariants as side
-use Rattle.class_rates.specs.FactorBook.Places.{buckets_on}
+use Rattle.class_margin.specs.delta.At.{buckets_on}
 use Rattle.class_margin.specs.volatilities.Ranges.{alone}
 
 -- the buckets of the currencies of a product class that have a volatility

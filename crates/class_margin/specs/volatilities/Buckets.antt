@@ -7,8 +7,11 @@ use Rattle.class_rates.specs.SimmKinds.declared.kinds.RiskClass.TheVariants as c
 use Rattle.class_rates.specs.SimmKinds.declared.kinds.BucketId.{BucketId}
 use Rattle.class_rates.specs.SimmKinds.declared.kinds.BucketId.TheVariants as id
 use Rattle.class_rates.specs.SimmKinds.declared.bucket.Bucket.{Bucket}
-use Rattle.class_rates.specs.SimmRules.Risks.{CreditClass, Qualifying, Non_qualifying, PricedClass, Equities, Commodities}
-use Rattle.class_rates.specs.FactorBook.declared.at.BucketAt.{BucketAt}
+use Rattle.class_rates.specs.SimmRules.declared.classes.CreditClass.{CreditClass}
+use Rattle.class_rates.specs.SimmRules.declared.classes.CreditClass.TheVariants.{Qualifying, NonQualifying}
+use Rattle.class_rates.specs.SimmRules.declared.classes.PricedClass.{PricedClass}
+use Rattle.class_rates.specs.SimmRules.declared.classes.PricedClass.TheVariants.{Equities, Commodities}
+use Rattle.class_margin.specs.delta.At.{BucketAt}
 use Rattle.class_rates.specs.SimmKinds.Factors.{listed_id}
 
 -- in each product class: a currency's, those that the file lists, and the one of all pairs of currencies
@@ -41,7 +44,7 @@ pairs_bucket_at id.Single product = Some (Pairs_bucket product)
 abbrev pub volatile_by_class : RiskClass → BucketId → ProductClass → Option VolatileBucket
 volatile_by_class class.IR b product = currency_bucket_at b product
 volatile_by_class class.CreditQ b product = credit_bucket_at Qualifying (listed_id b) product
-volatile_by_class class.CreditNonQ b product = credit_bucket_at Non_qualifying (listed_id b) product
+volatile_by_class class.CreditNonQ b product = credit_bucket_at NonQualifying (listed_id b) product
 volatile_by_class class.Equity b product = priced_bucket_at Equities (listed_id b) product
 volatile_by_class class.Commodity b product = priced_bucket_at Commodities (listed_id b) product
 volatile_by_class class.FX b product = pairs_bucket_at b product

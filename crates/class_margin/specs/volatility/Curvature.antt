@@ -8,12 +8,13 @@ use Rattle.class_rates.specs.SimmKinds.declared.key.FactorKey.{FactorKey}
 use Rattle.class_rates.specs.SimmRules.declared.values.BucketMargin.{BucketMargin}
 use Rattle.class_rates.specs.SimmRules.Params.{Params}
 use Rattle.class_rates.specs.SimmRules.Net.{Sensitivity}
-use Rattle.class_rates.specs.SimmRules.Risks.{Qualifying, Non_qualifying, Equities, Commodities}
+use Rattle.class_rates.specs.SimmRules.declared.classes.CreditClass.TheVariants.{Qualifying, NonQualifying}
+use Rattle.class_rates.specs.SimmRules.declared.classes.PricedClass.TheVariants.{Equities, Commodities}
 use Rattle.class_rates.specs.SimmRules.Rates.{rate_curvature}
 use Rattle.class_rates.specs.SimmRules.Credit.{credit_curvature}
 use Rattle.class_rates.specs.SimmRules.Priced.{price_curvature}
 use Rattle.class_rates.specs.SimmRules.ForeignExchange.{fx_curvature}
-use Rattle.class_rates.specs.FactorBook.declared.at.ClassAt.{ClassAt}
+use Rattle.class_margin.specs.declared.class_at.ClassAt.{ClassAt}
 use Rattle.class_rates.specs.FactorBook.declared.holding.Holding.{Holding}
 use Rattle.book_range.specs.Bounded.{IsMarginable}
 use Rattle.negated_book.specs.Negated.{negated_value}
@@ -25,7 +26,7 @@ pub use Rattle.class_margin.specs.curvature.Curvature.{curvature_value, IsCurvat
 abbrev pub class_curvature_of : Params → List Sensitivity → RiskClass → ℤ
 class_curvature_of p ss class.IR = rate_curvature p ss
 class_curvature_of p ss class.CreditQ = credit_curvature p.lambda_base p.credit_q Qualifying ss
-class_curvature_of p ss class.CreditNonQ = credit_curvature p.lambda_base p.credit_nq Non_qualifying ss
+class_curvature_of p ss class.CreditNonQ = credit_curvature p.lambda_base p.credit_nq NonQualifying ss
 class_curvature_of p ss class.Equity = price_curvature p.lambda_base p.equity Equities ss
 class_curvature_of p ss class.Commodity = price_curvature p.lambda_base p.commodity Commodities ss
 class_curvature_of p ss class.FX = fx_curvature p ss

@@ -8,16 +8,17 @@ use Rattle.class_rates.specs.SimmKinds.declared.key.FactorKey.{FactorKey}
 use Rattle.class_rates.specs.SimmRules.declared.values.BucketMargin.{BucketMargin}
 use Rattle.class_rates.specs.SimmRules.Params.{Params}
 use Rattle.class_rates.specs.SimmRules.Net.{Sensitivity}
-use Rattle.class_rates.specs.SimmRules.Risks.{Qualifying, Non_qualifying, Equities, Commodities}
+use Rattle.class_rates.specs.SimmRules.declared.classes.CreditClass.TheVariants.{Qualifying, NonQualifying}
+use Rattle.class_rates.specs.SimmRules.declared.classes.PricedClass.TheVariants.{Equities, Commodities}
 use Rattle.class_rates.specs.SimmRules.Rates.{rate_vega}
 use Rattle.class_rates.specs.SimmRules.Credit.{credit_vega}
 use Rattle.class_rates.specs.SimmRules.Priced.{price_vega}
 use Rattle.class_rates.specs.SimmRules.ForeignExchange.{fx_vega}
-use Rattle.class_rates.specs.FactorBook.declared.at.BucketAt.{BucketAt}
-use Rattle.class_rates.specs.FactorBook.declared.at.ClassAt.{ClassAt}
-use Rattle.class_rates.specs.FactorBook.declared.at.SideAt.{SideAt}
+use Rattle.class_margin.specs.delta.At.{BucketAt}
+use Rattle.class_margin.specs.declared.class_at.ClassAt.{ClassAt}
+use Rattle.class_margin.specs.delta.At.{SideAt}
 use Rattle.class_rates.specs.FactorBook.declared.holding.Holding.{Holding}
-use Rattle.class_rates.specs.FactorBook.declared.place.Place.{Place}
+use Rattle.class_rates.specs.FactorBook.declared.address.Address.{Address}
 use Rattle.class_rates.specs.FactorBook.declared.place.BookSide.TheVariants as side
 use Rattle.book_range.specs.Bounded.{IsMarginable}
 use Rattle.class_margin.specs.delta.Values.{IsValuedBy, AreValuedBy}
@@ -28,7 +29,7 @@ pub use Rattle.class_margin.specs.vega.Vega.{vega_value, IsVegaSized}
 abbrev pub class_vega_of : Params → List Sensitivity → RiskClass → ℤ
 class_vega_of p ss class.IR = rate_vega p ss
 class_vega_of p ss class.CreditQ = credit_vega p.credit_q Qualifying ss
-class_vega_of p ss class.CreditNonQ = credit_vega p.credit_nq Non_qualifying ss
+class_vega_of p ss class.CreditNonQ = credit_vega p.credit_nq NonQualifying ss
 class_vega_of p ss class.Equity = price_vega p.equity Equities ss
 class_vega_of p ss class.Commodity = price_vega p.commodity Commodities ss
 class_vega_of p ss class.FX = fx_vega p ss
@@ -36,8 +37,8 @@ class_vega_of p ss class.FX = fx_vega p ss
 abbrev pub volatility_side : ClassAt → SideAt
 volatility_side at = record { product = at.product; class = at.class; side = side.Volatility }
 
--- where the factors of a bucket stand
-abbrev pub volatility_place : BucketAt → Place
+-- what the factors of a bucket are sorted by
+abbrev pub volatility_place : BucketAt → Address
 volatility_place at = record { product = at.product; class = at.class; side = side.Volatility; bucket = at.bucket }
 
 -- ---- the buckets of a class that have a volatility among these, in order, each with its value

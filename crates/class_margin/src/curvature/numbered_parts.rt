@@ -1,11 +1,15 @@
-//! The classes of which the file lists buckets: one part over the numbered buckets, and one of the residual bucket.
-ghost use Rattle.std.specs.Prelude.{◌≡◌, ◌+◌, ◌*◌, IfOk, pos, ◌≤ℤ◌, ◌+ℤ◌};
+//! The classes of which the file lists buckets: one part over the numbered buckets, and one of the
+//! residual bucket.
+ghost use Rattle.std.specs.Prelude.{◌≡◌, ◌+◌, ◌*◌, IfOk, pos, ◌≤ℤ◌};
 ghost use Rattle.std.specs.List.{AllByRecursion};
 ghost use Rattle.class_rates.specs.SimmRules.Across.{residual as residual_of};
 ghost use Rattle.class_rates.specs.SimmRules.Curvature.{curvature_over};
 ghost use Rattle.class_rates.specs.SimmKinds.Factors.{listed_id};
-ghost use Rattle.class_margin.specs.names_delta.Combine.{listed_in, gamma_in, parts_in, margins_of, IsListed};
-ghost use Rattle.class_margin.specs.curvature.Numbered.{is_residual_id, numbered_part, residual_part, numbered_bound, residual_bound};
+ghost use Rattle.class_margin.specs.names_delta.Combine.{listed_in, gamma_in, parts_in};
+ghost use Rattle.class_margin.specs.names_delta.Combine.{margins_of, IsListed};
+ghost use Rattle.class_margin.specs.curvature.Numbered.{is_residual_id, numbered_part};
+ghost use Rattle.class_margin.specs.curvature.Numbered.{residual_part, numbered_bound};
+ghost use Rattle.class_margin.specs.curvature.Numbered.{residual_bound};
 ghost use Rattle.class_margin.specs.curvature.Combine.{margins_size, gross_size, AreSized};
 
 use crate::curvature::part::{margin_over, part_over};
@@ -18,18 +22,22 @@ use class_rates::simm_params::Params;
 use class_rates::simm_rules::BucketMargin;
 use std::alloc::{AllocError, Global};
 
-/// The margin of such a class, in cents, over the values of its buckets. Want of memory is the only error.
+/// The margin of such a class, in cents, over the values of its buckets. Want of memory is the
+/// only error.
 pub fn over_numbered(
     alloc: Global,
     params: &Params,
     class: ListedClass,
     parts: &[(BucketId, BucketMargin)],
 ) -> Result<Cents, AllocError>
-    requires listed { AllByRecursion (λ part. IsListed (listed_in params.now class) (listed_id part.0)) parts.now }
+    requires listed { AllByRecursion
+        (λ part. IsListed (listed_in params.now class) (listed_id part.0)) parts.now }
     requires sized { AreSized parts.now }
-    ensures value { IfOk result (λ m. m.0 ≡ curvature_over params.now.lambda_base (listed_in params.now class) (gamma_in params.now class) (parts_in parts.now)) }
+    ensures value { IfOk result (λ m. m.0 ≡ curvature_over params.now.lambda_base
+        (listed_in params.now class) (gamma_in params.now class) (parts_in parts.now)) }
     ensures low { IfOk result (λ m. pos 0 ≤ℤ m.0) }
-    ensures size { IfOk result (λ m. m.0 ≤ℤ pos (25 * (gross_size parts.now + 10 * margins_size parts.now))) }
+    ensures size { IfOk result (λ m.
+        m.0 ≤ℤ pos (25 * (gross_size parts.now + 10 * margins_size parts.now))) }
 {
     let numbered = numbered_part(alloc, params, class, parts)?;
     let residual = residual_part(alloc, params, parts)?;
@@ -43,7 +51,8 @@ fn numbered_part(
     class: ListedClass,
     parts: &[(BucketId, BucketMargin)],
 ) -> Result<i128, AllocError>
-    requires listed { AllByRecursion (λ part. IsListed (listed_in params.now class) (listed_id part.0)) parts.now }
+    requires listed { AllByRecursion
+        (λ part. IsListed (listed_in params.now class) (listed_id part.0)) parts.now }
     requires sized { AreSized parts.now }
     ensures value { IfOk result (λ m. m ≡ numbered_part params.now class parts.now) }
     ensures low { IfOk result (λ m. pos 0 ≤ℤ m) }

@@ -1,5 +1,7 @@
-//! A part of the margin: the sum of the risks of its buckets, and lambda times the margin over them.
-ghost use Rattle.std.specs.Prelude.{◌≡◌, ◌+◌, ◌*◌, ◌^◌, ◌<◌, ◌≤◌, All, sum_by, pos, ◌≤ℤ◌, ◌<ℤ◌, ◌*ℤ◌, unsigned_abs};
+//! A part of the margin: the sum of the risks of its buckets, and lambda times the margin
+//! over them.
+ghost use Rattle.std.specs.Prelude.{◌≡◌, ◌+◌, ◌*◌, ◌^◌, ◌<◌, ◌≤◌, All};
+ghost use Rattle.std.specs.Prelude.{sum_by, pos, ◌≤ℤ◌, ◌<ℤ◌, ◌*ℤ◌, unsigned_abs};
 ghost use Rattle.class_rates.specs.MhUnits.Rounding.{up};
 ghost use Rattle.class_rates.specs.SimmRules.Concentration.{one};
 ghost use Rattle.class_rates.specs.SimmRules.Curvature.{lambda};
@@ -9,8 +11,9 @@ ghost use Rattle.class_margin.specs.curvature.Part.{sum_over, gross_over, margin
 use class_rates::mh_units::{Corr6, div_up};
 use class_rates::simm_rules::BucketMargin;
 
-/// A part of the margin in cents, over the values of its buckets, where `root` is the margin over them: the sum of all risks and
-/// lambda times the root, and at least 0; 0 where all risks are 0. `base` is that of lambda.
+/// A part of the margin in cents, over the values of its buckets, where `root` is the margin over
+/// them: the sum of all risks and lambda times the root, and at least 0; 0 where all risks are 0.
+/// `base` is that of lambda.
 pub fn part_over(base: Corr6, values: &[BucketMargin], root: i128) -> i128
     requires base { IsWithin lambda_bases base.0 }
     requires summed { All (λ b. pos (unsigned_abs b.sum) ≤ℤ b.gross) values.now }
@@ -19,7 +22,8 @@ pub fn part_over(base: Corr6, values: &[BucketMargin], root: i128) -> i128
     requires root_high { root <ℤ pos (84 * 10 ^ 14) }
     ensures value { result ≡ part_over base.0 values.now root }
     ensures low { pos 0 ≤ℤ result }
-    ensures size { result ≤ℤ pos (sum_by (λ b. unsigned_abs b.gross) values.now + 10 * unsigned_abs root) }
+    ensures size { result
+        ≤ℤ pos (sum_by (λ b. unsigned_abs b.gross) values.now + 10 * unsigned_abs root) }
 {
     let sum = sum_over(values);
     let gross = gross_over(values);
@@ -67,7 +71,8 @@ fn gross_over(values: &[BucketMargin]) -> i128
     gross
 }
 
-// Lambda in millionths, upwards: theta, the shortfall over the gross size, is not rounded by itself.
+// Lambda in millionths, upwards: theta, the shortfall over the gross size, is not rounded
+// by itself.
 fn lambda(base: Corr6, sum: i128, gross: i128) -> i128
     requires base { IsWithin lambda_bases base.0 }
     requires some { pos 0 <ℤ gross }

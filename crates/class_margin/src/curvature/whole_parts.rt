@@ -1,10 +1,11 @@
-//! Classes whose margin is one part over all buckets: interest rates, with a bucket for each currency, and foreign exchange, with
-//! one in all.
+//! Classes whose margin is one part over all buckets: interest rates, with a bucket for each
+//! currency, and foreign exchange, with one in all.
 ghost use Rattle.std.specs.Prelude.{◌≡◌, ◌+◌, ◌*◌, ◌^◌, ◌≤◌, IfOk, pos, ◌≤ℤ◌, unsigned_abs};
 ghost use Rattle.std.specs.List.{AllByRecursion};
 ghost use Rattle.class_rates.specs.SimmParams.Ranges.{ir_hvrs, IsWithin};
 ghost use Rattle.class_margin.specs.rates_delta.Parts.{IsCurrency};
-ghost use Rattle.class_margin.specs.curvature.Combine.{over_currencies, over_ratio, over_single, margins_size, gross_size, AreSized};
+ghost use Rattle.class_margin.specs.curvature.Combine.{over_currencies, over_ratio, over_single};
+ghost use Rattle.class_margin.specs.curvature.Combine.{margins_size, gross_size, AreSized};
 
 use crate::curvature::part::{margin_over, part_over};
 use crate::rates_delta::values_of;
@@ -16,7 +17,8 @@ use class_rates::simm_params::Params;
 use class_rates::simm_rules::BucketMargin;
 use std::alloc::{AllocError, Global};
 
-/// The margin of interest rates, in cents, over the buckets of currencies. Want of memory is the only error.
+/// The margin of interest rates, in cents, over the buckets of currencies. Want of memory is the
+/// only error.
 pub fn over_currencies(
     alloc: Global,
     params: &Params,
@@ -24,15 +26,18 @@ pub fn over_currencies(
 ) -> Result<Cents, AllocError>
     requires currencies { AllByRecursion (λ part. IsCurrency part.0) parts.now }
     requires sized { AreSized parts.now }
-    ensures value { IfOk result (λ m. m.0 ≡ over_ratio (over_currencies params.now parts.now) params.now.ir.hvr) }
+    ensures value { IfOk result (λ m.
+        m.0 ≡ over_ratio (over_currencies params.now parts.now) params.now.ir.hvr) }
     ensures low { IfOk result (λ m. pos 0 ≤ℤ m.0) }
-    ensures size { IfOk result (λ m. m.0 ≤ℤ pos (25 * (gross_size parts.now + 10 * margins_size parts.now))) }
+    ensures size { IfOk result (λ m.
+        m.0 ≤ℤ pos (25 * (gross_size parts.now + 10 * margins_size parts.now))) }
 {
     let margin = currency_part(alloc, params, parts)?;
     Ok(Cents(over_ratio(margin, params.rate_hvr())))
 }
 
-// The part over all currencies, before it is divided by the square of the historical volatility ratio.
+// The part over all currencies, before it is divided by the square of the historical
+// volatility ratio.
 fn currency_part(
     alloc: Global,
     params: &Params,
@@ -42,7 +47,8 @@ fn currency_part(
     requires sized { AreSized parts.now }
     ensures value { IfOk result (λ m. m ≡ over_currencies params.now parts.now) }
     ensures low { IfOk result (λ m. pos 0 ≤ℤ m) }
-    ensures size { IfOk result (λ m. m ≤ℤ pos (gross_size parts.now + 10 * margins_size parts.now)) }
+    ensures size { IfOk result (λ m.
+        m ≤ℤ pos (gross_size parts.now + 10 * margins_size parts.now)) }
 {
     let values = values_of(alloc, parts)?;
     let between = params.rate_gamma().in_millionths();
@@ -67,7 +73,8 @@ fn over_ratio(margin: i128, hvr: Rate4) -> i128
     div_up(margin * 100_000_000, ratio * ratio)
 }
 
-/// The margin of foreign exchange, in cents, whose one bucket is its own root. Want of memory is the only error.
+/// The margin of foreign exchange, in cents, whose one bucket is its own root. Want of memory is
+/// the only error.
 pub fn over_single(
     alloc: Global,
     params: &Params,
@@ -76,7 +83,8 @@ pub fn over_single(
     requires { AreSized parts.now }
     ensures value { IfOk result (λ m. m.0 ≡ over_single params.now parts.now) }
     ensures low { IfOk result (λ m. pos 0 ≤ℤ m.0) }
-    ensures size { IfOk result (λ m. m.0 ≤ℤ pos (25 * (gross_size parts.now + 10 * margins_size parts.now))) }
+    ensures size { IfOk result (λ m.
+        m.0 ≤ℤ pos (25 * (gross_size parts.now + 10 * margins_size parts.now))) }
 {
     let values = values_of(alloc, parts)?;
     let root = margin_over(values.as_slice());

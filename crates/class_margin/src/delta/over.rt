@@ -11,20 +11,22 @@ ghost use Rattle.class_margin.specs.delta.Buckets.{is_single};
 ghost use Rattle.class_margin.specs.delta.Class.{class_delta_of};
 ghost use Rattle.class_margin.specs.delta.Delta.{AreDeltaParts, AreBookDeltas};
 
+use crate::class_at::ClassAt;
 use crate::delta::buckets::is_single;
 use crate::delta::single::currencies_from;
 use crate::listed::ListedClass;
 use crate::rates_delta::{currencies_make_delta, rates_stand_by_currency};
-use class_rates::factor_book::{ClassAt, factors_are_netted};
+use class_rates::factor_book::factors_are_netted;
 use class_rates::mh_units::Cents;
 use class_rates::simm_kinds::{BucketId, RiskClass};
-use class_rates::simm_params::{CreditKind, Params, PricedKind};
-use class_rates::simm_rules::BucketMargin;
+use class_rates::simm_params::Params;
+use class_rates::simm_rules::{BucketMargin, CreditClass, PricedClass};
 use std::alloc::{AllocError, Global};
 
-/// The delta margin of a risk class in a product class, in cents, over the values of its buckets on the side of delta: those of
-/// all buckets that have a factor among those of a book in range, in order. That of base correlation stands with them and adds
-/// nothing here. Want of memory is the only error.
+/// The delta margin of a risk class in a product class, in cents, over the values of its buckets
+/// on the side of delta: those of all buckets that have a factor among those of a book in range,
+/// in order. That of base correlation stands with them and adds nothing here. Want of memory is
+/// the only error.
 pub fn delta_from(
     alloc: Global,
     params: &Params,
@@ -32,8 +34,9 @@ pub fn delta_from(
     parts: &[(BucketId, BucketMargin)],
 ) -> Result<Cents, AllocError>
     requires { AreBookDeltas params.now at parts.now }
-    ensures value { (factors : List (FactorKey × Holding)) → IsMarginable params.now factors → AreDeltaParts params.now at factors parts.now
-        → IfOk result (λ m. m.0 ≡ class_delta_of params.now (nets_in at.product factors) at.class) }
+    ensures value { (factors : List (FactorKey × Holding)) → IsMarginable params.now factors
+        → AreDeltaParts params.now at factors parts.now → IfOk result (λ m.
+        m.0 ≡ class_delta_of params.now (nets_in at.product factors) at.class) }
     ensures low { IfOk result (λ m. pos 0 ≤ℤ m.0) }
     ensures size { IfOk result (λ m. m.0 ≤ℤ pos (84 * 10 ^ 14)) }
 {
@@ -43,28 +46,28 @@ pub fn delta_from(
             alloc,
             params,
             at,
-            ListedClass::Credit(CreditKind::Qualifying),
+            ListedClass::Credit(CreditClass::Qualifying),
             parts,
         ),
         RiskClass::CreditNonQ => over_listed(
             alloc,
             params,
             at,
-            ListedClass::Credit(CreditKind::NonQualifying),
+            ListedClass::Credit(CreditClass::NonQualifying),
             parts,
         ),
         RiskClass::Equity => over_listed(
             alloc,
             params,
             at,
-            ListedClass::Priced(PricedKind::Equities),
+            ListedClass::Priced(PricedClass::Equities),
             parts,
         ),
         RiskClass::Commodity => over_listed(
             alloc,
             params,
             at,
-            ListedClass::Priced(PricedKind::Commodities),
+            ListedClass::Priced(PricedClass::Commodities),
             parts,
         ),
         RiskClass::FX => Ok(currencies_from(params, at, parts)),
@@ -80,8 +83,9 @@ fn over_currencies(
 ) -> Result<Cents, AllocError>
     requires class { at.class ≡ class.IR }
     requires parts { AreBookDeltas params.now at parts.now }
-    ensures value { (factors : List (FactorKey × Holding)) → IsMarginable params.now factors → AreDeltaParts params.now at factors parts.now
-        → IfOk result (λ m. m.0 ≡ class_delta_of params.now (nets_in at.product factors) at.class) }
+    ensures value { (factors : List (FactorKey × Holding)) → IsMarginable params.now factors
+        → AreDeltaParts params.now at factors parts.now → IfOk result (λ m.
+        m.0 ≡ class_delta_of params.now (nets_in at.product factors) at.class) }
     ensures low { IfOk result (λ m. pos 0 ≤ℤ m.0) }
     ensures size { IfOk result (λ m. m.0 ≤ℤ pos (84 * 10 ^ 14)) }
 {
@@ -102,8 +106,9 @@ fn over_listed(
 ) -> Result<Cents, AllocError>
     requires class { listed_class at.class ≡ Some class }
     requires parts { AreBookDeltas params.now at parts.now }
-    ensures value { (factors : List (FactorKey × Holding)) → IsMarginable params.now factors → AreDeltaParts params.now at factors parts.now
-        → IfOk result (λ m. m.0 ≡ class_delta_of params.now (nets_in at.product factors) at.class) }
+    ensures value { (factors : List (FactorKey × Holding)) → IsMarginable params.now factors
+        → AreDeltaParts params.now at factors parts.now → IfOk result (λ m.
+        m.0 ≡ class_delta_of params.now (nets_in at.product factors) at.class) }
     ensures low { IfOk result (λ m. pos 0 ≤ℤ m.0) }
     ensures size { IfOk result (λ m. m.0 ≤ℤ pos (4 * 10 ^ 15)) }
 {
@@ -118,7 +123,8 @@ fn listed_parts(
     alloc: Global,
     parts: &[(BucketId, BucketMargin)],
 ) -> Result<Vec<(BucketId, BucketMargin)>, AllocError>
-    ensures { IfOk result (λ listed. listed.items ≡ filter (λ part. not (is_single part.0)) parts.now) }
+    ensures { IfOk result (λ listed.
+        listed.items ≡ filter (λ part. not (is_single part.0)) parts.now) }
 {
     parts
         .iter()

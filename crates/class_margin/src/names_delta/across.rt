@@ -1,7 +1,8 @@
 ghost use Rattle.std.specs.Prelude.{◌≡◌, ◌<◌, ◌*◌, ◌^◌, IfOk, sum_by, pos, ◌≤ℤ◌, unsigned_abs};
 ghost use Rattle.std.specs.List.{AllByRecursion};
 ghost use Rattle.class_rates.specs.SimmKinds.Factors.{listed_id};
-ghost use Rattle.class_margin.specs.names_delta.Combine.{listed_in, parts_in, part_in, residual_k, named_margin, IsListed, AreSized};
+ghost use Rattle.class_margin.specs.names_delta.Combine.{listed_in, parts_in, part_in, residual_k};
+ghost use Rattle.class_margin.specs.names_delta.Combine.{named_margin, IsListed, AreSized};
 
 use crate::listed::{ListedClass, number_parts};
 use crate::table::{Gamma, GammaTable, Scaling};
@@ -12,20 +13,23 @@ use class_rates::simm_params::Params;
 use class_rates::simm_rules::BucketMargin;
 use std::alloc::{AllocError, Global};
 
-/// The delta or the vega margin of a class of which the file lists buckets, over the values of its buckets, in cents: the numbered
-/// buckets' under one root, and the residual one's beside it. The parts are of different buckets that the file lists, in order; a
-/// bucket without sensitivities may be left out. Want of memory is the only error.
+/// The delta or the vega margin of a class of which the file lists buckets, over the values of its
+/// buckets, in cents: the numbered buckets' under one root, and the residual one's beside it. The
+/// parts are of different buckets that the file lists, in order; a bucket without sensitivities
+/// may be left out. Want of memory is the only error.
 pub fn combine(
     alloc: Global,
     params: &Params,
     class: ListedClass,
     parts: &[(BucketId, BucketMargin)],
 ) -> Result<Cents, AllocError>
-    requires listed { AllByRecursion (λ part. IsListed (listed_in params.now class) (listed_id part.0)) parts.now }
+    requires listed { AllByRecursion
+        (λ part. IsListed (listed_in params.now class) (listed_id part.0)) parts.now }
     requires sized { AreSized parts.now }
     ensures value { IfOk result (λ m. m.0 ≡ named_margin params.now class parts.now) }
     ensures low { IfOk result (λ m. pos 0 ≤ℤ m.0) }
-    ensures size { IfOk result (λ m. m.0 ≤ℤ pos (sum_by (λ part. unsigned_abs (part.1).k) parts.now)) }
+    ensures size { IfOk result (λ m.
+        m.0 ≤ℤ pos (sum_by (λ part. unsigned_abs (part.1).k) parts.now)) }
 {
     class.facts(params);
     let numbered = number_parts(alloc, params, class, parts)?;

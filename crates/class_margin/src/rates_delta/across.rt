@@ -11,8 +11,9 @@ use class_rates::simm_params::Params;
 use class_rates::simm_rules::BucketMargin;
 use std::alloc::{AllocError, Global};
 
-/// The delta or the vega margin of interest rates of a product class, in cents: the root over the buckets of its currencies, of which each
-/// stands once, in order. No buckets come to 0. Want of memory is the only error.
+/// The delta or the vega margin of interest rates of a product class, in cents: the root over the
+/// buckets of its currencies, of which each stands once, in order. No buckets come to 0. Want of
+/// memory is the only error.
 pub fn combine(
     alloc: Global,
     params: &Params,

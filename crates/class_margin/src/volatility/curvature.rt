@@ -1,4 +1,5 @@
-//! The curvature margin of a class over the values of its buckets, and that of the negated book over the same values.
+//! The curvature margin of a class over the values of its buckets, and that of the negated book
+//! over the same values.
 ghost use Rattle.std.specs.Prelude.{◌≡◌, ◌*◌, ◌^◌, List, IfOk, pos, ◌≤ℤ◌};
 ghost use Rattle.class_rates.specs.SimmKinds.declared.key.FactorKey.{FactorKey};
 ghost use Rattle.class_rates.specs.FactorBook.declared.holding.Holding.{Holding};
@@ -6,19 +7,22 @@ ghost use Rattle.std.specs.List.{AllByRecursion};
 ghost use Rattle.negated_book.specs.Negated.{negated_value, negated_factors};
 ghost use Rattle.book_range.specs.Bounded.{IsMarginable};
 ghost use Rattle.class_margin.specs.names_delta.Values.{nets_in};
-ghost use Rattle.class_margin.specs.volatility.Curvature.{class_curvature_of, AreCurvatureParts, AreBookCurvatures};
+ghost use Rattle.class_margin.specs.volatility.Curvature.{class_curvature_of};
+ghost use Rattle.class_margin.specs.volatility.Curvature.{AreCurvatureParts, AreBookCurvatures};
 ghost use Rattle.class_margin.specs.volatility.Curvature.{negated_buckets, CanBeNegated};
 
+use crate::class_at::ClassAt;
 use crate::curvature::combine;
-use class_rates::factor_book::{ClassAt, factors_are_netted};
+use class_rates::factor_book::factors_are_netted;
 use class_rates::mh_units::Cents;
 use class_rates::simm_kinds::BucketId;
 use class_rates::simm_params::Params;
 use class_rates::simm_rules::BucketMargin;
 use std::alloc::{AllocError, Global};
 
-/// The curvature margin of a risk class in a product class, in cents, over the values of its buckets: those of all buckets that
-/// have a volatility among the factors of a book in range, in order. Want of memory is the only error.
+/// The curvature margin of a risk class in a product class, in cents, over the values of its
+/// buckets: those of all buckets that have a volatility among the factors of a book in range, in
+/// order. Want of memory is the only error.
 pub fn curvature_from(
     alloc: Global,
     params: &Params,
@@ -26,8 +30,9 @@ pub fn curvature_from(
     parts: &[(BucketId, BucketMargin)],
 ) -> Result<Cents, AllocError>
     requires { AreBookCurvatures params.now at parts.now }
-    ensures value { (factors : List (FactorKey × Holding)) → IsMarginable params.now factors → AreCurvatureParts params.now at factors parts.now
-        → IfOk result (λ m. m.0 ≡ class_curvature_of params.now (nets_in at.product factors) at.class) }
+    ensures value { (factors : List (FactorKey × Holding)) → IsMarginable params.now factors
+        → AreCurvatureParts params.now at factors parts.now → IfOk result (λ m.
+        m.0 ≡ class_curvature_of params.now (nets_in at.product factors) at.class) }
     ensures low { IfOk result (λ m. pos 0 ≤ℤ m.0) }
     ensures size { IfOk result (λ m. m.0 ≤ℤ pos (14 * 10 ^ 14)) }
 {
@@ -36,8 +41,9 @@ pub fn curvature_from(
     combine(alloc, params, at, parts)
 }
 
-/// The curvature margin of a risk class in a product class of a book with all sensitivities negated, in cents, over the values of the
-/// buckets of the book itself, as `curvature_from` takes them. Want of memory is the only error.
+/// The curvature margin of a risk class in a product class of a book with all sensitivities
+/// negated, in cents, over the values of the buckets of the book itself, as `curvature_from` takes
+/// them. Want of memory is the only error.
 pub fn curvature_post(
     alloc: Global,
     params: &Params,
@@ -45,8 +51,9 @@ pub fn curvature_post(
     parts: &[(BucketId, BucketMargin)],
 ) -> Result<Cents, AllocError>
     requires { AreBookCurvatures params.now at parts.now }
-    ensures value { (factors : List (FactorKey × Holding)) → IsMarginable params.now factors → AreCurvatureParts params.now at factors parts.now
-        → IfOk result (λ m. m.0 ≡ class_curvature_of params.now (nets_in at.product (negated_factors factors)) at.class) }
+    ensures value { (factors : List (FactorKey × Holding)) → IsMarginable params.now factors
+        → AreCurvatureParts params.now at factors parts.now → IfOk result (λ m. m.0
+        ≡ class_curvature_of params.now (nets_in at.product (negated_factors factors)) at.class) }
     ensures low { IfOk result (λ m. pos 0 ≤ℤ m.0) }
     ensures size { IfOk result (λ m. m.0 ≤ℤ pos (14 * 10 ^ 14)) }
 {

@@ -8,18 +8,20 @@ ghost use Rattle.class_margin.specs.names_delta.Combine.{listed_class};
 ghost use Rattle.class_margin.specs.names_delta.Values.{nets_in};
 ghost use Rattle.class_margin.specs.volatility.Vega.{class_vega_of, AreVegaParts, AreBookVegas};
 
+use crate::class_at::ClassAt;
 use crate::delta::single_margin;
 use crate::listed::ListedClass;
 use crate::vega::{currencies_make_vega, volatilities_stand_by_currency};
-use class_rates::factor_book::{ClassAt, factors_are_netted};
+use class_rates::factor_book::factors_are_netted;
 use class_rates::mh_units::Cents;
 use class_rates::simm_kinds::{BucketId, RiskClass};
-use class_rates::simm_params::{CreditKind, Params, PricedKind};
-use class_rates::simm_rules::BucketMargin;
+use class_rates::simm_params::Params;
+use class_rates::simm_rules::{BucketMargin, CreditClass, PricedClass};
 use std::alloc::{AllocError, Global};
 
-/// The vega margin of a risk class in a product class, in cents, over the values of its buckets: those of all buckets that have a
-/// volatility among the factors of a book in range, in order. Want of memory is the only error.
+/// The vega margin of a risk class in a product class, in cents, over the values of its buckets:
+/// those of all buckets that have a volatility among the factors of a book in range, in order.
+/// Want of memory is the only error.
 pub fn vega_from(
     alloc: Global,
     params: &Params,
@@ -27,7 +29,8 @@ pub fn vega_from(
     parts: &[(BucketId, BucketMargin)],
 ) -> Result<Cents, AllocError>
     requires { AreBookVegas params.now at parts.now }
-    ensures value { (factors : List (FactorKey × Holding)) → IsMarginable params.now factors → AreVegaParts params.now at factors parts.now
+    ensures value { (factors : List (FactorKey × Holding)) → IsMarginable params.now factors
+        → AreVegaParts params.now at factors parts.now
         → IfOk result (λ m. m.0 ≡ class_vega_of params.now (nets_in at.product factors) at.class) }
     ensures low { IfOk result (λ m. pos 0 ≤ℤ m.0) }
     ensures size { IfOk result (λ m. m.0 ≤ℤ pos (84 * 10 ^ 14)) }
@@ -38,28 +41,28 @@ pub fn vega_from(
             alloc,
             params,
             at,
-            ListedClass::Credit(CreditKind::Qualifying),
+            ListedClass::Credit(CreditClass::Qualifying),
             parts,
         ),
         RiskClass::CreditNonQ => over_listed(
             alloc,
             params,
             at,
-            ListedClass::Credit(CreditKind::NonQualifying),
+            ListedClass::Credit(CreditClass::NonQualifying),
             parts,
         ),
         RiskClass::Equity => over_listed(
             alloc,
             params,
             at,
-            ListedClass::Priced(PricedKind::Equities),
+            ListedClass::Priced(PricedClass::Equities),
             parts,
         ),
         RiskClass::Commodity => over_listed(
             alloc,
             params,
             at,
-            ListedClass::Priced(PricedKind::Commodities),
+            ListedClass::Priced(PricedClass::Commodities),
             parts,
         ),
         RiskClass::FX => Ok(pairs_from(params, at, parts)),
@@ -75,7 +78,8 @@ fn over_currencies(
 ) -> Result<Cents, AllocError>
     requires class { at.class ≡ class.IR }
     requires parts { AreBookVegas params.now at parts.now }
-    ensures value { (factors : List (FactorKey × Holding)) → IsMarginable params.now factors → AreVegaParts params.now at factors parts.now
+    ensures value { (factors : List (FactorKey × Holding)) → IsMarginable params.now factors
+        → AreVegaParts params.now at factors parts.now
         → IfOk result (λ m. m.0 ≡ class_vega_of params.now (nets_in at.product factors) at.class) }
     ensures low { IfOk result (λ m. pos 0 ≤ℤ m.0) }
     ensures size { IfOk result (λ m. m.0 ≤ℤ pos (84 * 10 ^ 14)) }
@@ -97,7 +101,8 @@ fn over_listed(
 ) -> Result<Cents, AllocError>
     requires class { listed_class at.class ≡ Some class }
     requires parts { AreBookVegas params.now at parts.now }
-    ensures value { (factors : List (FactorKey × Holding)) → IsMarginable params.now factors → AreVegaParts params.now at factors parts.now
+    ensures value { (factors : List (FactorKey × Holding)) → IsMarginable params.now factors
+        → AreVegaParts params.now at factors parts.now
         → IfOk result (λ m. m.0 ≡ class_vega_of params.now (nets_in at.product factors) at.class) }
     ensures low { IfOk result (λ m. pos 0 ≤ℤ m.0) }
     ensures size { IfOk result (λ m. m.0 ≤ℤ pos (84 * 10 ^ 14)) }
@@ -111,7 +116,8 @@ fn over_listed(
 fn pairs_from(params: &Params, at: ClassAt, parts: &[(BucketId, BucketMargin)]) -> Cents
     requires class { at.class ≡ class.FX }
     requires parts { AreBookVegas params.now at parts.now }
-    ensures value { (factors : List (FactorKey × Holding)) → IsMarginable params.now factors → AreVegaParts params.now at factors parts.now
+    ensures value { (factors : List (FactorKey × Holding)) → IsMarginable params.now factors
+        → AreVegaParts params.now at factors parts.now
         → result.0 ≡ class_vega_of params.now (nets_in at.product factors) at.class }
     ensures low { pos 0 ≤ℤ result.0 }
     ensures size { result.0 ≤ℤ pos (84 * 10 ^ 14) }

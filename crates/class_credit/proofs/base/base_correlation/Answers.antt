@@ -27,4 +27,4 @@ returns-clause-near g c =
 pub returns-clause-steps : goal.returns-clause-steps
 returns-clause-steps g c =
     let there = ap indices_view c.as_slice.ensures.value ∙ c.in_ok-indices.ensures in
-    counted (weighted_index c.args.params.now) c.args.steps.now c.measure.new.steps (indices_view c.as_slice.result.now) (index_nets c.args.lent.now) there c.measure.ensures.steps
+    counted (weighted_index c.args.params.now) c.args.steps.now c.measure.new.steps (indices_view c.as_slice.result.now) (index_nets c.args.lent.now.factors) there c.measure.ensures.steps

@@ -27,4 +27,4 @@ pub returns-clause-steps : goal.returns-clause-steps
 returns-clause-steps g c =
     let there = ap points_view c.as_slice.ensures.value ∙ c.in_ok-points.ensures in
     let terms = c.args.listed.bucket.terms in
-    counted (weighted_point terms.weight.0 terms.thresholds.delta (points_view c.as_slice.result.now)) c.args.steps.now c.measure.new.steps (points_view c.as_slice.result.now) (point_nets c.args.lent.now) there c.measure.ensures.steps
+    counted (weighted_point terms.weight.0 terms.thresholds.delta (points_view c.as_slice.result.now)) c.args.steps.now c.measure.new.steps (points_view c.as_slice.result.now) (point_nets c.args.lent.now.factors) there c.measure.ensures.steps

@@ -6,20 +6,20 @@ use Rattle.class_exchange.proofs.currencies.risky_currencies.Goals as goal
 pub returns-clause-nets : goal.returns-clause-nets
 returns-clause-nets c =
     let p = c.args.params.now in
-    let amounts = risky_nets p c.args.lent.now in
+    let amounts = risky_nets p c.args.lent.now.factors in
     let made : c.loop-key.nets.items ≡ map (currency_net p) amounts = search rules in
-    views p c.args.lent.now c.loop-key.nets.items made
+    views p c.args.lent.now.factors c.loop-key.nets.items made
 
 pub returns-clause-risky : goal.returns-clause-risky
 returns-clause-risky c =
     let p = c.args.params.now in
-    let amounts = risky_nets p c.args.lent.now in
+    let amounts = risky_nets p c.args.lent.now.factors in
     let made : c.loop-key.nets.items ≡ map (currency_net p) amounts = search rules in
-    all_risky p c.args.lent.now c.loop-key.nets.items made
+    all_risky p c.args.lent.now.factors c.loop-key.nets.items made
 
 pub returns-clause-ready : goal.returns-clause-ready
 returns-clause-ready c =
     let p = c.args.params.now in
-    let amounts = risky_nets p c.args.lent.now in
+    let amounts = risky_nets p c.args.lent.now.factors in
     let made : c.loop-key.nets.items ≡ map (currency_net p) amounts = search rules in
-    are_currencies p c.args.lent.now c.loop-key.nets.items made
+    are_currencies p c.args.lent.now.factors c.loop-key.nets.items made

@@ -32,12 +32,12 @@ pub returns-clause-value : goal.returns-clause-value
 returns-clause-value g c =
     let p = c.args.params.now in
     let there = ap pair_sums c.as_slice.ensures.value ∙ c.in_ok-pairs.ensures.sums in
-    subst (λ fs. IfOk c.measure.result (λ (m : BucketMargin). m ≡ bucket_value (squared same_pair (pair_rho p)) one fs)) (ap (map (curved_sum p)) there ∙ curvature_is (pair_nets c.args.lent.now) p) c.measure.ensures.value
+    subst (λ fs. IfOk c.measure.result (λ (m : BucketMargin). m ≡ bucket_value (squared same_pair (pair_rho p)) one fs)) (ap (map (curved_sum p)) there ∙ curvature_is (pair_nets c.args.lent.now.factors) p) c.measure.ensures.value
 
 pub returns-clause-near : goal.returns-clause-near
 returns-clause-near g c =
     let p = c.args.params.now in
-    let amounts = pair_nets c.args.lent.now in
+    let amounts = pair_nets c.args.lent.now.factors in
     let there = ap pair_sums c.as_slice.ensures.value ∙ c.in_ok-pairs.ensures.sums in
     IfOk-weaker c.measure.result (λ (m : BucketMargin). IsNear 219000000 1 1 (fx_sigma p) (pair_totals scale.Curved amounts) (unsigned_abs m.gross))
     (λ m. IsNear 20000 1 1 (λ (v : PairVolatility). fx_sigma p v.pair) amounts (unsigned_abs m.gross))
@@ -47,4 +47,4 @@ returns-clause-near g c =
 pub returns-clause-steps : goal.returns-clause-steps
 returns-clause-steps g c =
     let there = ap pair_sums c.as_slice.ensures.value ∙ c.in_ok-pairs.ensures.sums in
-    pairs_counted (pair_nets c.args.lent.now) (curved_sum c.args.params.now) scale.Curved c.args.steps.now c.measure.new.steps (pair_sums c.as_slice.result.now) there c.measure.ensures.steps
+    pairs_counted (pair_nets c.args.lent.now.factors) (curved_sum c.args.params.now) scale.Curved c.args.steps.now c.measure.new.steps (pair_sums c.as_slice.result.now) there c.measure.ensures.steps

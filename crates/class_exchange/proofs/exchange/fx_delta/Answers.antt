@@ -30,5 +30,5 @@ returns-clause-steps g c =
     let p = c.args.params.now in
     let there = ap currencies_view c.as_slice.ensures.value ∙ c.in_ok-currencies.ensures.nets in
     counted (weighted_currency p) c.args.steps.now c.measure.new.steps
-    (currencies_view c.as_slice.result.now) (risky_nets p c.args.lent.now) there
+    (currencies_view c.as_slice.result.now) (risky_nets p c.args.lent.now.factors) there
     c.measure.ensures.steps

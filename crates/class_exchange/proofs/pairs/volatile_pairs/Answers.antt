@@ -14,13 +14,13 @@ use Rattle.class_exchange.proofs.pairs.volatile_pairs.Goals as goal
 
 pub tenor_sums-requires : goal.tenor_sums-requires
 tenor_sums-requires c =
-    let amounts = pair_nets c.args.lent.now in
+    let amounts = pair_nets c.args.lent.now.factors in
     let are = ap (map tenor_view) c.as_slice.ensures.value ∙ c.in_ok-nets.ensures in
     nets_small c.as_slice.result.now amounts are (2 * 10 ^ 20) c.requires.sizes
 
 pub returns-clause-sums : goal.returns-clause-sums
 returns-clause-sums c =
-    let amounts = pair_nets c.args.lent.now in
+    let amounts = pair_nets c.args.lent.now.factors in
     let s = c.args.scale in
     let nets = c.as_slice.result.now in
     let are = ap (map tenor_view) c.as_slice.ensures.value ∙ c.in_ok-nets.ensures in
@@ -30,7 +30,7 @@ returns-clause-sums c =
 
 pub returns-clause-ready : goal.returns-clause-ready
 returns-clause-ready c p params range =
-    let amounts = pair_nets c.args.lent.now in
+    let amounts = pair_nets c.args.lent.now.factors in
     let s = c.args.scale in
     let totals = are_totals pairs s (fx_sigma p) (sigma_low p params) amounts range.range in
     IfOk-weaker c.tenor_sums.result (λ sums. pair_sums sums.items ≡ pair_totals s amounts)

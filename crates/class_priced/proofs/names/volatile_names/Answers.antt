@@ -13,11 +13,11 @@ use Rattle.class_priced.proofs.names.volatile_names.Goals as goal
 pub tenor_sums-requires : goal.tenor_sums-requires
 tenor_sums-requires c =
     let there = ap (map tenor_view) c.as_slice.ensures.value ∙ c.in_ok-nets.ensures in
-    nets_small c.args.scale c.as_slice.result.now (volatility_nets c.args.lent.now) there (2 * 10 ^ 20) c.requires.sizes
+    nets_small c.args.scale c.as_slice.result.now (volatility_nets c.args.lent.now.factors) there (2 * 10 ^ 20) c.requires.sizes
 
 pub returns-clause-sums : goal.returns-clause-sums
 returns-clause-sums c =
-    let amounts = volatility_nets c.args.lent.now in
+    let amounts = volatility_nets c.args.lent.now.factors in
     let nets = c.as_slice.result.now in
     let there = ap (map tenor_view) c.as_slice.ensures.value ∙ c.in_ok-nets.ensures in
     IfOk-weaker c.tenor_sums.result (λ sums. map sum_view sums.items ≡ summed _ (map (scaled_net c.args.scale) nets)) (λ sums. name_sums sums.items ≡ name_totals c.args.scale amounts)
@@ -26,7 +26,7 @@ returns-clause-sums c =
 pub returns-clause-measured : goal.returns-clause-measured
 returns-clause-measured c =
     let scale = c.args.scale in
-    let amounts = volatility_nets c.args.lent.now in
+    let amounts = volatility_nets c.args.lent.now.factors in
     let nets = c.as_slice.result.now in
     let there = ap (map tenor_view) c.as_slice.ensures.value ∙ c.in_ok-nets.ensures in
     IfOk-weaker c.tenor_sums.result (λ sums. map sum_view sums.items ≡ summed _ (map (scaled_net scale) nets))

@@ -33,7 +33,7 @@ measure-requires g c =
 pub returns-clause-value : goal.returns-clause-value
 returns-clause-value g c =
     let b = priced_bucket_view c.args.listed.bucket in
-    let amounts = volatility_nets c.args.lent.now in
+    let amounts = volatility_nets c.args.lent.now.factors in
     let there = ap name_sums c.as_slice.ensures.value ∙ c.in_ok-names.ensures.sums in
     subst (λ v. IfOk c.measure.result (λ (m : BucketMargin). m ≡ v)) (ap (curvature_of b) there ∙ curvature_is b amounts) c.measure.ensures.value
 
@@ -41,7 +41,7 @@ pub returns-clause-near : goal.returns-clause-near
 returns-clause-near g c =
     let listed = c.args.listed in
     let sigma = λ (x : List ℕ). listed.bucket.sigma.0 in
-    let amounts = volatility_nets c.args.lent.now in
+    let amounts = volatility_nets c.args.lent.now.factors in
     let there = ap name_sums c.as_slice.ensures.value ∙ c.in_ok-names.ensures.sums in
     IfOk-weaker c.measure.result (λ (m : BucketMargin). IsNear 219000000 1 1 sigma (name_totals scale.Curved amounts) (unsigned_abs m.gross)) (λ m. IsNear 20000 1 1 (λ (x : NameVolatility). listed.bucket.sigma.0) amounts (unsigned_abs m.gross))
     (λ m near. totals_near names scale.Curved sigma (λ x. listed.weighed.sigma.low) amounts 20000 1 1 (unsigned_abs m.gross) near)
@@ -50,7 +50,7 @@ returns-clause-near g c =
 pub returns-clause-steps : goal.returns-clause-steps
 returns-clause-steps g c =
     let b = priced_bucket_view c.args.listed.bucket in
-    let amounts = volatility_nets c.args.lent.now in
+    let amounts = volatility_nets c.args.lent.now.factors in
     let there = ap name_sums c.as_slice.ensures.value ∙ c.in_ok-names.ensures.sums in
     let sum_of : List ℕ → Amount (List ℕ) = λ name. record { of = name; amount = name_total scale.Curved amounts name } in
     subst (λ n. c.measure.new.steps ≤ c.args.steps.now + n * n) (length-map (names_of amounts) sum_of)

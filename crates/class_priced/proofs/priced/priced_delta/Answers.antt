@@ -26,4 +26,4 @@ returns-clause-near g c =
 pub returns-clause-steps : goal.returns-clause-steps
 returns-clause-steps g c =
     let there = ap names_view c.as_slice.ensures.value ∙ c.in_ok-names.ensures in
-    counted (delta_name (priced_bucket_view c.args.listed.bucket)) c.args.steps.now c.measure.new.steps (names_view c.as_slice.result.now) (name_nets c.args.lent.now) there c.measure.ensures.steps
+    counted (delta_name (priced_bucket_view c.args.listed.bucket)) c.args.steps.now c.measure.new.steps (names_view c.as_slice.result.now) (name_nets c.args.lent.now.factors) there c.measure.ensures.steps

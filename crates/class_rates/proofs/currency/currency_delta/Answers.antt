@@ -29,4 +29,4 @@ returns-clause-steps g c =
     let currency = c.args.currency.now in
     let read = rates_view currency c.as_slice.result.now in
     let there = ap (rates_view currency) c.as_slice.ensures.value ∙ c.in_ok-rates.ensures currency in
-    counted (weighted_rate c.args.params.now (rate_cr c.args.params.now currency read)) c.args.steps.now c.measure.new.steps read (rates_among currency c.args.lent.now) there c.measure.ensures.steps
+    counted (weighted_rate c.args.params.now (rate_cr c.args.params.now currency read)) c.args.steps.now c.measure.new.steps read (rates_among currency c.args.lent.now.factors) there c.measure.ensures.steps

@@ -30,4 +30,4 @@ returns-clause-steps g c =
     let currency = c.args.currency.now in
     let read = volatilities_view currency c.as_slice.result.now in
     let there = ap (volatilities_view currency) c.as_slice.ensures.value ∙ c.in_ok-volatilities.ensures currency in
-    counted (weighted_rate_volatility c.args.params.now (rate_volatility_cr c.args.params.now currency read)) c.args.steps.now c.measure.new.steps read (volatilities_among currency c.args.lent.now) there c.measure.ensures.steps
+    counted (weighted_rate_volatility c.args.params.now (rate_volatility_cr c.args.params.now currency read)) c.args.steps.now c.measure.new.steps read (volatilities_among currency c.args.lent.now.factors) there c.measure.ensures.steps

@@ -7,6 +7,6 @@ use Rattle.class_rates.proofs.rates.rates_among.Goals as goal
 pub returns : goal.returns
 returns c =
     let nets = c.loop-key.nets.items in
-    let lent = c.args.lent.now in
+    let lent = c.args.lent.now.factors in
     λ currency. read_rates currency lent nets
     (read_whole rate_nets refl c.loop-key.key-iterator (map rule_net nets) (rate_nets lent) c.in-None.ensures.steps.0 c.loop-key.invariant)

@@ -7,6 +7,6 @@ use Rattle.class_rates.proofs.volatilities.volatilities_among.Goals as goal
 pub returns : goal.returns
 returns c =
     let nets = c.loop-key.nets.items in
-    let lent = c.args.lent.now in
+    let lent = c.args.lent.now.factors in
     λ currency. read_volatilities currency lent nets
     (read_whole volatility_nets refl c.loop-key.key-iterator (map rule_net nets) (volatility_nets lent) c.in-None.ensures.steps.0 c.loop-key.invariant)

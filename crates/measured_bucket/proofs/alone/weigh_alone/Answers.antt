@@ -1,4 +1,4 @@
-use Rattle.std.proofs.Common.{◌≡◌, ◌∙◌, ◌*◌, ◌^◌, ◌<◌, ◌≤◌, pos, ◌≤ℤ◌, FitsSigned, rules, unsigned_abs, ap, sym, subst, arith}
+use Rattle.std.proofs.Common.{◌≡◌, ◌∙◌, ◌*◌, ◌^◌, ◌≤◌, pos, ◌≤ℤ◌, FitsSigned, rules, unsigned_abs, ap, sym, subst, arith}
 use Rattle.std.specs.Int.{w128, w64, cast_signed, cast_unsigned}
 use Rattle.simm_params.proofs.MhUnits.Integers.{same128, same64}
 use Rattle.simm_params.specs.SimmRules.Concentration.{cr}

@@ -1,4 +1,3 @@
-use Rattle.std.proofs.Common.{◌≡◌}
 use Rattle.measured_bucket.specs.declared.explained.Explained.{Explained}
 use Rattle.measured_bucket.proofs.Explaining.{weighted_more, unweighed_more}
 use Rattle.measured_bucket.proofs.explained.explain.Goals as goal

@@ -1,4 +1,4 @@
-use Rattle.std.proofs.Common.{◌≡◌, ◌∙◌, ◌*◌, ◌^◌, ◌≤◌, ap, sym, subst, unsigned_abs, FitsSigned, rules}
+use Rattle.std.proofs.Common.{◌∙◌, ◌*◌, ◌^◌, ◌≤◌, ap, sym, subst, unsigned_abs, FitsSigned, rules}
 use Rattle.std.specs.Int.{w64, w128, cast_signed, cast_unsigned}
 use Rattle.simm_params.proofs.MhUnits.Integers.{same64, same128}
 use Rattle.weighted_bucket.specs.Group.{CanConcentrate}

@@ -3,13 +3,12 @@ use Rattle.std.specs.Prelude.{option_map}
 use Rattle.std.proofs.lemmas.Result.{IfOk-weaker}
 use Rattle.class_rates.specs.SimmRules.Params.{CreditBucket}
 use Rattle.class_rates.specs.SimmRules.Credit.{credit_params, credit_curvature_value}
-use Rattle.class_rates.specs.SimmParams.ClassKinds.{credit_class}
 use Rattle.class_rates.specs.SimmParams.ListedBuckets.{credit_bucket_of, credit_bucket_view}
 use Rattle.class_rates.specs.MeasuredBucket.Values.{alone}
 use Rattle.class_credit.specs.Points.{point_nets, ArePoints}
 use Rattle.class_margin.specs.curvature.Values.{IsSized}
 use Rattle.class_credit.specs.declared.listed.ListedCredit.{ListedCredit}
-use Rattle.class_margin.specs.declared.value.slot.Slot.TheVariants as slot
+use Rattle.class_rates.specs.FactorBook.declared.slot.Slot.TheVariants as slot
 use Rattle.class_margin.specs.value.Curvature.{curvature_of, IsCurvatureSized}
 use Rattle.class_margin.proofs.names_delta.Told.{told, said, heard, found}
 use Rattle.class_margin.proofs.curvature.ValueSized.{value_sized}
@@ -17,16 +16,16 @@ use Rattle.class_margin.proofs.value.curvature.credit.Goals as goal
 
 pub unwrap-listed-requires : goal.unwrap-listed-requires
 unwrap-listed-requires g c =
-    let params = credit_params c.args.params.now (credit_class c.args.kind) in
-    let own = point_nets c.args.lent.now in
+    let params = credit_params c.args.params.now c.args.class in
+    let own = point_nets c.args.lent.now.factors in
     found (λ (listed : ListedCredit). credit_bucket_view listed.bucket) c.of.result (credit_bucket_of params.buckets c.args.bucket) c.of.ensures (λ (b : CreditBucket). ArePoints (pos 10000) own) c.requires
 
 pub credit_curvature-requires : goal.credit_curvature-requires
 credit_curvature-requires g c =
     let listed = c.unwrap-listed.result in
     let b = credit_bucket_view listed.bucket in
-    let params = credit_params c.args.params.now (credit_class c.args.kind) in
-    let own = point_nets c.args.lent.now in
+    let params = credit_params c.args.params.now c.args.class in
+    let own = point_nets c.args.lent.now.factors in
     let is = sym (ap (option_map (λ (listed : ListedCredit). credit_bucket_view listed.bucket)) c.unwrap-listed.ensures) ∙ c.of.ensures in
     heard b (credit_bucket_of params.buckets c.args.bucket) is (λ (b : CreditBucket). ArePoints (pos 10000) own) c.requires
 
@@ -34,19 +33,19 @@ pub returns-clause-value : goal.returns-clause-value
 returns-clause-value g c =
     let listed = c.unwrap-listed.result in
     let b = credit_bucket_view listed.bucket in
-    let params = credit_params c.args.params.now (credit_class c.args.kind) in
-    let own = point_nets c.args.lent.now in
+    let params = credit_params c.args.params.now c.args.class in
+    let own = point_nets c.args.lent.now.factors in
     let is = sym (ap (option_map (λ (listed : ListedCredit). credit_bucket_view listed.bucket)) c.unwrap-listed.ensures) ∙ c.of.ensures in
-    IfOk-weaker c.credit_curvature.result (λ m. m ≡ credit_curvature_value b own) (λ m. Some m ≡ curvature_of c.args.params.now (slot.Credit c.args.kind c.args.bucket) c.args.lent.now)
+    IfOk-weaker c.credit_curvature.result (λ m. m ≡ credit_curvature_value b own) (λ m. Some m ≡ curvature_of c.args.params.now (slot.Credit c.args.class c.args.bucket) c.args.lent.now.factors)
     (told b (credit_bucket_of params.buckets c.args.bucket) is (λ (x : CreditBucket). credit_curvature_value x own)) c.credit_curvature.ensures.value
 
 pub returns-clause-sized : goal.returns-clause-sized
 returns-clause-sized g c =
     let listed = c.unwrap-listed.result in
     let b = credit_bucket_view listed.bucket in
-    let params = credit_params c.args.params.now (credit_class c.args.kind) in
-    let own = point_nets c.args.lent.now in
+    let params = credit_params c.args.params.now c.args.class in
+    let own = point_nets c.args.lent.now.factors in
     let is = sym (ap (option_map (λ (listed : ListedCredit). credit_bucket_view listed.bucket)) c.unwrap-listed.ensures) ∙ c.of.ensures in
-    IfOk-weaker c.credit_curvature.result (IsSized alone own) (IsCurvatureSized c.args.params.now (slot.Credit c.args.kind c.args.bucket) c.args.lent.now)
+    IfOk-weaker c.credit_curvature.result (IsSized alone own) (IsCurvatureSized c.args.params.now (slot.Credit c.args.class c.args.bucket) c.args.lent.now.factors)
     (λ m. said b (credit_bucket_of params.buckets c.args.bucket) is (λ (b : CreditBucket). IsSized alone own m))
     (value_sized c.credit_curvature.result alone own (credit_curvature_value b own) c.credit_curvature.ensures.value refl c.credit_curvature.ensures.sound c.credit_curvature.ensures.near)

@@ -4,12 +4,11 @@ use Rattle.std.proofs.lemmas.Result.{IfOk-weaker}
 use Rattle.class_rates.specs.SimmRules.Params.{CreditBucket}
 use Rattle.class_rates.specs.SimmRules.Risks.{CreditPoint}
 use Rattle.class_rates.specs.SimmRules.Credit.{credit_params, credit_value}
-use Rattle.class_rates.specs.SimmParams.ClassKinds.{credit_class}
 use Rattle.class_rates.specs.SimmParams.ListedBuckets.{credit_bucket_of, credit_bucket_view}
 use Rattle.class_credit.specs.Points.{point_nets, ArePoints}
 use Rattle.class_margin.specs.names_delta.Values.{IsSized}
 use Rattle.class_credit.specs.declared.listed.ListedCredit.{ListedCredit}
-use Rattle.class_margin.specs.declared.value.slot.Slot.TheVariants as slot
+use Rattle.class_rates.specs.FactorBook.declared.slot.Slot.TheVariants as slot
 use Rattle.class_margin.specs.value.Delta.{delta_of, IsDeltaSized}
 use Rattle.class_margin.proofs.names_delta.Told.{told, said, heard, found}
 use Rattle.class_margin.proofs.names_delta.ValueSized.{value_sized}
@@ -17,16 +16,16 @@ use Rattle.class_margin.proofs.value.delta.credit.Goals as goal
 
 pub unwrap-listed-requires : goal.unwrap-listed-requires
 unwrap-listed-requires g c =
-    let params = credit_params c.args.params.now (credit_class c.args.kind) in
-    let own = point_nets c.args.lent.now in
+    let params = credit_params c.args.params.now c.args.class in
+    let own = point_nets c.args.lent.now.factors in
     found (λ (listed : ListedCredit). credit_bucket_view listed.bucket) c.of.result (credit_bucket_of params.buckets c.args.bucket) c.of.ensures (λ (b : CreditBucket). ArePoints (b.terms).weight own) c.requires
 
 pub credit_delta-requires : goal.credit_delta-requires
 credit_delta-requires g c =
     let listed = c.unwrap-listed.result in
     let b = credit_bucket_view listed.bucket in
-    let params = credit_params c.args.params.now (credit_class c.args.kind) in
-    let own = point_nets c.args.lent.now in
+    let params = credit_params c.args.params.now c.args.class in
+    let own = point_nets c.args.lent.now.factors in
     let is = sym (ap (option_map (λ (listed : ListedCredit). credit_bucket_view listed.bucket)) c.unwrap-listed.ensures) ∙ c.of.ensures in
     heard b (credit_bucket_of params.buckets c.args.bucket) is (λ (b : CreditBucket). ArePoints (b.terms).weight own) c.requires
 
@@ -34,19 +33,19 @@ pub returns-clause-value : goal.returns-clause-value
 returns-clause-value g c =
     let listed = c.unwrap-listed.result in
     let b = credit_bucket_view listed.bucket in
-    let params = credit_params c.args.params.now (credit_class c.args.kind) in
-    let own = point_nets c.args.lent.now in
+    let params = credit_params c.args.params.now c.args.class in
+    let own = point_nets c.args.lent.now.factors in
     let is = sym (ap (option_map (λ (listed : ListedCredit). credit_bucket_view listed.bucket)) c.unwrap-listed.ensures) ∙ c.of.ensures in
-    IfOk-weaker c.credit_delta.result (λ m. m ≡ credit_value b own) (λ m. Some m ≡ delta_of c.args.params.now (slot.Credit c.args.kind c.args.bucket) c.args.lent.now)
+    IfOk-weaker c.credit_delta.result (λ m. m ≡ credit_value b own) (λ m. Some m ≡ delta_of c.args.params.now (slot.Credit c.args.class c.args.bucket) c.args.lent.now.factors)
     (told b (credit_bucket_of params.buckets c.args.bucket) is (λ (x : CreditBucket). credit_value x own)) c.credit_delta.ensures.value
 
 pub returns-clause-sized : goal.returns-clause-sized
 returns-clause-sized g c =
     let listed = c.unwrap-listed.result in
     let b = credit_bucket_view listed.bucket in
-    let params = credit_params c.args.params.now (credit_class c.args.kind) in
-    let own = point_nets c.args.lent.now in
+    let params = credit_params c.args.params.now c.args.class in
+    let own = point_nets c.args.lent.now.factors in
     let is = sym (ap (option_map (λ (listed : ListedCredit). credit_bucket_view listed.bucket)) c.unwrap-listed.ensures) ∙ c.of.ensures in
-    IfOk-weaker c.credit_delta.result (IsSized (λ (x : CreditPoint). (b.terms).weight) own) (IsDeltaSized c.args.params.now (slot.Credit c.args.kind c.args.bucket) c.args.lent.now)
+    IfOk-weaker c.credit_delta.result (IsSized (λ (x : CreditPoint). (b.terms).weight) own) (IsDeltaSized c.args.params.now (slot.Credit c.args.class c.args.bucket) c.args.lent.now.factors)
     (λ m. said b (credit_bucket_of params.buckets c.args.bucket) is (λ (b : CreditBucket). IsSized (λ (x : CreditPoint). (b.terms).weight) own m))
     (value_sized c.credit_delta.result (λ (x : CreditPoint). (b.terms).weight) own (credit_value b own) c.credit_delta.ensures.value refl c.credit_delta.ensures.sound c.credit_delta.ensures.near)

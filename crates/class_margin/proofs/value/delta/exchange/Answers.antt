@@ -7,5 +7,5 @@ use Rattle.class_margin.proofs.value.delta.exchange.Goals as goal
 pub returns-clause-sized : goal.returns-clause-sized
 returns-clause-sized g c =
     let p = c.args.params.now in
-    let currencies = risky_nets p c.args.lent.now in
+    let currencies = risky_nets p c.args.lent.now.factors in
     value_sized c.fx_delta.result (fx_weight p) currencies (fx_value p currencies) c.fx_delta.ensures.value refl c.fx_delta.ensures.sound c.fx_delta.ensures.near
