@@ -17,7 +17,11 @@ use Rattle.kept_buckets.specs.SimmRules.Params.{Params}
 use Rattle.kept_buckets.specs.SimmRules.Lookups.{six}
 use Rattle.kept_buckets.specs.SimmRules.Sums.{different}
 use Rattle.kept_buckets.specs.SimmRules.Net.{Sensitivity}
-use Rattle.kept_buckets.specs.SimmRules.Risks.{Risk, risk, CreditClass, Qualifying, Non_qualifying, PricedClass, Equities, Commodities, Amount, select}
+use Rattle.kept_buckets.specs.SimmRules.Risks.{Risk, risk, Amount, select}
+use Rattle.kept_buckets.specs.SimmRules.declared.classes.CreditClass.{CreditClass}
+use Rattle.kept_buckets.specs.SimmRules.declared.classes.CreditClass.TheVariants.{Qualifying, NonQualifying}
+use Rattle.kept_buckets.specs.SimmRules.declared.classes.PricedClass.{PricedClass}
+use Rattle.kept_buckets.specs.SimmRules.declared.classes.PricedClass.TheVariants.{Equities, Commodities}
 use Rattle.kept_buckets.specs.SimmRules.Bucket.{combined}
 use Rattle.kept_buckets.specs.SimmRules.Across.{Part, outer, margin_over}
 use Rattle.kept_buckets.specs.SimmRules.Curvature.{curvature_part, curvature_over}
@@ -27,10 +31,8 @@ use Rattle.kept_buckets.specs.SimmRules.BaseCorrelation.{as_index, base_value, b
 use Rattle.kept_buckets.specs.SimmRules.Priced.{as_price, as_price_volatility, priced_params, listed_priced, price_value, price_vega_value, price_curvature_value, price_margin}
 use Rattle.kept_buckets.specs.SimmRules.ForeignExchange.{as_currency, as_pair_volatility, is_own_currency, fx_value, fx_vega_value, fx_curvature_value, fx_margin}
 use Rattle.kept_buckets.specs.SimmRules.Simm.{class_margin_of}
-use Rattle.kept_buckets.specs.FactorBook.declared.at.ClassAt.{ClassAt}
 use Rattle.kept_buckets.specs.FactorBook.declared.holding.Holding.{Holding}
-use Rattle.class_margin.specs.ClassPriced.Names.{priced_risk_class}
-use Rattle.class_margin.specs.ClassCredit.Points.{credit_risk_class}
+use Rattle.kept_buckets.specs.SimmRules.RiskClasses.{credit_risk_class, priced_risk_class}
 use Rattle.class_margin.specs.names_delta.Values.{nets_in}
 use Rattle.class_margin.proofs.Alone.{select_alone}
 use Rattle.kept_buckets.specs.Touched.{is_of_class}
@@ -52,14 +54,14 @@ rate_volatility_else f h = refl
 credit_else : (c : CreditClass) (b : Bucket) (f : Factor) → same_class (class_of f) (credit_risk_class c) ≡ false → as_credit c b (risk f) ≡ None
 credit_else Qualifying b (factor.CreditQ i a t l) h = absurd (false≢true (sym h))
 credit_else Qualifying b f h = refl
-credit_else Non_qualifying b (factor.CreditNonQ i a t l) h = absurd (false≢true (sym h))
-credit_else Non_qualifying b f h = refl
+credit_else NonQualifying b (factor.CreditNonQ i a t l) h = absurd (false≢true (sym h))
+credit_else NonQualifying b f h = refl
 
 credit_volatility_else : (c : CreditClass) (b : Bucket) (f : Factor) → same_class (class_of f) (credit_risk_class c) ≡ false → as_credit_volatility c b (risk f) ≡ None
 credit_volatility_else Qualifying b (factor.CreditVol i a t l) h = absurd (false≢true (sym h))
 credit_volatility_else Qualifying b f h = refl
-credit_volatility_else Non_qualifying b (factor.CreditVolNonQ i a t l) h = absurd (false≢true (sym h))
-credit_volatility_else Non_qualifying b f h = refl
+credit_volatility_else NonQualifying b (factor.CreditVolNonQ i a t l) h = absurd (false≢true (sym h))
+credit_volatility_else NonQualifying b f h = refl
 
 index_else : (f : Factor) → same_class (class_of f) class.CreditQ ≡ false → as_index (risk f) ≡ None
 index_else (factor.BaseCorr i) h = absurd (false≢true (sym h))
@@ -142,31 +144,28 @@ another true b e h = h
 another false b e h = absurd (false≢true e)
 
 module _ (p : Params) (product : ProductClass) (f g : List (FactorKey × Holding)) where
-  abbrev class_at : RiskClass → ClassAt
-  class_at c = record { product = product; class = c }
-
   abbrev nets : List (FactorKey × Holding) → List Sensitivity
   nets fs = nets_in product fs
 
-  module _ (c : RiskClass) (same : class_factors (class_at c) f ≡ class_factors (class_at c) g) where
+  module _ (c : RiskClass) (same : class_factors product c f ≡ class_factors product c g) where
     read : {A : Type 0} (sort : Risk → Option A) → ((x : Factor) → same_class (class_of x) c ≡ false → sort (risk x) ≡ None) → select sort (nets f) ≡ select sort (nets g)
     read sort none =
-        let alone = select_alone sort product (is_of_class (class_at c)) (λ k e h. none k.factor (another (same_product k.product product) (same_class (class_of k.factor) c) e h)) in
+        let alone = select_alone sort product (is_of_class product c) (λ k e h. none k.factor (another (same_product k.product product) (same_class (class_of k.factor) c) e h)) in
         sym (alone f) ∙ ap (λ fs. select sort (nets fs)) same ∙ alone g
 
-  by_class : (c : RiskClass) → class_factors (class_at c) f ≡ class_factors (class_at c) g → class_margin_of p (nets f) c ≡ class_margin_of p (nets g) c
+  by_class : (c : RiskClass) → class_factors product c f ≡ class_factors product c g → class_margin_of p (nets f) c ≡ class_margin_of p (nets g) c
   by_class class.IR e = rate_same p (nets f) (nets g) (read class.IR e as_rate rate_else) (read class.IR e as_rate_volatility rate_volatility_else)
   by_class class.CreditQ e =
       let credit = credit_same p (nets f) (nets g) Qualifying (λ b. read class.CreditQ e (as_credit Qualifying b) (credit_else Qualifying b)) (λ b. read class.CreditQ e (as_credit_volatility Qualifying b) (credit_volatility_else Qualifying b)) in
       let base = base_same p (nets f) (nets g) (read class.CreditQ e as_index index_else) in
       λ i. credit i +ℤ base i
   by_class class.CreditNonQ e =
-      credit_same p (nets f) (nets g) Non_qualifying (λ b. read class.CreditNonQ e (as_credit Non_qualifying b) (credit_else Non_qualifying b)) (λ b. read class.CreditNonQ e (as_credit_volatility Non_qualifying b) (credit_volatility_else Non_qualifying b))
+      credit_same p (nets f) (nets g) NonQualifying (λ b. read class.CreditNonQ e (as_credit NonQualifying b) (credit_else NonQualifying b)) (λ b. read class.CreditNonQ e (as_credit_volatility NonQualifying b) (credit_volatility_else NonQualifying b))
   by_class class.Equity e =
       price_same p (nets f) (nets g) Equities (λ b. read class.Equity e (as_price Equities b) (price_else Equities b)) (λ b. read class.Equity e (as_price_volatility Equities b) (price_volatility_else Equities b))
   by_class class.Commodity e =
       price_same p (nets f) (nets g) Commodities (λ b. read class.Commodity e (as_price Commodities b) (price_else Commodities b)) (λ b. read class.Commodity e (as_price_volatility Commodities b) (price_volatility_else Commodities b))
   by_class class.FX e = fx_same p (nets f) (nets g) (read class.FX e as_currency currency_else) (read class.FX e as_pair_volatility pair_else)
 
-pub margin_same : (p : Params) (at : ClassAt) (f g : List (FactorKey × Holding)) → class_factors at f ≡ class_factors at g → class_margin_of p (nets_in at.product f) at.class ≡ class_margin_of p (nets_in at.product g) at.class
-margin_same p at f g e = by_class p at.product f g at.class e
+pub margin_same : (p : Params) (product : ProductClass) (class : RiskClass) (f g : List (FactorKey × Holding)) → class_factors product class f ≡ class_factors product class g → class_margin_of p (nets_in product f) class ≡ class_margin_of p (nets_in product g) class
+margin_same p product class f g e = by_class p product f g class e

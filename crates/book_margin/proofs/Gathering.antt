@@ -1,30 +1,23 @@
--- The buckets of a class that a loop has gone over: their values, that each is kept, and the steps that these took.
-use Rattle.std.proofs.Common.{◌≡◌, ◌≢◌, ℕ, ◌+◌, ◌<◌, ◌≤◌, List, [], ◌∷◌, ◌++◌, take, length, get_or, Option, refl, sym, ap, ◌∙◌, subst, arith}
-use Rattle.std.specs.Prelude.{is_some, IsSome}
-use Rattle.std.specs.List.{AllByRecursion}
+-- What a loop has gone over: that it is kept, the values of places, and the steps that these took.
+use Rattle.std.proofs.Common.{◌≡◌, ◌≢◌, ℕ, ◌+◌, ◌<◌, ◌≤◌, List, [], ◌∷◌, ◌++◌, map, take, length, get_or, Bool, true, false, cond, refl, sym, ap, ◌∙◌, subst, arith, append-nil, append_assoc}
+use Rattle.std.specs.Prelude.{IsSome}
+use Rattle.std.specs.List.{filter, AllByRecursion}
 use Rattle.std.proofs.SliceLists.{all_by_recursion_push}
 use Rattle.std.proofs.lemmas.List.{take_more, take_all}
-use Rattle.kept_buckets.specs.SimmKinds.declared.kinds.BucketId.{BucketId}
+use Rattle.kept_buckets.specs.SimmKinds.declared.kinds.ProductClass.{ProductClass}
+use Rattle.kept_buckets.specs.SimmKinds.declared.kinds.RiskClass.{RiskClass}
 use Rattle.kept_buckets.specs.SimmKinds.declared.key.FactorKey.{FactorKey}
-use Rattle.kept_buckets.specs.SimmRules.declared.values.BucketMargin.{BucketMargin}
 use Rattle.kept_buckets.specs.SimmRules.Params.{Params}
-use Rattle.kept_buckets.specs.FactorBook.declared.at.BucketAt.{BucketAt}
-use Rattle.kept_buckets.specs.FactorBook.declared.at.ClassAt.{ClassAt}
-use Rattle.kept_buckets.specs.FactorBook.declared.at.SideAt.{SideAt}
+use Rattle.kept_buckets.specs.FactorBook.declared.address.Address.{Address}
 use Rattle.kept_buckets.specs.FactorBook.declared.holding.Holding.{Holding}
-use Rattle.kept_buckets.specs.FactorBook.declared.place.Place.{Place}
-use Rattle.kept_buckets.specs.FactorBook.Places.{factors_at, place_in, buckets_on}
+use Rattle.kept_buckets.specs.FactorBook.declared.place.BookSide.{BookSide}
+use Rattle.kept_buckets.specs.FactorBook.declared.value.PlaceValue.{PlaceValue}
+use Rattle.kept_buckets.specs.FactorBook.Places.{addressed, by_place, by_side, is_on, Lent}
+use Rattle.kept_buckets.proofs.FactorBook.Buckets.{IsLent, of_side, side_lent}
 use Rattle.kept_buckets.proofs.FactorBook.Sorting.{each_weaker}
-use Rattle.class_margin.specs.volatility.Vega.{volatility_buckets, vega_value, IsVegaSized, volatility_side, volatility_place}
-use Rattle.class_margin.specs.volatility.Curvature.{curvature_value, IsCurvatureSized}
-use Rattle.class_margin.specs.delta.Buckets.{delta_side, delta_place, delta_buckets, bucket_at}
-use Rattle.class_margin.specs.delta.Delta.{delta_at, IsSizedAt}
-use Rattle.class_margin.specs.delta.Values.{AreValuedBy}
-use Rattle.class_margin.proofs.OnSide.{each_on}
-use Rattle.class_margin.proofs.Valued.{Whole, value_next}
-use Rattle.kept_buckets.specs.declared.value.VolatilityMargins.{VolatilityMargins}
+use Rattle.class_margin.specs.value.Values.{AreValued, IsValued}
 use Rattle.kept_buckets.specs.Kept.{Kept, value_at}
-use Rattle.book_margin.specs.Right.{IsDelta, AreVolatility, AreRight, AreDeltasKept, AreVolatilitiesKept, Renews}
+use Rattle.book_margin.specs.Right.{AreRight, IsSideKept, Renews}
 use Rattle.book_margin.specs.Steps.{steps_due}
 use Rattle.book_margin.proofs.Renewed.{renews_none, renews_both, value_still}
 
@@ -55,83 +48,109 @@ module _ {A : Type 0} (p : Params) (fs : Factors) (IsKept : Kept → A → Type 
   pub renewed_all : (first now : Kept) (items : List A) (i : ℕ) (before after : ℕ) → length items ≤ i → Renewed p fs IsKept first now (take i items) before after → AllByRecursion (IsKept now) items
   renewed_all first now items i before after end so_far = subst (AllByRecursion (IsKept now)) (take_all i items end) so_far.kept
 
--- a bucket is kept at its place
-abbrev pub IsKeptAt : (BucketId → Place) → Kept → BucketId → Type 0
-IsKeptAt place kept b = IsSome (value_at kept (place b))
+-- ---- the places of a side, one after the other
 
--- each bucket that has a factor is among them at the end
-all_kept : (at : SideAt) (fs : Factors) (place : BucketId → Place) (kept : Kept) (buckets : List BucketId) → ((b : BucketId) → place b ≡ place_in at b) → buckets ≡ buckets_on at fs
-    → AllByRecursion (IsKeptAt place kept) buckets → (b : BucketId) → factors_at (place b) fs ≢ [] → IsSome (value_at kept (place b))
-all_kept at fs place kept buckets there made each b some =
-    each_on at b (IsKeptAt place kept) fs (subst (AllByRecursion (IsKeptAt place kept)) made each) (subst (λ q. factors_at q fs ≢ []) (there b) some)
+abbrev pub lent_in : List (Address × Lent) → List Lent
+lent_in rest = map (λ e. e.1) rest
 
--- ---- the values
+addressed_lent : (ls : List Lent) → lent_in (map addressed ls) ≡ ls
+addressed_lent [] = refl
+addressed_lent (l ∷ ls) = ap (λ xs. l ∷ xs) (addressed_lent ls)
 
-pub valued_first : (V : BucketAt → Option BucketMargin) (S : BucketAt → BucketMargin → Type 0) (at : ClassAt) (parts : List Whole) → parts ≡ [] → AreValuedBy V S at [] parts
-valued_first V S at parts none = subst (AreValuedBy V S at []) (sym none) (record { are = refl; each = tt })
+-- one of them is lent by the book
+one_of : (fs : Factors) (done rest : List Lent) (l : Lent) → AllByRecursion (IsLent fs) (done ++ l ∷ rest) → IsLent fs l
+one_of fs [] rest l h = h.0
+one_of fs (d ∷ done) rest l h = one_of fs done rest l h.1
 
-pub valued_all : (V : BucketAt → Option BucketMargin) (S : BucketAt → BucketMargin → Type 0) (at : ClassAt) (buckets its : List BucketId) (i : ℕ) (parts : List Whole) → length buckets ≤ i → buckets ≡ its
-    → AreValuedBy V S at (take i buckets) parts → AreValuedBy V S at its parts
-valued_all V S at buckets its i parts end made valued = subst (λ bs. AreValuedBy V S at bs parts) (take_all i buckets end ∙ made) valued
+-- a value behind others
+valued_more : (p : Params) (ls : List Lent) (vs : List PlaceValue) (l : Lent) (v : PlaceValue) → AreValued p ls vs → IsValued p l v → AreValued p (ls ++ l ∷ []) (vs ++ v ∷ [])
+valued_more p [] [] l v h is = (is, tt)
+valued_more p [] (w ∷ vs) l v h is = absurd h
+valued_more p (m ∷ ls) [] l v h is = absurd h
+valued_more p (m ∷ ls) (w ∷ vs) l v h is = (h.0, valued_more p ls vs l v h.1 is)
 
--- ---- on the side of delta
+-- What is gone over and what is left; the values, behind those that were there.
+pub record Gone (p : Params) (fs : Factors) (c : ProductClass) (k : RiskClass) (s : BookSide) (rest : List (Address × Lent)) (first now : List PlaceValue) : Type 0 where
+  pub done : List Lent
+  pub are : done ++ lent_in rest ≡ by_side c k s fs
+  pub valued : (before : List Lent) → AreValued p before first → AreValued p (before ++ done) now
 
-abbrev pub delta_in_class : ClassAt → BucketId → Place
-delta_in_class at b = delta_place (bucket_at at b)
+module _ (p : Params) (fs : Factors) (c : ProductClass) (k : RiskClass) (s : BookSide) (first : List PlaceValue) where
+  pub gone_none : (rest : List (Address × Lent)) → rest ≡ map addressed (by_side c k s fs) → Gone p fs c k s rest first first
+  gone_none rest e = record {
+    done = [];
+    are = ap lent_in e ∙ addressed_lent (by_side c k s fs);
+    valued = λ before h. subst (λ ls. AreValued p ls first) (sym (append-nil before)) h;
+  }
 
-pub record DeltasSoFar (p : Params) (fs : Factors) (at : ClassAt) (first now : Kept) (ids : List BucketId) (parts : List Whole) (before after : ℕ) : Type 0 where
-  pub so_far : Renewed p fs (IsKeptAt (delta_in_class at)) first now ids before after
-  pub delta : AreValuedBy (λ b. delta_at p b fs) (λ b m. IsSizedAt p b fs m) at ids parts
+  -- the next one
+  pub next_lent : (left rest : List (Address × Lent)) (e : Address × Lent) (now : List PlaceValue) → Gone p fs c k s left first now → left ≡ e ∷ rest → IsLent fs e.1
+  next_lent left rest e now gone is =
+      one_of fs gone.done (lent_in rest) e.1 (subst (AllByRecursion (IsLent fs)) (sym (ap (λ xs. gone.done ++ lent_in xs) (sym is) ∙ gone.are)) (side_lent c k s fs))
 
-pub deltas_first : (p : Params) (fs : Factors) (at : ClassAt) (first : Kept) (parts : List Whole) (before : ℕ) → parts ≡ [] → AreRight p fs first → DeltasSoFar p fs at first first [] parts before before
-deltas_first p fs at first parts before none right = record {
-  so_far = renewed_first p fs (IsKeptAt (delta_in_class at)) first before right;
-  delta = valued_first (λ b. delta_at p b fs) (λ b m. IsSizedAt p b fs m) at parts none;
-}
+  pub gone_more : (left rest : List (Address × Lent)) (e : Address × Lent) (v : PlaceValue) (now more : List PlaceValue) → Gone p fs c k s left first now → left ≡ e ∷ rest → IsValued p e.1 v → more ≡ now ++ v ∷ []
+      → Gone p fs c k s rest first more
+  gone_more left rest e v now more gone is valued grown = record {
+    done = gone.done ++ e.1 ∷ [];
+    are = append_assoc gone.done (e.1 ∷ []) (lent_in rest) ∙ ap (λ xs. gone.done ++ lent_in xs) (sym is) ∙ gone.are;
+    valued = λ before h.
+        subst (λ vs. AreValued p (before ++ (gone.done ++ e.1 ∷ [])) vs) (sym grown)
+        (subst (λ ls. AreValued p ls (now ++ v ∷ [])) (append_assoc before gone.done (e.1 ∷ [])) (valued_more p (before ++ gone.done) now e.1 v (gone.valued before h) valued));
+  }
 
-pub deltas_next : (p : Params) (fs : Factors) (at : ClassAt) (first now next : Kept) (buckets : List BucketId) (i : ℕ) (b : BucketId) (place : BucketAt) (m : BucketMargin) (parts more : List Whole) (before mid after : ℕ)
-    → i < length buckets → b ≡ get_or buckets i b → place ≡ bucket_at at b → DeltasSoFar p fs at first now (take i buckets) parts before mid
-    → IsDelta p fs place m → Renews p fs now next → IsSome (value_at next (delta_place place)) → after + steps_due p next fs ≤ mid + steps_due p now fs → more ≡ parts ++ (b, m) ∷ []
-    → DeltasSoFar p fs at first next (take (i + 1) buckets) more before after
-deltas_next p fs at first now next buckets i b place m parts more before mid after inside is there d own renews kept took grown = record {
-  so_far = renewed_next p fs (IsKeptAt (delta_in_class at)) first now next buckets i b before mid after inside is d.so_far renews (λ k. value_still now next renews (delta_in_class at k)) (ap (λ q. is_some (value_at next (delta_place q))) (sym there) ∙ kept) took;
-  delta = value_next (λ x. delta_at p x fs) (λ x y. IsSizedAt p x fs y) at buckets i b m place parts more inside is there own.value own.sized d.delta grown;
-}
+  pub gone_all : (rest : List (Address × Lent)) (now : List PlaceValue) → Gone p fs c k s rest first now → rest ≡ [] → (before : List Lent) → AreValued p before first → AreValued p (before ++ by_side c k s fs) now
+  gone_all rest now gone none before h =
+      subst (λ ls. AreValued p (before ++ ls) now) (sym (append-nil gone.done) ∙ ap (λ xs. gone.done ++ lent_in xs) (sym none) ∙ gone.are) (gone.valued before h)
 
-pub deltas_kept : (p : Params) (fs : Factors) (at : ClassAt) (first now : Kept) (buckets : List BucketId) (i : ℕ) (parts : List Whole) (before after : ℕ) → length buckets ≤ i → buckets ≡ delta_buckets at fs
-    → DeltasSoFar p fs at first now (take i buckets) parts before after → AreDeltasKept fs now at
-deltas_kept p fs at first now buckets i parts before after end made d = all_kept (delta_side at) fs (delta_in_class at) now buckets (λ b. refl) made (renewed_all p fs (IsKeptAt (delta_in_class at)) first now buckets i before after end d.so_far)
+-- the next one is kept, where all of the side are
+each_next : (P : Lent → Type 0) (done rest : List Lent) (l : Lent) → AllByRecursion P (done ++ l ∷ rest) → P l
+each_next P [] rest l h = h.0
+each_next P (d ∷ done) rest l h = each_next P done rest l h.1
 
--- ---- on the side of volatility
+module _ (p : Params) (fs : Factors) (c : ProductClass) (k : RiskClass) (s : BookSide) (first : List PlaceValue) (kept : Kept) where
+  pub lent_kept : (left rest : List (Address × Lent)) (e : Address × Lent) (now : List PlaceValue) → Gone p fs c k s left first now → left ≡ e ∷ rest → IsSideKept fs kept c k s → IsSome (value_at kept (e.1).place)
+  lent_kept left rest e now gone is whole =
+      let its = next_lent p fs c k s first left rest e now gone is in
+      let on : is_on c k s (e.1).place ≡ true =
+      each_next (λ lent. is_on c k s lent.place ≡ true) gone.done (lent_in rest) e.1
+      (subst (AllByRecursion (λ lent. is_on c k s lent.place ≡ true)) (sym (ap (λ xs. gone.done ++ lent_in xs) (sym is) ∙ gone.are)) (filter_passes (λ (lent : Lent). is_on c k s lent.place) (by_place fs))) in
+      whole (e.1).place on (subst (λ (l : Lent). l.factors ≢ []) its.is its.some)
+    where
+      filter_passes : (test : Lent → Bool) (ls : List Lent) → AllByRecursion (λ l. test l ≡ true) (filter test ls)
+      filter_passes test [] = tt
+      filter_passes test (l ∷ ls) = by (test l) refl (filter_passes test ls)
+        where
+          by : (t : Bool) → test l ≡ t → AllByRecursion (λ x. test x ≡ true) (filter test ls) → AllByRecursion (λ x. test x ≡ true) (cond t (l ∷ filter test ls) (filter test ls))
+          by true e i = (e, i)
+          by false e i = i
 
-abbrev pub volatility_in_class : ClassAt → BucketId → Place
-volatility_in_class at b = volatility_place (bucket_at at b)
+-- each that is gone over is kept
+abbrev pub IsPlaceKept : Kept → Lent → Type 0
+IsPlaceKept kept lent = IsSome (value_at kept lent.place)
 
-pub record VolatilitiesSoFar (p : Params) (fs : Factors) (at : ClassAt) (first now : Kept) (ids : List BucketId) (vegas curvatures : List Whole) (before after : ℕ) : Type 0 where
-  pub so_far : Renewed p fs (IsKeptAt (volatility_in_class at)) first now ids before after
-  pub vega : AreValuedBy (λ b. vega_value p b fs) (λ b m. IsVegaSized p b fs m) at ids vegas
-  pub curvature : AreValuedBy (λ b. curvature_value p b fs) (λ b m. IsCurvatureSized p b fs m) at ids curvatures
+pub record SideSoFar (p : Params) (fs : Factors) (c : ProductClass) (k : RiskClass) (s : BookSide) (first now : Kept) (rest : List (Address × Lent)) (values0 values : List PlaceValue) (before after : ℕ) : Type 0 where
+  pub gone : Gone p fs c k s rest values0 values
+  pub renewed : Renews p fs first now
+  pub kept : AllByRecursion (IsPlaceKept now) gone.done
+  pub steps : after + steps_due p now fs ≤ before + steps_due p first fs
 
-pub volatilities_first : (p : Params) (fs : Factors) (at : ClassAt) (first : Kept) (vegas curvatures : List Whole) (before : ℕ) → vegas ≡ [] → curvatures ≡ [] → AreRight p fs first
-    → VolatilitiesSoFar p fs at first first [] vegas curvatures before before
-volatilities_first p fs at first vegas curvatures before no_vegas no_curvatures right = record {
-  so_far = renewed_first p fs (IsKeptAt (volatility_in_class at)) first before right;
-  vega = valued_first (λ b. vega_value p b fs) (λ b m. IsVegaSized p b fs m) at vegas no_vegas;
-  curvature = valued_first (λ b. curvature_value p b fs) (λ b m. IsCurvatureSized p b fs m) at curvatures no_curvatures;
-}
+module _ (p : Params) (fs : Factors) (c : ProductClass) (k : RiskClass) (s : BookSide) (first : Kept) (values0 : List PlaceValue) (before : ℕ) where
+  pub none_kept : (rest : List (Address × Lent)) → AreRight p fs first → rest ≡ map addressed (by_side c k s fs) → SideSoFar p fs c k s first first rest values0 values0 before before
+  unfolding gone_none
+  none_kept rest right e = record { gone = gone_none p fs c k s values0 rest e; renewed = renews_none first right; kept = tt; steps = omega arith }
 
-pub volatilities_next : (p : Params) (fs : Factors) (at : ClassAt) (first now next : Kept) (buckets : List BucketId) (i : ℕ) (b : BucketId) (place : BucketAt) (m : VolatilityMargins)
-    (vegas curvatures more_vegas more_curvatures : List Whole) (before mid after : ℕ)
-    → i < length buckets → b ≡ get_or buckets i b → place ≡ bucket_at at b → VolatilitiesSoFar p fs at first now (take i buckets) vegas curvatures before mid
-    → AreVolatility p fs place m → Renews p fs now next → IsSome (value_at next (volatility_place place)) → after + steps_due p next fs ≤ mid + steps_due p now fs
-    → more_vegas ≡ vegas ++ (b, m.vega) ∷ [] → more_curvatures ≡ curvatures ++ (b, m.curvature) ∷ []
-    → VolatilitiesSoFar p fs at first next (take (i + 1) buckets) more_vegas more_curvatures before after
-volatilities_next p fs at first now next buckets i b place m vegas curvatures more_vegas more_curvatures before mid after inside is there d own renews kept took vega_grown curvature_grown = record {
-  so_far = renewed_next p fs (IsKeptAt (volatility_in_class at)) first now next buckets i b before mid after inside is d.so_far renews (λ k. value_still now next renews (volatility_in_class at k)) (ap (λ q. is_some (value_at next (volatility_place q))) (sym there) ∙ kept) took;
-  vega = value_next (λ x. vega_value p x fs) (λ x y. IsVegaSized p x fs y) at buckets i b m.vega place vegas more_vegas inside is there own.vega own.vega_sized d.vega vega_grown;
-  curvature = value_next (λ x. curvature_value p x fs) (λ x y. IsCurvatureSized p x fs y) at buckets i b m.curvature place curvatures more_curvatures inside is there own.curvature own.curvature_sized d.curvature curvature_grown;
-}
+  pub one_kept : (now next : Kept) (left rest : List (Address × Lent)) (e : Address × Lent) (v : PlaceValue) (values more : List PlaceValue) (mid after : ℕ)
+      → SideSoFar p fs c k s first now left values0 values before mid → left ≡ e ∷ rest → IsValued p e.1 v → more ≡ values ++ v ∷ [] → Renews p fs now next → IsPlaceKept next e.1
+      → after + steps_due p next fs ≤ mid + steps_due p now fs → SideSoFar p fs c k s first next rest values0 more before after
+  unfolding gone_more
+  one_kept now next left rest e v values more mid after so_far is valued grown renews there took = record {
+    gone = gone_more p fs c k s values0 left rest e v values more so_far.gone is valued grown;
+    renewed = renews_both first now next so_far.renewed renews;
+    kept = all_by_recursion_push (IsPlaceKept next) (so_far.gone).done e.1 (each_weaker (IsPlaceKept now) (IsPlaceKept next) (λ l. value_still now next renews l.place) (so_far.gone).done so_far.kept) there;
+    steps = omega (arith, took, so_far.steps);
+  }
 
-pub volatilities_kept : (p : Params) (fs : Factors) (at : ClassAt) (first now : Kept) (buckets : List BucketId) (i : ℕ) (vegas curvatures : List Whole) (before after : ℕ) → length buckets ≤ i
-    → buckets ≡ volatility_buckets at fs → VolatilitiesSoFar p fs at first now (take i buckets) vegas curvatures before after → AreVolatilitiesKept fs now at
-volatilities_kept p fs at first now buckets i vegas curvatures before after end made d = all_kept (volatility_side at) fs (volatility_in_class at) now buckets (λ b. refl) made (renewed_all p fs (IsKeptAt (volatility_in_class at)) first now buckets i before after end d.so_far)
+  pub all_kept : (now : Kept) (rest : List (Address × Lent)) (values : List PlaceValue) (after : ℕ) → SideSoFar p fs c k s first now rest values0 values before after → rest ≡ [] → IsSideKept fs now c k s
+  all_kept now rest values after so_far none place on some =
+      of_side c k s fs (IsPlaceKept now)
+      (subst (AllByRecursion (IsPlaceKept now)) (sym (append-nil (so_far.gone).done) ∙ ap (λ xs. (so_far.gone).done ++ lent_in xs) (sym none) ∙ (so_far.gone).are) so_far.kept) place on some

@@ -1,8 +1,6 @@
 pub mod Parts
-pub mod KeptParts
 pub mod Whole
 pub mod Alone
-pub mod Gathered
 pub mod Renewed
 pub mod Gathering
 pub mod Untouched

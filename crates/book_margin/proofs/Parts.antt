@@ -3,6 +3,7 @@ use Rattle.std.proofs.Common.{◌≡◌, ◌*◌, ◌^◌, ◌≤◌, ℕ, List,
 use Rattle.std.specs.Int.{w128}
 use Rattle.std.proofs.lemmas.Int.{ints}
 use Rattle.kept_buckets.specs.MhUnits.declared.quantities.Cents.{Cents}
+use Rattle.kept_buckets.specs.SimmKinds.declared.kinds.ProductClass.{ProductClass}
 use Rattle.kept_buckets.specs.SimmKinds.declared.kinds.RiskClass.{RiskClass}
 use Rattle.kept_buckets.specs.SimmKinds.declared.kinds.RiskClass.TheVariants as class
 use Rattle.kept_buckets.specs.SimmKinds.declared.kinds.Measure.TheVariants as measure
@@ -20,7 +21,6 @@ use Rattle.class_margin.specs.volatility.Curvature.{class_curvature_of}
 use Rattle.class_margin.specs.delta.Class.{class_delta_of}
 use Rattle.class_margin.specs.volatility.Vega.{class_vega_of}
 use Rattle.kept_buckets.specs.SimmKinds.declared.key.FactorKey.{FactorKey}
-use Rattle.kept_buckets.specs.FactorBook.declared.at.ClassAt.{ClassAt}
 use Rattle.kept_buckets.specs.FactorBook.declared.holding.Holding.{Holding}
 use Rattle.kept_buckets.specs.FactorBook.Factors.{net_of}
 use Rattle.class_margin.specs.names_delta.Values.{nets_in}
@@ -72,17 +72,17 @@ sum_size m sum is h = subst IsClassMargin (sym is) (margin_size m.delta.0 m.vega
 
 -- ---- it is the margin of the class
 
-pub measures_are : (p : Params) (fs : List (FactorKey × Holding)) (at : ClassAt) (m : MeasureMargins) → AreMeasures p fs at m → measures_sum m ≡ class_margin_of p (nets_in at.product fs) at.class
-measures_are p fs at m h = (λ i. h measure.Delta i +ℤ h measure.Vega i +ℤ h measure.Curvature i +ℤ h measure.BaseCorr i) ∙ parts_are p (nets_in at.product fs) at.class
+pub measures_are : (p : Params) (fs : List (FactorKey × Holding)) (product : ProductClass) (class : RiskClass) (m : MeasureMargins) → AreMeasures p fs product class m → measures_sum m ≡ class_margin_of p (nets_in product fs) class
+measures_are p fs product class m h = (λ i. h measure.Delta i +ℤ h measure.Vega i +ℤ h measure.Curvature i +ℤ h measure.BaseCorr i) ∙ parts_are p (nets_in product fs) class
 
-pub measures_of : (p : Params) (fs : List (FactorKey × Holding)) (at : ClassAt) (delta vega curvature base : Cents)
-    → delta.0 ≡ measure_at p fs at measure.Delta → vega.0 ≡ measure_at p fs at measure.Vega
-    → curvature.0 ≡ measure_at p fs at measure.Curvature → base.0 ≡ measure_at p fs at measure.BaseCorr
-    → AreMeasures p fs at (record { delta = delta; vega = vega; curvature = curvature; base = base })
-measures_of p fs at delta vega curvature base d v c b measure.Delta = d
-measures_of p fs at delta vega curvature base d v c b measure.Vega = v
-measures_of p fs at delta vega curvature base d v c b measure.Curvature = c
-measures_of p fs at delta vega curvature base d v c b measure.BaseCorr = b
+pub measures_of : (p : Params) (fs : List (FactorKey × Holding)) (product : ProductClass) (class : RiskClass) (delta vega curvature base : Cents)
+    → delta.0 ≡ measure_at p fs product class measure.Delta → vega.0 ≡ measure_at p fs product class measure.Vega
+    → curvature.0 ≡ measure_at p fs product class measure.Curvature → base.0 ≡ measure_at p fs product class measure.BaseCorr
+    → AreMeasures p fs product class (record { delta = delta; vega = vega; curvature = curvature; base = base })
+measures_of p fs product class delta vega curvature base d v c b measure.Delta = d
+measures_of p fs product class delta vega curvature base d v c b measure.Vega = v
+measures_of p fs product class delta vega curvature base d v c b measure.Curvature = c
+measures_of p fs product class delta vega curvature base d v c b measure.BaseCorr = b
 
 -- ---- those of the negated book
 
@@ -94,16 +94,16 @@ base_of-even p even class.Equity ss = refl
 base_of-even p even class.Commodity ss = refl
 base_of-even p even class.FX ss = refl
 
-pub posted_are : (p : Params) (fs : List (FactorKey × Holding)) (at : ClassAt) (m : MeasureMargins) (curvature : Cents)
+pub posted_are : (p : Params) (fs : List (FactorKey × Holding)) (product : ProductClass) (class : RiskClass) (m : MeasureMargins) (curvature : Cents)
     → ((c : RiskClass) → IsEven (λ ss. class_delta_of p ss c)) → ((c : RiskClass) → IsEven (λ ss. class_vega_of p ss c)) → IsEven (base_margin p)
-    → AreMeasures p fs at m → curvature.0 ≡ measure_at p (negated_factors fs) at measure.Curvature → AreMeasures p (negated_factors fs) at (record m { curvature = curvature })
-posted_are p fs at m curvature delta vega base its curved = measures_of p (negated_factors fs) at m.delta m.vega curvature m.base
-    (its measure.Delta ∙ sym (turned (λ ss. class_delta_of p ss at.class) (delta at.class))) (its measure.Vega ∙ sym (turned (λ ss. class_vega_of p ss at.class) (vega at.class))) curved
-    (its measure.BaseCorr ∙ sym (turned (λ ss. base_of p ss at.class) (base_of-even p base at.class)))
+    → AreMeasures p fs product class m → curvature.0 ≡ measure_at p (negated_factors fs) product class measure.Curvature → AreMeasures p (negated_factors fs) product class (record m { curvature = curvature })
+posted_are p fs product class m curvature delta vega base its curved = measures_of p (negated_factors fs) product class m.delta m.vega curvature m.base
+    (its measure.Delta ∙ sym (turned (λ ss. class_delta_of p ss class) (delta class))) (its measure.Vega ∙ sym (turned (λ ss. class_vega_of p ss class) (vega class))) curved
+    (its measure.BaseCorr ∙ sym (turned (λ ss. base_of p ss class) (base_of-even p base class)))
   where
-    turned : (margin : List Sensitivity → ℤ) → IsEven margin → margin (nets_in at.product (negated_factors fs)) ≡ margin (nets_in at.product fs)
-    turned margin even = ap margin (ap (in_product at.product) (nets_of-negated fs) ∙ in_product-negated at.product (map net_of fs)) ∙ even (nets_in at.product fs)
+    turned : (margin : List Sensitivity → ℤ) → IsEven margin → margin (nets_in product (negated_factors fs)) ≡ margin (nets_in product fs)
+    turned margin even = ap margin (ap (in_product product) (nets_of-negated fs) ∙ in_product-negated product (map net_of fs)) ∙ even (nets_in product fs)
 
-pub both_are : (p : Params) (fs : List (FactorKey × Holding)) (at : ClassAt) (m : BothMargins) → IsMargin p fs at m.collect.0 → IsMargin p (negated_factors fs) at m.post.0 → AreMargins p fs at m
-both_are p fs at m collect post Collect = collect
-both_are p fs at m collect post Post = post
+pub both_are : (p : Params) (fs : List (FactorKey × Holding)) (product : ProductClass) (class : RiskClass) (m : BothMargins) → IsMargin p fs product class m.collect.0 → IsMargin p (negated_factors fs) product class m.post.0 → AreMargins p fs product class m
+both_are p fs product class m collect post Collect = collect
+both_are p fs product class m collect post Post = post

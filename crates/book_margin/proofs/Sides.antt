@@ -16,8 +16,10 @@ use Rattle.kept_buckets.specs.FactorBook.Factors.{factors_of}
 use Rattle.class_margin.specs.NegatedBook.Negated.{negated, negated_factors}
 use Rattle.class_margin.specs.NegatedBook.Sides.{side_rows, side_factors}
 use Rattle.class_margin.specs.names_delta.Values.{nets_in}
-use Rattle.class_combine.specs.declared.multipliers.ProductAmounts.{ProductAmounts}
-use Rattle.class_combine.specs.Multipliers.{amount_in, multiplied_in}
+use Rattle.kept_buckets.specs.MhUnits.declared.quantities.Cents.{Cents}
+use Rattle.kept_buckets.specs.SimmRules.declared.tables.ByProduct.{ByProduct}
+use Rattle.kept_buckets.specs.SimmRules.Tables.{product_at}
+use Rattle.class_combine.specs.Multipliers.{multiplied_in}
 use Rattle.book_margin.specs.declared.both_breakdowns.BothBreakdowns.{BothBreakdowns}
 use Rattle.book_margin.specs.Sides.{breakdown_on}
 
@@ -36,9 +38,9 @@ pub notional_on : (side : MarginSide) (held : List CrifRow) → ((rows : List Cr
 notional_on Collect held stay = refl
 notional_on Post held stay = stay held
 
-pub multiplied_on : (side : MarginSide) (held : List CrifRow) (m : ProductAmounts) → ((rows : List CrifRow) (product : ProductClass) → multiplier_of (negated rows) product ≡ multiplier_of rows product) → multiplied_in (side_rows side held) m ≡ multiplied_in held m
+pub multiplied_on : (side : MarginSide) (held : List CrifRow) (m : ByProduct Cents) → ((rows : List CrifRow) (product : ProductClass) → multiplier_of (negated rows) product ≡ multiplier_of rows product) → multiplied_in (side_rows side held) m ≡ multiplied_in held m
 multiplied_on Collect held m stay = refl
-multiplied_on Post held m stay = λ i. total_by (λ product. up ((stay held product i -ℤ pos 10000) *ℤ (amount_in m product).0) (pos 10000)) products
+multiplied_on Post held m stay = λ i. total_by (λ product. up ((stay held product i -ℤ pos 10000) *ℤ (product_at m product).0) (pos 10000)) products
 
 -- what is so of the margin of either side
 pub each_side : (P : MarginSide → Breakdown → Type 0) (m : BothBreakdowns) → P Collect m.collect → P Post m.post → (side : MarginSide) → P side (breakdown_on m side)

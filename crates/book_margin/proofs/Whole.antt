@@ -4,7 +4,9 @@ use Rattle.kept_buckets.specs.SimmKinds.declared.kinds.ProductClass.{ProductClas
 use Rattle.kept_buckets.specs.SimmKinds.declared.kinds.ProductClass.TheVariants as product
 use Rattle.kept_buckets.specs.SimmKinds.declared.key.FactorKey.{FactorKey}
 use Rattle.kept_buckets.specs.SimmKinds.declared.row.CrifRow.{CrifRow}
-use Rattle.kept_buckets.specs.SimmRules.declared.values.ClassMargins.{ClassMargins}
+use Rattle.kept_buckets.specs.MhUnits.declared.quantities.Cents.{Cents}
+use Rattle.kept_buckets.specs.SimmRules.declared.tables.ByClass.{ByClass}
+use Rattle.kept_buckets.specs.SimmRules.declared.tables.ByProduct.{ByProduct}
 use Rattle.kept_buckets.specs.SimmRules.declared.values.Breakdown.{Breakdown}
 use Rattle.kept_buckets.specs.SimmRules.Parts.{cents}
 use Rattle.kept_buckets.specs.SimmRules.Params.{Params}
@@ -14,21 +16,20 @@ use Rattle.kept_buckets.specs.SimmRules.Simm.{simm}
 use Rattle.kept_buckets.specs.FactorBook.declared.holding.Holding.{Holding}
 use Rattle.class_margin.specs.names_delta.Values.{nets_in}
 use Rattle.class_combine.specs.declared.additional.AddOns.{AddOns}
-use Rattle.class_combine.specs.declared.whole.ProductClasses.{ProductClasses}
 use Rattle.class_combine.specs.Multipliers.{multiplied_in}
 use Rattle.class_combine.specs.Whole.{breakdown_of, margins_of}
 use Rattle.book_margin.specs.Classes.{classes_of, products_of}
 
 -- the margin of these classes, with the add-ons of the rows
-abbrev whole_of : Params → List CrifRow → ProductClasses → Breakdown
+abbrev whole_of : Params → List CrifRow → ByProduct (ByClass Cents) → Breakdown
 whole_of p rows m =
     breakdown_of m (margins_of p m) (record { fixed = cents (fixed_amounts rows); notional = cents (notional_add_on rows); multiplier = cents (multiplied_in rows (margins_of p m)) })
 
-abbrev products_from : ClassMargins → ClassMargins → ClassMargins → ClassMargins → ProductClasses
+abbrev products_from : ByClass Cents → ByClass Cents → ByClass Cents → ByClass Cents → ByProduct (ByClass Cents)
 products_from a b c d = record { rates_fx = a; credit = b; equity = c; commodity = d }
 
 -- those of the rows
-abbrev classes_by : Params → List CrifRow → ProductClass → ClassMargins
+abbrev classes_by : Params → List CrifRow → ProductClass → ByClass Cents
 classes_by p rows product = classes_of p (netted (in_product product (sensitivities rows)))
 
 simm_from : (p : Params) (rows : List CrifRow) → whole_of p rows (products_from (classes_by p rows product.RatesFX) (classes_by p rows product.Credit) (classes_by p rows product.Equity) (classes_by p rows product.Commodity)) ≡ simm p rows

@@ -11,3 +11,4 @@ pub use Rattle.class_margin.specs.BookRange as BookRange
 pub use Rattle.kept_buckets.specs as KeptBuckets
 pub use Rattle.class_combine.specs as ClassCombine
 pub use Rattle.class_margin.specs.NegatedBook as NegatedBook
+pub use Rattle.class_margin.specs as ClassMargin

@@ -2,13 +2,13 @@
 -- (ISDA SIMM methodology, structure: the margin of a risk class is that of delta, of vega, of curvature and of base correlation.)
 use Rattle.std.specs.Prelude.{ℕ, ◌≡◌, ◌*◌, ◌^◌, List, ℤ, pos, ◌+ℤ◌, ◌≤ℤ◌}
 use Rattle.kept_buckets.specs.MhUnits.declared.quantities.Cents.{Cents}
+use Rattle.kept_buckets.specs.SimmKinds.declared.kinds.ProductClass.{ProductClass}
 use Rattle.kept_buckets.specs.SimmKinds.declared.kinds.RiskClass.{RiskClass}
 use Rattle.kept_buckets.specs.SimmKinds.declared.kinds.Measure.{Measure}
 use Rattle.kept_buckets.specs.SimmKinds.declared.kinds.Measure.TheVariants as measure
 use Rattle.kept_buckets.specs.SimmKinds.declared.key.FactorKey.{FactorKey}
 use Rattle.kept_buckets.specs.SimmRules.Params.{Params}
 use Rattle.kept_buckets.specs.SimmRules.Net.{Sensitivity}
-use Rattle.kept_buckets.specs.FactorBook.declared.at.ClassAt.{ClassAt}
 use Rattle.kept_buckets.specs.FactorBook.declared.holding.Holding.{Holding}
 use Rattle.class_margin.specs.names_delta.Values.{nets_in}
 use Rattle.class_margin.specs.volatility.Curvature.{class_curvature_of}
@@ -25,8 +25,8 @@ measure_margin p ss class measure.Curvature = class_curvature_of p ss class
 measure_margin p ss class measure.BaseCorr = base_of p ss class
 
 -- of the factors of a book
-abbrev pub measure_at : Params → List (FactorKey × Holding) → ClassAt → Measure → ℤ
-measure_at p factors at measure = measure_margin p (nets_in at.product factors) at.class measure
+abbrev pub measure_at : Params → List (FactorKey × Holding) → ProductClass → RiskClass → Measure → ℤ
+measure_at p factors product class measure = measure_margin p (nets_in product factors) class measure
 
 abbrev pub measure_in : MeasureMargins → Measure → Cents
 measure_in m measure.Delta = m.delta
@@ -35,8 +35,8 @@ measure_in m measure.Curvature = m.curvature
 measure_in m measure.BaseCorr = m.base
 
 -- of each measure its own
-abbrev pub AreMeasures : Params → List (FactorKey × Holding) → ClassAt → MeasureMargins → Type 0
-AreMeasures p factors at m = (measure : Measure) → (measure_in m measure).0 ≡ measure_at p factors at measure
+abbrev pub AreMeasures : Params → List (FactorKey × Holding) → ProductClass → RiskClass → MeasureMargins → Type 0
+AreMeasures p factors product class m = (measure : Measure) → (measure_in m measure).0 ≡ measure_at p factors product class measure
 
 -- a margin of at most so many cents
 pub record IsWithin (most : ℕ) (margin : ℤ) : Type 0 where

@@ -3,10 +3,10 @@ use Rattle.std.specs.Prelude.{ℕ, List}
 use Rattle.kept_buckets.specs.SimmKinds.declared.key.FactorKey.{FactorKey}
 use Rattle.kept_buckets.specs.SimmRules.Params.{Params}
 use Rattle.kept_buckets.specs.FactorBook.declared.holding.Holding.{Holding}
-pub use Rattle.class_margin.specs.value.Counts.{count_at}
+use Rattle.class_margin.specs.value.Place.{count_of}
 use Rattle.kept_buckets.specs.Dirty.{steps_left}
 use Rattle.kept_buckets.specs.Kept.{Kept}
 
 -- n * n for each value of a place of n of the rule's factors
 abbrev pub steps_due : Params → Kept → List (FactorKey × Holding) → ℕ
-steps_due p kept factors = steps_left (count_at p) kept factors
+steps_due p kept factors = steps_left (count_of p) kept factors

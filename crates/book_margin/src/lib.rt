@@ -1,26 +1,27 @@
-//! The margin of a whole book in range, by the factors that its rows net to: product class after product class, risk class
-//! after risk class, then all together, with the additional margins. What is kept of the book's buckets and classes is taken as it
-//! is, and what is not is worked out and kept.
+//! The margin of a whole book in range, by the factors that its rows net to: product class after
+//! product class, risk class after risk class, then all together, with the additional margins.
+//! What is kept of the book's places and classes is taken as it is, and what is not is worked out
+//! and kept.
 //! (ISDA SIMM methodology, structure of the methodology.)
 #![tactic(auto)]
 
 mod both_breakdowns;
-mod bucket;
-mod buckets;
 mod class;
-mod kept_measures;
 mod laws;
 mod margin;
+mod measured;
 mod measures;
 mod renewal;
+mod value;
+mod values;
 
 pub use both_breakdowns::BothBreakdowns;
-pub use kept_measures::measure_margins;
 pub use laws::{
     class_margin_hangs_on_its_factors, kept_values_are_from_scratch, nothing_is_right,
     touched_stays_right,
 };
 pub use margin::{KeptMargin, margin_in_range, margin_over_kept};
+pub use measured::measure_margins;
 pub use measures::MeasureMargins;
 pub use renewal::renew;
 

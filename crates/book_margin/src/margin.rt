@@ -31,15 +31,16 @@ use std::sync::ledger::{Blank, Ledger};
 /// The margin of a book, and what it was worked out from.
 #[derive(Drop)]
 pub struct KeptMargin {
-    /// The value of each bucket that has a factor, and the margin of each risk class.
+    /// The value of each place that has a factor, and the margin of each risk class.
     pub kept: KeptBuckets,
     /// The margin with all of its parts.
     pub margin: Breakdown,
 }
 
-/// The margin of a book in range, by the factors that its rows net to, the sums of its add-ons and its parameters, the rows of the
-/// trade without a name: the product classes, each of its risk classes, and the additional margins. Each amount is in cents. What
-/// it was worked out from is kept beside it. Want of memory is the only error.
+/// The margin of a book in range, by the factors that its rows net to, the sums of its add-ons and
+/// its parameters, the rows of the trade without a name: the product classes, each of its risk
+/// classes, and the additional margins. Each amount is in cents. What it was worked out from is
+/// kept beside it. Want of memory is the only error.
 pub fn margin_in_range(
     alloc: Global,
     params: &Params,
@@ -49,7 +50,9 @@ pub fn margin_in_range(
 ) -> Result<KeptMargin, AllocError>
     requires book { IsMarginable params.now factors.now }
     requires add_ons { AreOfBook sums.now parameters.now }
-    ensures value { (held : List Row) → factors.now ≡ factors_of held → StandFor sums.now parameters.now held → IfOk result (λ m. m.margin ≡ simm params.now held) }
+    ensures value { (held : List Row) → factors.now ≡ factors_of held
+        → StandFor sums.now parameters.now held
+        → IfOk result (λ m. m.margin ≡ simm params.now held) }
     ensures total { IfOk result (λ m. IsTotal m.margin.total.0) }
     ensures margins { IfOk result (λ m. HasProductMargins m.margin) }
     ensures right { IfOk result (λ m. AreRight params.now factors.now m.kept) }
@@ -72,7 +75,9 @@ fn margin_counted<L: Ledger>(
     requires some { 0 < blank.parts }
     requires book { IsMarginable params.now factors.now }
     requires add_ons { AreOfBook sums.now parameters.now }
-    ensures value { (held : List Row) → factors.now ≡ factors_of held → StandFor sums.now parameters.now held → IfOk result (λ m. m.margin ≡ simm params.now held) }
+    ensures value { (held : List Row) → factors.now ≡ factors_of held
+        → StandFor sums.now parameters.now held
+        → IfOk result (λ m. m.margin ≡ simm params.now held) }
     ensures total { IfOk result (λ m. IsTotal m.margin.total.0) }
     ensures margins { IfOk result (λ m. HasProductMargins m.margin) }
     ensures right { IfOk result (λ m. AreRight params.now factors.now m.kept) }
@@ -90,9 +95,10 @@ fn margin_counted<L: Ledger>(
     })
 }
 
-/// The margins on both sides, the posted one as that of the negated book, over what is kept of the book, which is right: what is not
-/// kept is worked out and kept. The steps are at most those of the values that are not kept, for both sides together. For want of
-/// memory, the only error, what is kept is right still. Where the margin of each class is kept, no memory is taken and no step.
+/// The margins on both sides, the posted one as that of the negated book, over what is kept of the
+/// book, which is right: what is not kept is worked out and kept. The steps are at most those of
+/// the values that are not kept, for both sides together. For want of memory, the only error, what
+/// is kept is right still. Where the margin of each class is kept, no memory is taken and no step.
 pub fn margin_over_kept<L: Ledger>(
     alloc: Global,
     params: &Params,
@@ -105,7 +111,8 @@ pub fn margin_over_kept<L: Ledger>(
     requires book { IsMarginable params.now factors.now }
     requires add_ons { AreOfBook sums.now parameters.now }
     requires right { AreRight params.now factors.now kept.old }
-    ensures value { (held : List Row) (side : Side) → factors.now ≡ factors_of held → StandFor sums.now parameters.now held
+    ensures value { (held : List Row) (side : Side) → factors.now ≡ factors_of held
+        → StandFor sums.now parameters.now held
         → IfOk result (λ b. breakdown_on b side ≡ simm params.now (side_rows side held)) }
     ensures total { (side : Side) → IfOk result (λ b. IsTotal (breakdown_on b side).total.0) }
     ensures margins { (side : Side) → IfOk result (λ b. HasProductMargins (breakdown_on b side)) }
@@ -135,7 +142,8 @@ fn margin_on(
     requires add_ons { AreOfBook sums.now parameters.now }
     requires right { AreRight params.now factors.now kept.now }
     requires kept { AreMarginsKept kept.now }
-    ensures value { (held : List Row) → factors.now ≡ factors_of held → StandFor sums.now parameters.now held → result ≡ simm params.now (side_rows side held) }
+    ensures value { (held : List Row) → factors.now ≡ factors_of held
+        → StandFor sums.now parameters.now held → result ≡ simm params.now (side_rows side held) }
     ensures total { IsTotal result.total.0 }
     ensures margins { HasProductMargins result }
 {

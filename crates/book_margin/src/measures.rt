@@ -1,27 +1,27 @@
-//! The margins of the measures of one risk class in a product class, over the values of its buckets.
+//! The margins of the measures of one risk class in a product class, over the values of its places.
 ghost use Rattle.std.specs.Prelude.{◌≡◌, ◌^◌, List, IfOk, pos, ◌≤ℤ◌};
 ghost use Rattle.kept_buckets.specs.SimmKinds.declared.key.FactorKey.{FactorKey};
 ghost use Rattle.kept_buckets.specs.FactorBook.declared.holding.Holding.{Holding};
 ghost use Rattle.class_margin.specs.names_delta.Values.{nets_in};
 ghost use Rattle.class_margin.specs.BookRange.Bounded.{IsMarginable};
 ghost use Rattle.class_margin.specs.NegatedBook.Negated.{negated_factors};
-ghost use Rattle.class_margin.specs.delta.Delta.{AreDeltaParts, AreBookDeltas};
-ghost use Rattle.class_margin.specs.volatility.Curvature.{AreCurvatureParts, AreBookCurvatures};
-ghost use Rattle.book_margin.specs.Classes.{base_of, AreClassParts, AreBookParts};
+ghost use Rattle.class_margin.specs.value.Values.{AreBookValues, AreClassValues};
+ghost use Rattle.book_margin.specs.Classes.{base_of};
 ghost use Rattle.book_margin.specs.Measures.{AreMeasures, AreWithin, measure_in, measures_sum};
 
 use class_combine::simm_params::Params;
 use class_margin::negated_book::base_correlation_is_even;
 use class_margin::{
-    base_from, curvature_from, curvature_post, delta_and_vega_are_even, delta_from, vega_from,
+    base_margin, curvature_margin, delta_and_vega_are_even, delta_margin, posted_curvature_margin,
+    vega_margin,
 };
-use kept_buckets::factor_book::ClassAt;
+use kept_buckets::factor_book::PlaceValue;
 use kept_buckets::mh_units::Cents;
-use kept_buckets::simm_kinds::{BucketId, Measure, RiskClass};
-use kept_buckets::simm_rules::BucketMargin;
+use kept_buckets::simm_kinds::{Measure, ProductClass, RiskClass};
 use std::alloc::{AllocError, Global};
 
-/// The margins of the measures of a risk class in a product class, in cents: together they are the margin of the class.
+/// The margins of the measures of a risk class in a product class, in cents: together they are the
+/// margin of the class.
 #[derive(Clone, Copy)]
 pub struct MeasureMargins {
     /// That of delta.
@@ -56,26 +56,25 @@ impl MeasureMargins {
     }
 }
 
-/// Those over the values of the buckets of a class: in delta of all buckets that have a factor on that side among those of a book
-/// in range, base correlation's too; in vega and in curvature of all that have a volatility; each in order. Want of memory is the
-/// only error.
+/// Those over the values of all places of a class that have a factor in a book in range, as the
+/// margins of `class_margin` take them. Want of memory is the only error.
 pub fn measures_from(
     alloc: Global,
     params: &Params,
-    at: ClassAt,
-    deltas: &[(BucketId, BucketMargin)],
-    vegas: &[(BucketId, BucketMargin)],
-    curvatures: &[(BucketId, BucketMargin)],
+    product: ProductClass,
+    class: RiskClass,
+    values: &[PlaceValue],
 ) -> Result<MeasureMargins, AllocError>
-    requires { AreBookParts params.now at deltas.now vegas.now curvatures.now }
-    ensures measures { (factors : List (FactorKey × Holding)) → IsMarginable params.now factors → AreClassParts params.now at factors deltas.now vegas.now curvatures.now
-        → IfOk result (AreMeasures params.now factors at) }
+    requires { AreBookValues params.now product class values.now }
+    ensures measures { (factors : List (FactorKey × Holding)) → IsMarginable params.now factors
+        → AreClassValues params.now product class factors values.now
+        → IfOk result (AreMeasures params.now factors product class) }
     ensures within { IfOk result AreWithin }
 {
-    let delta = delta_from(alloc, params, at, deltas)?;
-    let vega = vega_from(alloc, params, at, vegas)?;
-    let curvature = curvature_from(alloc, params, at, curvatures)?;
-    let base = base_part(params, at, deltas);
+    let delta = delta_margin(alloc, params, product, class, values)?;
+    let vega = vega_margin(alloc, params, product, class, values)?;
+    let curvature = curvature_margin(alloc, params, product, class, values)?;
+    let base = base_part(alloc, params, product, class, values)?;
     Ok(MeasureMargins {
         delta,
         vega,
@@ -84,24 +83,27 @@ pub fn measures_from(
     })
 }
 
-/// Those of the negated book, from those of the book: curvature alone differs, over the same values of buckets. Want of memory is the
-/// only error.
+/// Those of the negated book, from those of the book: curvature alone differs, over the same
+/// values of places. Want of memory is the only error.
 pub fn posted(
     alloc: Global,
     params: &Params,
-    at: ClassAt,
+    product: ProductClass,
+    class: RiskClass,
     measures: MeasureMargins,
-    curvatures: &[(BucketId, BucketMargin)],
+    values: &[PlaceValue],
 ) -> Result<MeasureMargins, AllocError>
-    requires parts { AreBookCurvatures params.now at curvatures.now }
+    requires values { AreBookValues params.now product class values.now }
     requires within { AreWithin measures }
-    ensures measures { (factors : List (FactorKey × Holding)) → IsMarginable params.now factors → AreCurvatureParts params.now at factors curvatures.now
-        → AreMeasures params.now factors at measures → IfOk result (AreMeasures params.now (negated_factors factors) at) }
+    ensures measures { (factors : List (FactorKey × Holding)) → IsMarginable params.now factors
+        → AreClassValues params.now product class factors values.now
+        → AreMeasures params.now factors product class measures
+        → IfOk result (AreMeasures params.now (negated_factors factors) product class) }
     ensures within { IfOk result AreWithin }
 {
     delta_and_vega_are_even();
     base_correlation_is_even();
-    let curvature = curvature_post(alloc, params, at, curvatures)?;
+    let curvature = posted_curvature_margin(alloc, params, product, class, values)?;
     Ok(MeasureMargins {
         curvature,
         ..measures
@@ -109,19 +111,26 @@ pub fn posted(
 }
 
 // The part of base correlation, which is margined in credit that qualifies alone.
-fn base_part(params: &Params, at: ClassAt, parts: &[(BucketId, BucketMargin)]) -> Cents
-    requires { AreBookDeltas params.now at parts.now }
-    ensures value { (factors : List (FactorKey × Holding)) → IsMarginable params.now factors → AreDeltaParts params.now at factors parts.now
-        → result.0 ≡ base_of params.now (nets_in at.product factors) at.class }
-    ensures low { pos 0 ≤ℤ result.0 }
-    ensures size { result.0 ≤ℤ pos (10 ^ 14) }
+fn base_part(
+    alloc: Global,
+    params: &Params,
+    product: ProductClass,
+    class: RiskClass,
+    values: &[PlaceValue],
+) -> Result<Cents, AllocError>
+    requires { AreBookValues params.now product class values.now }
+    ensures value { (factors : List (FactorKey × Holding)) → IsMarginable params.now factors
+        → AreClassValues params.now product class factors values.now
+        → IfOk result (λ m. m.0 ≡ base_of params.now (nets_in product factors) class) }
+    ensures low { IfOk result (λ m. pos 0 ≤ℤ m.0) }
+    ensures size { IfOk result (λ m. m.0 ≤ℤ pos (10 ^ 14)) }
 {
-    match at.class {
-        RiskClass::CreditQ => base_from(params, at, parts),
+    match class {
+        RiskClass::CreditQ => base_margin(alloc, params, product, values),
         RiskClass::IR
         | RiskClass::CreditNonQ
         | RiskClass::Equity
         | RiskClass::Commodity
-        | RiskClass::FX => Cents(0),
+        | RiskClass::FX => Ok(Cents(0)),
     }
 }

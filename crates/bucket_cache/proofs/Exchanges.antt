@@ -136,7 +136,7 @@ same_touched test {xs = xs} {ys = ys} h =
 pub same_forgotten : {xs ys : List CrifRow} (old new : Kept) → IsPermutation xs ys → Forgets xs old new → Forgets ys old new
 same_forgotten old new h f = record {
   values = λ place. f.values place ∙ ap (λ b. if b then None else value_at old place) (same_touched (stands_at place) h);
-  margins = λ at. f.margins at ∙ ap (λ b. if b then None else margin_at old at) (same_touched (is_of_class at) h);
+  margins = λ c k. f.margins c k ∙ ap (λ b. if b then None else margin_at old c k) (same_touched (is_of_class c k) h);
 }
 
 same_elsewhere : {xs ys : List CrifRow} (f g : List (FactorKey × Holding)) → IsPermutation xs ys → SameElsewhere xs f g → SameElsewhere ys f g

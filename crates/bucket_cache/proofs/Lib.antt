@@ -19,3 +19,4 @@ pub mod Copies
 pub mod Working
 pub mod Gone
 pub use Rattle.book_margin.proofs.ClassMargin as ClassMargin
+pub use Rattle.book_margin.proofs.FactorBook as FactorBook

@@ -12,7 +12,11 @@ use Rattle.book_margin.specs.SimmRules.declared.values.RangeKind.{RangeKind}
 use Rattle.book_margin.specs.SimmRules.declared.values.RangeKind.TheVariants as range_kind
 use Rattle.book_margin.specs.SimmRules.Params.{Params, CreditBucket, PricedBucket}
 use Rattle.book_margin.specs.SimmRules.Sums.{total_by, first_some}
-use Rattle.book_margin.specs.SimmRules.Risks.{CreditClass, Qualifying, Non_qualifying, PricedClass, Equities, Commodities, CreditPoint, select}
+use Rattle.book_margin.specs.SimmRules.Risks.{CreditPoint, select}
+use Rattle.book_margin.specs.SimmRules.declared.classes.CreditClass.{CreditClass}
+use Rattle.book_margin.specs.SimmRules.declared.classes.CreditClass.TheVariants.{Qualifying, NonQualifying}
+use Rattle.book_margin.specs.SimmRules.declared.classes.PricedClass.{PricedClass}
+use Rattle.book_margin.specs.SimmRules.declared.classes.PricedClass.TheVariants.{Equities, Commodities}
 use Rattle.book_margin.specs.SimmRules.Credit.{as_credit, as_credit_volatility, credit_params}
 use Rattle.book_margin.specs.SimmRules.Priced.{NameVolatility, as_price, as_price_volatility, priced_params}
 use Rattle.book_margin.specs.SimmRules.Simm.{products, classes}
@@ -84,7 +88,7 @@ module _ (p : Params) where
   delta_sizes : (c : RiskClass) → delta_size p [] c ≡ pos 0
   delta_sizes class.IR = refl
   delta_sizes class.CreditQ = ap (λ z. z +ℤ pos 0) (credit_sizes Qualifying)
-  delta_sizes class.CreditNonQ = credit_sizes Non_qualifying
+  delta_sizes class.CreditNonQ = credit_sizes NonQualifying
   delta_sizes class.Equity = price_sizes Equities
   delta_sizes class.Commodity = price_sizes Commodities
   delta_sizes class.FX = refl
@@ -92,7 +96,7 @@ module _ (p : Params) where
   vega_sizes : (c : RiskClass) → vega_size p [] c ≡ pos 0
   vega_sizes class.IR = refl
   vega_sizes class.CreditQ = credit_volatility_sizes Qualifying
-  vega_sizes class.CreditNonQ = credit_volatility_sizes Non_qualifying
+  vega_sizes class.CreditNonQ = credit_volatility_sizes NonQualifying
   vega_sizes class.Equity = price_volatility_sizes Equities
   vega_sizes class.Commodity = price_volatility_sizes Commodities
   vega_sizes class.FX = refl

@@ -1,8 +1,7 @@
 -- The book of a live margin under other parameters.
-use Rattle.std.proofs.Common.{◌≡◌, ℕ, ◌+◌, ◌^◌, ◌<◌, ◌≤◌, List, [], ◌∷◌, ◌++◌, length, Option, Some, None, is_some, true, refl, sym, ap, ◌∙◌, subst, arith, append_assoc, append-nil}
+use Rattle.std.proofs.Common.{◌≡◌, ℕ, ◌+◌, ◌^◌, ◌<◌, ◌≤◌, List, [], ◌∷◌, ◌++◌, length, Option, Some, None, true, refl, sym, ap, ◌∙◌, subst, arith, append_assoc, append-nil}
 use Rattle.std.specs.List.{list_all, flat_map}
 use Rattle.std.specs.Map.{values_of}
-use Rattle.std.proofs.lemmas.Bool.{false≢true}
 use Rattle.std.proofs.lemmas.List.{length-append, length-map}
 use Rattle.book_margin.specs.SimmKinds.declared.row.CrifRow.{CrifRow}
 use Rattle.book_margin.specs.SimmKinds.declared.row.TradeRows.{TradeRows}
@@ -10,11 +9,9 @@ use Rattle.book_margin.specs.SimmKinds.Batch.{rows_of, is_in_range}
 use Rattle.book_margin.specs.SimmRules.Params.{Params}
 use Rattle.book_margin.specs.SimmRules.Range.{range}
 use Rattle.book_margin.specs.FactorBook.Factors.{factors_of}
-use Rattle.book_margin.specs.FactorBook.declared.place.Place.{Place}
 use Rattle.book_margin.specs.BookRange.declared.sizes.GrossSizes.{GrossSizes}
 use Rattle.book_margin.specs.BookRange.Faults.{AreOf}
 use Rattle.book_margin.specs.BookRange.Sizes.{sizes_in, HasSizeRoom}
-use Rattle.book_margin.specs.KeptBuckets.Kept.{Kept, value_at}
 use Rattle.bucket_cache.specs.declared.place.RowPlace.{RowPlace}
 use Rattle.bucket_cache.specs.declared.sums.Sums.{Sums}
 use Rattle.bucket_cache.specs.Entries.{trade_of, trades_of}
@@ -25,7 +22,6 @@ use Rattle.bucket_cache.proofs.Gaining.{each_pass}
 use Rattle.bucket_cache.proofs.Keeping.{Entries}
 use Rattle.bucket_cache.proofs.Ranges.{few_rows}
 use Rattle.bucket_cache.proofs.Sizes.{few_trades}
-use Rattle.bucket_cache.proofs.Standing.{none_kept}
 
 -- ---- the rows of each trade, as a map has them
 
@@ -156,6 +152,3 @@ are_of p us sums live summed = record {
 pub summed_under : (p q : Params) (rows : List CrifRow) (sums : Sums) (sizes : GrossSizes) → sums ≡ book_sums p rows → sizes ≡ sizes_in q (factors_of rows) → record sums { sizes = sizes } ≡ book_sums q rows
 summed_under p q rows sums sizes summed weighed =
     λ i. record { rows = (summed i).rows; factors = (summed i).factors; sizes = weighed i; add_ons = (summed i).add_ons }
-
-pub none_valued : (kept : Kept) → ((place : Place) → value_at kept place ≡ None) → kept.values ≡ []
-none_valued kept none = none_kept kept (λ place some. false≢true (sym (ap is_some (none place)) ∙ some))

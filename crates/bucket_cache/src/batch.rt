@@ -13,13 +13,15 @@ use book_margin::simm_params::Params;
 use book_margin::simm_rules::Breakdown;
 use std::alloc::Global;
 
-/// The margin of a batch alone, with all of its parts: what a live margin without trades would answer once it took the batch in.
-/// No row is copied, and the rows net once, for the range and for the margin.
+/// The margin of a batch alone, with all of its parts: what a live margin without trades would
+/// answer once it took the batch in. No row is copied, and the rows net once, for the range and
+/// for the margin.
 ///
 /// # Errors
 ///
-/// `BucketUnknown` exactly where a row is not admitted, with the place of the first such row; then `Range` exactly where the
-/// batch is out of range, with the first quantity that is above its limit; and `Memory` for want of memory.
+/// `BucketUnknown` exactly where a row is not admitted, with the place of the first such row; then
+/// `Range` exactly where the batch is out of range, with the first quantity that is above its
+/// limit; and `Memory` for want of memory.
 pub fn batch_margin(
     alloc: Global,
     params: &Params,

@@ -6,8 +6,8 @@ use book_margin::simm_kinds::Name;
 use indexmap::IndexMap;
 use std::alloc::{AllocError, Global};
 
-/// The same trades, in the same order. No row is copied, and memory is asked for once for all of them, and for a name that takes
-/// some. The only error is want of memory.
+/// The same trades, in the same order. No row is copied, and memory is asked for once for all of
+/// them, and for a name that takes some. The only error is want of memory.
 pub fn copy_trades(
     alloc: Global,
     current: &IndexMap<Name, HeldRows>,

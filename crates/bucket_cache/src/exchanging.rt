@@ -1,5 +1,5 @@
-//! What a batch makes of the sums of a book: its rows come, those that it replaces go, and the book is in range afterwards; or
-//! nothing changes. No other row is looked at.
+//! What a batch makes of the sums of a book: its rows come, those that it replaces go, and the
+//! book is in range afterwards; or nothing changes. No other row is looked at.
 ghost use Rattle.std.specs.Prelude.{◌≡◌, ◌++◌, List, None, IfOk, OnErr, OnSome, IfNone};
 ghost use Rattle.book_margin.specs.SimmKinds.declared.row.CrifRow.{CrifRow as Row};
 ghost use Rattle.book_margin.specs.SimmKinds.Batch.{rows_of};
@@ -20,8 +20,8 @@ use book_margin::simm_params::Params;
 use book_margin::simm_rules::RangeFault;
 use std::alloc::{AllocError, Global};
 
-/// The rows of the batch come, and those of `gone` go. Where the book would be out of range then, the first quantity that is
-/// above its limit is answered, and nothing changes.
+/// The rows of the batch come, and those of `gone` go. Where the book would be out of range then,
+/// the first quantity that is above its limit is answered, and nothing changes.
 ///
 /// # Errors
 ///
@@ -35,10 +35,13 @@ pub fn exchange(
     gone: &[LentRows],
 ) -> Result<Option<RangeFault>, AllocError>
     requires batch { all_rows came.now ≡ rows_of batch.now }
-    requires book { (held : List Row) × IsExchange params.now sums.old (all_rows came.now) (all_rows gone.now) held }
-    ensures range { (held : List Row) → IsExchange params.now sums.old (all_rows came.now) (all_rows gone.now) held
+    requires book { (held : List Row)
+        × IsExchange params.now sums.old (all_rows came.now) (all_rows gone.now) held }
+    ensures range { (held : List Row)
+        → IsExchange params.now sums.old (all_rows came.now) (all_rows gone.now) held
         → IfOk result (λ fault. fault ≡ range params.now held) }
-    ensures sums { (held : List Row) → IsExchange params.now sums.old (all_rows came.now) (all_rows gone.now) held
+    ensures sums { (held : List Row)
+        → IsExchange params.now sums.old (all_rows came.now) (all_rows gone.now) held
         → IfOk result (λ fault. IfNone fault (sums.new ≡ book_sums params.now held)) }
     ensures refused { IfOk result (λ fault. OnSome fault (sums.new ≡ sums.old)) }
     ensures unchanged { OnErr result (sums.new ≡ sums.old) }
@@ -59,7 +62,8 @@ pub fn exchange(
     }
 }
 
-// The first quantity that is above its limit once the rows of `gone` go, whose factors are `leaving`.
+// The first quantity that is above its limit once the rows of `gone` go, whose factors
+// are `leaving`.
 fn fault_without(
     params: &Params,
     sums: &Sums,
@@ -67,8 +71,11 @@ fn fault_without(
     batch: &[TradeRows],
     gone: &[LentRows],
 ) -> Option<RangeFault>
-    requires { (held : List Row) × IsNetted params.now sums.now leaving.now (rows_of batch.now) (all_rows gone.now) held }
-    ensures { (held : List Row) → IsNetted params.now sums.now leaving.now (rows_of batch.now) (all_rows gone.now) held → result ≡ range params.now held }
+    requires { (held : List Row)
+        × IsNetted params.now sums.now leaving.now (rows_of batch.now) (all_rows gone.now) held }
+    ensures { (held : List Row)
+        → IsNetted params.now sums.now leaving.now (rows_of batch.now) (all_rows gone.now) held
+        → result ≡ range params.now held }
 {
     let rows = sums.rows - count_rows(gone);
     let sizes = sizes_without(params, sums.sizes, gone);
@@ -78,7 +85,9 @@ fn fault_without(
 // The sizes once the rows of `gone` go.
 fn sizes_without(params: &Params, sizes: GrossSizes, gone: &[LentRows]) -> GrossSizes
     requires { AreWeighed params.now sizes (all_rows gone.now) }
-    ensures { (held : List Row) → sizes ≡ sizes_in params.now (factors_of (held ++ all_rows gone.now)) → result ≡ sizes_in params.now (factors_of held) }
+    ensures { (held : List Row)
+        → sizes ≡ sizes_in params.now (factors_of (held ++ all_rows gone.now))
+        → result ≡ sizes_in params.now (factors_of held) }
 {
     let mut left = sizes;
     for trade in gone {

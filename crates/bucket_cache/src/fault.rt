@@ -8,14 +8,16 @@ use std::alloc::AllocError;
 /// Why a book is not taken: a batch would come to it, or it would stand under other tables.
 #[derive(Clone, Copy)]
 pub enum BookFault {
-    /// The tables don't list the bucket of this row, which is the first such row of the batch, or under other tables of the book.
+    /// The tables don't list the bucket of this row, which is the first such row of the batch, or
+    /// under other tables of the book.
     BucketUnknown {
         /// The place of the row's trade in the batch or the book, from 1.
         trade: u32,
         /// The place of the row in its trade, from 1.
         row: u32,
     },
-    /// All rows are admitted, and the book would be out of range: the first quantity that is above its limit.
+    /// All rows are admitted, and the book would be out of range: the first quantity that is above
+    /// its limit.
     Range(RangeFault),
     /// There is not enough memory.
     Memory,

@@ -1,4 +1,5 @@
-//! What a batch comes to that is a book of its own: its factors, the sums of its add-ons, the values of its buckets, its margin.
+//! What a batch comes to that is a book of its own: its factors, the sums of its add-ons, the
+//! values of its buckets, its margin.
 ghost use Rattle.std.specs.Prelude.{◌≡◌, ℕ, [], None, Some, Err, IfOk, OnOk};
 ghost use Rattle.book_margin.specs.SimmKinds.Batch.{IsBatch, rows_of};
 ghost use Rattle.book_margin.specs.SimmRules.declared.values.RangeFault.{RangeFault as Fault};
@@ -33,13 +34,15 @@ pub struct BatchFigures {
     pub margin: Breakdown,
 }
 
-/// What a batch alone comes to, with its margin: what a live margin without trades would answer once it took the batch in. No row
-/// is copied, and the rows net once, for the range and for the margin.
+/// What a batch alone comes to, with its margin: what a live margin without trades would answer
+/// once it took the batch in. No row is copied, and the rows net once, for the range and for
+/// the margin.
 ///
 /// # Errors
 ///
-/// `BucketUnknown` exactly where a row is not admitted, with the place of the first such row; then `Range` exactly where the
-/// batch is out of range, with the first quantity that is above its limit; and `Memory` for want of memory.
+/// `BucketUnknown` exactly where a row is not admitted, with the place of the first such row; then
+/// `Range` exactly where the batch is out of range, with the first quantity that is above its
+/// limit; and `Memory` for want of memory.
 pub fn batch_figures(
     alloc: Global,
     params: &Params,
@@ -80,8 +83,8 @@ pub fn batch_figures(
     })
 }
 
-/// The parameters of a batch: the rows of the trade without a name, which has all of them; none where there is no such trade. It
-/// takes no memory.
+/// The parameters of a batch: the rows of the trade without a name, which has all of them; none
+/// where there is no such trade. It takes no memory.
 pub fn batch_parameters(trades: &[TradeRows]) -> &[CrifRow]
     ensures { result.now ≡ rows_in trades.now [] }
 {

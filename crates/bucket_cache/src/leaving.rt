@@ -23,8 +23,8 @@ use indexmap::IndexMap;
 use std::alloc::{AllocError, Global};
 use std::sync::ledger::Ledger;
 
-/// The total of their collected margin without the trade of this name. Its rows go from the sums and come back, and of what is kept a copy is
-/// worked on.
+/// The total of their collected margin without the trade of this name. Its rows go from the sums
+/// and come back, and of what is kept a copy is worked on.
 ///
 /// # Errors
 ///
@@ -39,7 +39,8 @@ pub fn total_without<L: Ledger>(
     steps: &mut Steps<L>,
 ) -> Result<Cents, AllocError>
     requires { IsSummed params.now (trades_of current.now.entries) sums.old kept.now }
-    ensures total { IfOk result (λ total. total ≡ total_without params.now (trades_of current.now.entries) name.now) }
+    ensures total { IfOk result (λ total.
+        total ≡ total_without params.now (trades_of current.now.entries) name.now) }
     ensures back { OnOk result (sums.new ≡ sums.old) }
     ensures steps { OnOk result (steps.new ≤ steps.old
         + steps_without params.now kept.now (trades_of current.now.entries) name.now) }
@@ -56,7 +57,8 @@ pub fn total_without<L: Ledger>(
     Ok(margins.collect.total)
 }
 
-// The parameters of their add-ons without the trade of this name: the rows of the trade that has none.
+// The parameters of their add-ons without the trade of this name: the rows of the trade that
+// has none.
 fn parameters_without<'a>(
     alloc: Global,
     current: &'a IndexMap<Name, HeldRows>,

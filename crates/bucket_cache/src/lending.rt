@@ -22,13 +22,15 @@ pub fn lend_batch(alloc: Global, batch: &[TradeRows]) -> Result<Vec<LentRows<'_>
     Ok(lent)
 }
 
-/// The rows that the current trades have which a batch names, in the batch's order; of a trade that is not current none.
+/// The rows that the current trades have which a batch names, in the batch's order; of a trade
+/// that is not current none.
 pub fn lend_replaced<'a>(
     alloc: Global,
     current: &'a IndexMap<Name, HeldRows>,
     batch: &[TradeRows],
 ) -> Result<Vec<LentRows<'a>>, AllocError>
-    ensures { IfOk result (λ lent. lent_lists lent.items ≡ map (λ t. rows_in (trades_of current.now.entries) t.trade) batch.now) }
+    ensures { IfOk result (λ lent. lent_lists lent.items
+        ≡ map (λ t. rows_in (trades_of current.now.entries) t.trade) batch.now) }
 {
     let mut lent = Vec::with_capacity(alloc, batch.len())?;
     for trade in batch {
@@ -39,13 +41,15 @@ pub fn lend_replaced<'a>(
     Ok(lent)
 }
 
-/// The rows that the current trades of these names have, in the names' order; of a trade that is not current none.
+/// The rows that the current trades of these names have, in the names' order; of a trade that is
+/// not current none.
 pub fn lend_named<'a>(
     alloc: Global,
     current: &'a IndexMap<Name, HeldRows>,
     names: &[&Name],
 ) -> Result<Vec<LentRows<'a>>, AllocError>
-    ensures { IfOk result (λ lent. lent_lists lent.items ≡ map (λ name. rows_in (trades_of current.now.entries) name.now) names.now) }
+    ensures { IfOk result (λ lent. lent_lists lent.items
+        ≡ map (λ name. rows_in (trades_of current.now.entries) name.now) names.now) }
 {
     let mut lent = Vec::with_capacity(alloc, names.len())?;
     for name in names {

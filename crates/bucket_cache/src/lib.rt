@@ -1,5 +1,5 @@
-//! The live margin of a netting set: the current trades, changed a batch or a withdrawal at a time, and their margin by tables that
-//! can be replaced.
+//! The live margin of a netting set: the current trades, changed a batch or a withdrawal at a
+//! time, and their margin by tables that can be replaced.
 #![tactic(auto)]
 
 mod admitting;

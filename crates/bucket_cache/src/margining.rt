@@ -20,8 +20,9 @@ use book_margin::{BothBreakdowns, margin_over_kept};
 use std::alloc::{AllocError, Global};
 use std::sync::ledger::Ledger;
 
-/// The margins of a book in range on both sides, by the sums of its rows and its parameters, the rows of the trade without a name.
-/// What of its buckets and classes is not kept is worked out, and kept. Each total is from 0 to below 10^21 cents.
+/// The margins of a book in range on both sides, by the sums of its rows and its parameters, the
+/// rows of the trade without a name. What of its buckets and classes is not kept is worked out,
+/// and kept. Each total is from 0 to below 10^21 cents.
 ///
 /// # Errors
 ///
@@ -36,7 +37,8 @@ pub fn margin_of<L: Ledger>(
 ) -> Result<BothBreakdowns, AllocError>
     requires book { (held : List Row) × IsMarginBook params.now sums.now parameters.now held }
     requires right { AreRight params.now sums.now.factors kept.old }
-    ensures value { (held : List Row) (side : Side) → IsMarginBook params.now sums.now parameters.now held
+    ensures value { (held : List Row) (side : Side)
+        → IsMarginBook params.now sums.now parameters.now held
         → IfOk result (λ b. breakdown_on b side ≡ simm params.now (side_rows side held)) }
     ensures total { (side : Side) → IfOk result (λ b. IsTotal (breakdown_on b side).total.0) }
     ensures renewed { Renews params.now sums.now.factors kept.old kept.new }

@@ -24,8 +24,9 @@ use book_margin::touched_stays_right;
 use indexmap::IndexMap;
 use std::alloc::{AllocError, Global};
 
-/// The rows of a batch come to a book, and those of the trades that it replaces go. Where the book would be out of range then, the
-/// first quantity that is above its limit is answered, and nothing changes. No other row is looked at.
+/// The rows of a batch come to a book, and those of the trades that it replaces go. Where the book
+/// would be out of range then, the first quantity that is above its limit is answered, and nothing
+/// changes. No other row is looked at.
 ///
 /// # Errors
 ///
@@ -40,9 +41,11 @@ pub fn take_in(
 ) -> Result<Option<RangeFault>, AllocError>
     requires batch { IsBatch batch.now }
     requires book { IsSummed params.now (trades_of current.now.entries) sums.old kept.old }
-    ensures range { IfOk result (λ fault. fault ≡ range params.now (rows_of (put_trades batch.now (trades_of current.now.entries)))) }
-    ensures moved { let book = trades_of current.now.entries in
-        IfOk result (λ fault. IfNone fault (IsMoved params.now (rows_of book) (rows_of (put_trades batch.now book)) (rows_moved batch.now book) kept.old sums.new kept.new)) }
+    ensures range { IfOk result (λ fault. fault
+        ≡ range params.now (rows_of (put_trades batch.now (trades_of current.now.entries)))) }
+    ensures moved { let book = trades_of current.now.entries in IfOk result (λ fault.
+        IfNone fault (IsMoved params.now (rows_of book) (rows_of (put_trades batch.now book))
+        (rows_moved batch.now book) kept.old sums.new kept.new)) }
     ensures refused_sums { IfOk result (λ fault. OnSome fault (sums.new ≡ sums.old)) }
     ensures refused_kept { IfOk result (λ fault. OnSome fault (kept.new ≡ kept.old)) }
     ensures unchanged_sums { OnErr result (sums.new ≡ sums.old) }
@@ -67,8 +70,8 @@ pub fn take_in(
     Ok(None)
 }
 
-/// The rows of the trades that these different names name go from a book. For want of memory, the only error, nothing changes. No
-/// other row is looked at.
+/// The rows of the trades that these different names name go from a book. For want of memory, the
+/// only error, nothing changes. No other row is looked at.
 pub fn take_out(
     alloc: Global,
     params: &Params,
@@ -79,9 +82,9 @@ pub fn take_out(
 ) -> Result<(), AllocError>
     requires different { repeats same_name (lent_names names.now) ≡ false }
     requires book { IsSummed params.now (trades_of current.now.entries) sums.old kept.old }
-    ensures moved { let book = trades_of current.now.entries in
-        let its = lent_names names.now in
-        OnOk result (IsMoved params.now (rows_of book) (rows_of (without its book)) (rows_of (named its book)) kept.old sums.new kept.new) }
+    ensures moved { let book = trades_of current.now.entries in let its = lent_names names.now in
+        OnOk result (IsMoved params.now (rows_of book) (rows_of (without its book))
+        (rows_of (named its book)) kept.old sums.new kept.new) }
     ensures unchanged_sums { OnErr result (sums.new ≡ sums.old) }
     ensures unchanged_kept { OnErr result (kept.new ≡ kept.old) }
 {

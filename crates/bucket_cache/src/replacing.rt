@@ -1,5 +1,5 @@
-//! The current trades under other parameters: the first row that these don't admit, and the gross sizes of all rows. Neither takes
-//! memory.
+//! The current trades under other parameters: the first row that these don't admit, and the gross
+//! sizes of all rows. Neither takes memory.
 ghost use Rattle.std.specs.Prelude.{◌≡◌};
 ghost use Rattle.book_margin.specs.SimmKinds.Batch.{rows_of};
 ghost use Rattle.book_margin.specs.SimmRules.Params.{Params as Rules};

@@ -11,8 +11,9 @@ use book_margin::simm_kinds::CrifRow;
 use book_margin::simm_params::Params;
 use std::alloc::{AllocError, Global};
 
-/// What the range and the margin of a book are worked out from: how many rows it has, their factors, their gross sizes and the
-/// sums of their add-ons. A row that comes or goes costs the logarithm of the number of keys.
+/// What the range and the margin of a book are worked out from: how many rows it has, their
+/// factors, their gross sizes and the sums of their add-ons. A row that comes or goes costs the
+/// logarithm of the number of keys.
 #[derive(Drop)]
 pub struct Sums {
     /// How many rows there are.
@@ -64,7 +65,8 @@ impl Sums {
         lent: &[LentRows],
     ) -> Result<(), AllocError>
         requires { HasRoom params.now self.old (all_rows lent.now) }
-        ensures ok { (held : List Row) → self.old ≡ book_sums params.now held → OnOk result (self.new ≡ book_sums params.now (held ++ all_rows lent.now)) }
+        ensures ok { (held : List Row) → self.old ≡ book_sums params.now held
+            → OnOk result (self.new ≡ book_sums params.now (held ++ all_rows lent.now)) }
         ensures err { OnErr result (self.new ≡ self.old) }
     {
         for (index, trade) in lent.iter().enumerate() {
@@ -79,7 +81,8 @@ impl Sums {
     /// Takes the rows of some trades, which are held. It takes no memory.
     pub fn take_lent(&mut self, params: &Params, lent: &[LentRows])
         requires { Holds params.now self.old (all_rows lent.now) }
-        ensures { (rest : List Row) → self.old ≡ book_sums params.now (rest ++ all_rows lent.now) → self.new ≡ book_sums params.now rest }
+        ensures { (rest : List Row) → self.old ≡ book_sums params.now (rest ++ all_rows lent.now)
+            → self.new ≡ book_sums params.now rest }
     {
         for trade in lent {
             self.take_rows(params, trade.rows);
@@ -94,7 +97,8 @@ impl Sums {
         rows: &[CrifRow],
     ) -> Result<(), AllocError>
         requires { HasRoom params.now self.old rows.now }
-        ensures ok { (held : List Row) → self.old ≡ book_sums params.now held → OnOk result (self.new ≡ book_sums params.now (held ++ rows.now)) }
+        ensures ok { (held : List Row) → self.old ≡ book_sums params.now held
+            → OnOk result (self.new ≡ book_sums params.now (held ++ rows.now)) }
         ensures err { OnErr result (self.new ≡ self.old) }
     {
         self.factors.add_rows(alloc, rows)?;
@@ -110,7 +114,9 @@ impl Sums {
     // Takes rows that are held.
     fn take_rows(&mut self, params: &Params, rows: &[CrifRow])
         requires { AreHeld params.now self.old rows.now }
-        ensures { (before after : List Row) → self.old ≡ book_sums params.now (before ++ rows.now ++ after) → self.new ≡ book_sums params.now (before ++ after) }
+        ensures { (before after : List Row)
+            → self.old ≡ book_sums params.now (before ++ rows.now ++ after)
+            → self.new ≡ book_sums params.now (before ++ after) }
     {
         self.factors.take_rows(rows);
         self.add_ons.take_rows(rows);

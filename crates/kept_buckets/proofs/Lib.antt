@@ -1,4 +1,4 @@
-pub mod Places
+pub mod Filed
 pub mod Touching
 pub mod Sums
 pub use Rattle.factor_book.proofs.SimmKinds as SimmKinds

@@ -9,22 +9,20 @@ use Rattle.std.proofs.lemmas.List.Sums.{sum_by-cons}
 use Rattle.factor_book.specs.SimmKinds.declared.key.FactorKey.{FactorKey}
 use Rattle.factor_book.specs.declared.holding.Holding.{Holding}
 use Rattle.factor_book.specs.declared.place.Place.{Place}
-use Rattle.factor_book.specs.declared.place.BookSide.{BookSide}
-use Rattle.factor_book.specs.declared.place.BookSide.TheVariants as side
-use Rattle.factor_book.specs.Place.{place_of, place_cmp}
-use Rattle.factor_book.specs.Places.{stands_at, factors_at, places_of, by_place}
+use Rattle.factor_book.specs.declared.place.Stand.{Stand}
+use Rattle.factor_book.specs.declared.place.Stand.TheVariants as stand
+use Rattle.factor_book.specs.declared.value.PlaceValue.{PlaceValue}
+use Rattle.factor_book.specs.Place.{place_of, place_cmp, same_place}
+use Rattle.factor_book.specs.Places.{Lent, stands_at, factors_at, lent_at, places_of, by_place}
+use Rattle.factor_book.specs.Value.{measures_of}
 use Rattle.factor_book.proofs.Grouping.{any_is, any-filter}
 use Rattle.factor_book.proofs.Sorting.{any_different, length-different}
 use Rattle.factor_book.proofs.Standing.{one_place, own_place, tied_place, at_place}
-use Rattle.kept_buckets.specs.declared.value.KeptValue.{KeptValue}
 use Rattle.kept_buckets.specs.Kept.{Kept, value_at, KeepsValue}
-use Rattle.kept_buckets.specs.Dirty.{Count, measures_of, dirty_at, dirty_in, steps_at, steps_left}
+use Rattle.kept_buckets.specs.Dirty.{Count, dirty_at, dirty_in, steps_at, steps_left}
 
 abbrev Factors : Type 0
 Factors = List (FactorKey × Holding)
-
-abbrev pub Standing : Type 0
-Standing = Place × Factors
 
 -- ---- sums over lists
 
@@ -52,23 +50,24 @@ sum_less_by {A = A} f g test w less here (x ∷ xs) any = by (test x) refl (sum_
 
 -- ---- how many values are not kept
 
-few_measures : (s : BookSide) → measures_of s ≤ 2
-few_measures side.Delta = omega arith
-few_measures side.Volatility = omega arith
+few_measures : (s : Stand) → measures_of s ≤ 2
+few_measures (stand.Delta slot) = omega arith
+few_measures stand.BaseCorrelation = omega arith
+few_measures (stand.Volatility slot) = omega arith
 
-few_dirty : (kept : Kept) (e : Standing) → dirty_at kept e.0 ≤ 2
-few_dirty kept e = by (is_some (value_at kept e.0))
+few_dirty : (kept : Kept) (lent : Lent) → dirty_at kept lent.place ≤ 2
+few_dirty kept lent = by (is_some (value_at kept lent.place))
   where
-    by : (t : Bool) → cond t 0 (measures_of e.0.side) ≤ 2
+    by : (t : Bool) → cond t 0 (measures_of (lent.place).stand) ≤ 2
     by true = omega arith
-    by false = few_measures e.0.side
+    by false = few_measures (lent.place).stand
 
 few_places : (fs : Factors) → length (by_place fs) ≤ length fs
 few_places fs =
-    omega (arith, length-map {B = Standing} (places_of fs) (λ place. (place, factors_at place fs)), length-different place_cmp (map (λ f. place_of f.0) fs), length-map fs (λ f. place_of f.0))
+    omega (arith, length-map (places_of fs) (lent_at fs), length-different place_cmp (map (λ f. place_of f.0) fs), length-map fs (λ f. place_of f.0))
 
 pub dirty_below : (kept : Kept) (fs : Factors) → length fs < 2 ^ 31 → dirty_in kept fs < 2 ^ 32
-dirty_below kept fs few = omega (arith, sum_small (λ e. dirty_at kept e.0) 2 (few_dirty kept) (by_place fs), few_places fs)
+dirty_below kept fs few = omega (arith, sum_small (λ (lent : Lent). dirty_at kept lent.place) 2 (few_dirty kept) (by_place fs), few_places fs)
 
 -- those of the places that a loop has gone over, and of those that are left
 module _ {A : Type 0} (f : A → ℕ) (total n m : ℕ) (left rest : List A) (x : A) (at : left ≡ x ∷ rest) (so_far : n + sum_by f left ≡ total) (its : m ≡ f x) where
@@ -104,8 +103,8 @@ place_there place fs some =
 
 -- ---- a value that is kept saves its steps
 
-module _ (old new : Kept) (place : Place) (value : KeptValue) (keeps : KeepsValue old new place value) where
-  kept_there : (o : Option KeptValue) (t : Bool) (n : ℕ) → cond (is_some (cond t (Some value) o)) 0 n ≤ cond (is_some o) 0 n
+module _ (old new : Kept) (place : Place) (value : PlaceValue) (keeps : KeepsValue old new place value) where
+  kept_there : (o : Option PlaceValue) (t : Bool) (n : ℕ) → cond (is_some (cond t (Some value) o)) 0 n ≤ cond (is_some o) 0 n
   kept_there (Some v) true n = le_refl 0
   kept_there (Some v) false n = le_refl 0
   kept_there None true n = omega arith
@@ -113,40 +112,40 @@ module _ (old new : Kept) (place : Place) (value : KeptValue) (keeps : KeepsValu
 
   pub no_dirtier : (other : Place) → dirty_at new other ≤ dirty_at old other
   no_dirtier other =
-      subst (λ (o : Option KeptValue). cond (is_some o) 0 (measures_of other.side) ≤ dirty_at old other) (sym (keeps.values other))
-      (kept_there (value_at old other) (is_at (place_cmp place) other) (measures_of other.side))
+      subst (λ (o : Option PlaceValue). cond (is_some o) 0 (measures_of other.stand) ≤ dirty_at old other) (sym (keeps.values other))
+      (kept_there (value_at old other) (same_place place other) (measures_of other.stand))
 
-  clean_there : is_at (place_cmp place) place ≡ true → dirty_at new place ≡ 0
-  clean_there own = ap (λ o. cond (is_some o) 0 (measures_of place.side)) (keeps.values place ∙ ap (λ t. cond t (Some value) (value_at old place)) own)
+  clean_there : same_place place place ≡ true → dirty_at new place ≡ 0
+  clean_there own = ap (λ o. cond (is_some o) 0 (measures_of place.stand)) (keeps.values place ∙ ap (λ t. cond t (Some value) (value_at old place)) own)
 
   module _ (count : Count) (fs : Factors) where
     abbrev pairs_at : Place → ℕ
-    pairs_at p = count p (factors_at p fs) * count p (factors_at p fs)
+    pairs_at p = count (lent_at fs p) * count (lent_at fs p)
 
-    less_at : (p : Place) → steps_at count new p (factors_at p fs) ≤ steps_at count old p (factors_at p fs)
+    less_at : (p : Place) → steps_at count new (lent_at fs p) ≤ steps_at count old (lent_at fs p)
     less_at p = mul-le-mul_right (pairs_at p) (no_dirtier p)
 
     abbrev saved : ℕ
-    saved = measures_of place.side * pairs_at place
+    saved = measures_of place.stand * pairs_at place
 
-    all_saved : value_at old place ≡ None → steps_at count new place (factors_at place fs) + saved ≤ steps_at count old place (factors_at place fs)
+    all_saved : value_at old place ≡ None → steps_at count new (lent_at fs place) + saved ≤ steps_at count old (lent_at fs place)
     all_saved none =
         let k = pairs_at place in
         let nothing : dirty_at new place * k ≡ 0 * k = ap (λ n. n * k) (clean_there (own_place place)) in
-        let all : dirty_at old place * k ≡ measures_of place.side * k = ap (λ o. cond (is_some o) 0 (measures_of place.side) * k) none in
+        let all : dirty_at old place * k ≡ measures_of place.stand * k = ap (λ o. cond (is_some o) 0 (measures_of place.stand) * k) none in
         omega (arith, nothing, all, zero-mul k)
 
     pub steps_saved : value_at old place ≡ None → factors_at place fs ≢ [] → steps_left count new fs + saved ≤ steps_left count old fs
     steps_saved none some =
-        let f = λ (p : Place). steps_at count old p (factors_at p fs) in
-        let g = λ (p : Place). steps_at count new p (factors_at p fs) in
+        let f = λ (p : Place). steps_at count old (lent_at fs p) in
+        let g = λ (p : Place). steps_at count new (lent_at fs p) in
         let less : sum_by g (places_of fs) + saved ≤ sum_by f (places_of fs) =
         sum_less_by f g (is_at (place_cmp place)) saved less_at
-        (λ p e. subst (λ q. steps_at count new q (factors_at q fs) + saved ≤ steps_at count old q (factors_at q fs)) (one_place place p e) (all_saved none))
+        (λ p e. subst (λ q. steps_at count new (lent_at fs q) + saved ≤ steps_at count old (lent_at fs q)) (one_place place p e) (all_saved none))
         (places_of fs) (place_there place fs some) in
         omega (
           arith,
           less,
-          sum_by-map (λ (e : Standing). steps_at count old e.0 e.1) (λ p. (p, factors_at p fs)) (places_of fs),
-          sum_by-map (λ (e : Standing). steps_at count new e.0 e.1) (λ p. (p, factors_at p fs)) (places_of fs),
+          sum_by-map (steps_at count old) (lent_at fs) (places_of fs),
+          sum_by-map (steps_at count new) (lent_at fs) (places_of fs),
         )

@@ -1,8 +1,6 @@
 -- What rows touch, one row after the other; and what they leave as it was.
 use Rattle.std.proofs.Common.{◌≡◌, ℕ, ◌+◌, ◌<◌, List, [], ◌∷◌, ◌++◌, Bool, true, false, ◌||◌, cond, Option, None, length, take, get_or, refl, sym, ap, ◌∙◌, subst, append-nil}
-use Rattle.std.specs.Ordering.{is_eq}
 use Rattle.std.specs.List.{filter, list_any}
-use Rattle.std.specs.BTreeMap.{is_at}
 use Rattle.std.proofs.lemmas.Cmp.{eq_by_cmp_equiv}
 use Rattle.std.proofs.lemmas.List.{take_more}
 use Rattle.std.proofs.lemmas.List.Elements.{filter-append}
@@ -12,17 +10,18 @@ use Rattle.factor_book.specs.SimmKinds.declared.key.FactorKey.{FactorKey}
 use Rattle.factor_book.specs.SimmKinds.declared.row.CrifRow.{CrifRow}
 use Rattle.factor_book.specs.SimmKinds.declared.row.CrifRow.TheVariants as row
 use Rattle.factor_book.specs.SimmRules.Net.{sensitivities}
-use Rattle.factor_book.specs.declared.at.ClassAt.{ClassAt}
+use Rattle.factor_book.specs.SimmKinds.declared.kinds.ProductClass.{ProductClass}
+use Rattle.factor_book.specs.SimmKinds.declared.kinds.RiskClass.{RiskClass}
+use Rattle.factor_book.specs.SimmKinds.Factors.{class_of}
 use Rattle.factor_book.specs.declared.holding.Holding.{Holding}
 use Rattle.factor_book.specs.declared.place.Place.{Place}
 use Rattle.factor_book.specs.Factors.{factors_in, factors_of}
-use Rattle.factor_book.specs.Place.{place_of, place_cmp}
+use Rattle.factor_book.specs.Place.{place_of, same_place, stand_class}
 use Rattle.factor_book.specs.Places.{stands_at}
 use Rattle.factor_book.proofs.Rows.{sensitivities-append}
-use Rattle.factor_book.proofs.Standing.{place_total, at_place}
-use Rattle.kept_buckets.specs.Kept.{Kept, value_at, margin_at}
-use Rattle.kept_buckets.specs.Margins.{is_class}
-use Rattle.kept_buckets.specs.Touched.{has_key, is_of_class, class_at, Forgets, SameElsewhere}
+use Rattle.factor_book.proofs.Standing.{place_total, at_place, filed_under}
+use Rattle.kept_buckets.specs.Kept.{Kept, value_at, margin_at, is_class}
+use Rattle.kept_buckets.specs.Touched.{has_key, is_of_class, Forgets, SameElsewhere}
 
 pub has_key-append : (test : FactorKey → Bool) (xs ys : List CrifRow) → has_key test (xs ++ ys) ≡ (has_key test xs || has_key test ys)
 has_key-append test xs ys =
@@ -44,13 +43,13 @@ left_over test xs ys x y z first then =
 pub forgets_both : (xs ys : List CrifRow) (a b c : Kept) → Forgets xs a b → Forgets ys b c → Forgets (xs ++ ys) a c
 forgets_both xs ys a b c first then = record {
   values = λ place. left_over (stands_at place) xs ys (value_at a place) (value_at b place) (value_at c place) (first.values place) (then.values place);
-  margins = λ at. left_over (is_of_class at) xs ys (margin_at a at) (margin_at b at) (margin_at c at) (first.margins at) (then.margins at);
+  margins = λ product class. left_over (is_of_class product class) xs ys (margin_at a product class) (margin_at b product class) (margin_at c product class) (first.margins product class) (then.margins product class);
 }
 
 pub forgets_none : (rows : List CrifRow) (a : Kept) → sensitivities rows ≡ [] → Forgets rows a a
 forgets_none rows a none = record {
   values = λ place. ap (λ ss. cond (list_any (λ s. stands_at place s.key) ss) None (value_at a place)) (sym none);
-  margins = λ at. ap (λ ss. cond (list_any (λ s. is_of_class at s.key) ss) None (margin_at a at)) (sym none);
+  margins = λ product class. ap (λ ss. cond (list_any (λ s. is_of_class product class s.key) ss) None (margin_at a product class)) (sym none);
 }
 
 -- a row alone
@@ -58,18 +57,22 @@ or_false : (b : Bool) → (b || false) ≡ b
 or_false true = refl
 or_false false = refl
 
-same_place : (p q : Place) → is_at (place_cmp p) q ≡ is_eq (place_cmp q p)
-same_place p q = (eq_by_cmp_equiv place_total).symm p q
+either_way : (p q : Place) → same_place p q ≡ same_place q p
+either_way p q = (eq_by_cmp_equiv place_total).symm p q
+
+-- a key's place is of its class
+its_class : (k : FactorKey) → stand_class (place_of k).stand ≡ class_of k.factor
+its_class k = ap (λ at. at.class) (filed_under k)
 
 pub forgets_one : (old new : Kept) (r : CrifRow) (key : FactorKey) (amount : Cents) (place : Place) → r ≡ row.Sensitivity key amount → place ≡ place_of key
-    → ((other : Place) → value_at new other ≡ cond (is_at (place_cmp place) other) None (value_at old other))
-    → ((at : ClassAt) → margin_at new at ≡ cond (is_class (class_at place) at) None (margin_at old at)) → Forgets (r ∷ []) old new
+    → ((other : Place) → value_at new other ≡ cond (same_place place other) None (value_at old other))
+    → ((product : ProductClass) (class : RiskClass) → margin_at new product class ≡ cond (is_class place.product (stand_class place.stand) product class) None (margin_at old product class)) → Forgets (r ∷ []) old new
 forgets_one old new r key amount place is there values margins =
     subst (λ x. Forgets (x ∷ []) old new) (sym is) (record {
       values = λ other. values other ∙ ap (λ b. cond b None (value_at old other))
-          (ap (λ p. is_at (place_cmp p) other) there ∙ same_place (place_of key) other ∙ sym (at_place other key) ∙ sym (or_false (stands_at other key)));
-      margins = λ at. margins at ∙ ap (λ b. cond b None (margin_at old at))
-          (ap (λ p. is_class (class_at p) at) there ∙ sym (or_false (is_of_class at key)));
+          (ap (λ p. same_place p other) there ∙ either_way (place_of key) other ∙ sym (at_place other key) ∙ sym (or_false (stands_at other key)));
+      margins = λ product class. margins product class ∙ ap (λ b. cond b None (margin_at old product class))
+          (ap (λ p. is_class p.product (stand_class p.stand) product class) there ∙ ap (λ c. is_class key.product c product class) (its_class key) ∙ sym (or_false (is_of_class product class key)));
     })
 
 pub forgets_more : (first now next : Kept) (rows : List CrifRow) (i : ℕ) (r : CrifRow) → i < length rows → r ≡ get_or rows i r

@@ -1,8 +1,6 @@
-pub mod Margins
 pub mod Kept
 pub mod Touched
 pub mod Dirty
-pub mod Cached
 pub use Rattle.factor_book.specs.MhUnits as MhUnits
 pub use Rattle.factor_book.specs.SimmKinds as SimmKinds
 pub use Rattle.factor_book.specs.SimmRules as SimmRules

@@ -1,5 +1,5 @@
 ghost use Rattle.std.specs.Prelude.{◌≡◌};
-ghost use Rattle.kept_buckets.specs.Margins.{margin_on};
+ghost use Rattle.kept_buckets.specs.Kept.{margin_on};
 
 use factor_book::mh_units::Cents;
 use factor_book::simm_kinds::MarginSide;

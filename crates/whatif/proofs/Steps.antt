@@ -8,7 +8,7 @@ use Rattle.bucket_cache.specs.SimmRules.Params.{Params}
 use Rattle.bucket_cache.specs.FactorBook.declared.holding.Holding.{Holding}
 use Rattle.bucket_cache.specs.FactorBook.declared.place.Place.{Place}
 use Rattle.bucket_cache.specs.FactorBook.Factors.{factors_of}
-use Rattle.bucket_cache.specs.KeptBuckets.declared.value.KeptValue.{KeptValue}
+use Rattle.bucket_cache.specs.FactorBook.declared.value.PlaceValue.{PlaceValue}
 use Rattle.bucket_cache.specs.BookMargin.Steps.{steps_due}
 use Rattle.bucket_cache.specs.KeptBuckets.Kept.{Kept, value_at}
 use Rattle.bucket_cache.specs.KeptBuckets.Touched.{Forgets}
@@ -22,7 +22,7 @@ TouchesAddUp = (xs ys : List CrifRow) (a b c : Kept) → Forgets xs a b → Forg
 
 -- one kept at least what the other does
 abbrev pub KeepsAll : Kept → Kept → Type 0
-KeepsAll had more = (place : Place) (v : KeptValue) → value_at had place ≡ Some v → value_at more place ≡ Some v
+KeepsAll had more = (place : Place) (v : PlaceValue) → value_at had place ≡ Some v → value_at more place ≡ Some v
 
 -- a margin takes the steps of what rows touch and of what was not kept
 abbrev pub TouchedValuesCost : Type 0

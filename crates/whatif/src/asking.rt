@@ -45,16 +45,18 @@ pub fn what_if<L: Ledger>(
     candidate: Option<&Batch>,
     steps: &mut Steps<L>,
 ) -> Result<WhatIf, WhatIfFault>
-    ensures before { IfOk result (λ margins. margins.before ≡ simm live.now.params (rows_of live.now.book)) }
-    ensures after { IfOk result (λ margins. margins.after
-        ≡ simm live.now.params (rows_of (book_after leave.now (option_copied candidate.entry) live.now.book))) }
+    ensures before { IfOk result (λ margins.
+        margins.before ≡ simm live.now.params (rows_of live.now.book)) }
+    ensures after { IfOk result (λ margins. margins.after ≡ simm live.now.params
+        (rows_of (book_after leave.now (option_copied candidate.entry) live.now.book))) }
     ensures steps { OnOk result (steps.new
         ≤ steps.old + steps_asked live.now.params leave.now (option_copied candidate.entry)
         live.now.kept live.now.book) }
-    ensures none { OnOk result
-        (first_fault live.now.params leave.now (option_copied candidate.entry) live.now.book ≡ None) }
+    ensures none { OnOk result (first_fault live.now.params leave.now
+        (option_copied candidate.entry) live.now.book ≡ None) }
     ensures fault { (fault : Fault) → result ≡ Err fault → (fault ≡ WhatIfFault.Memory)
-        ⊎ (first_fault live.now.params leave.now (option_copied candidate.entry) live.now.book ≡ Some fault) }
+        ⊎ (first_fault live.now.params leave.now (option_copied candidate.entry) live.now.book
+        ≡ Some fault) }
 {
     touches_add_up();
     touched_values_cost();
@@ -73,13 +75,15 @@ fn take_in(
     candidate: Option<&Batch>,
 ) -> Result<(), WhatIfFault>
     ensures params { OnOk result (live.new.params ≡ live.old.params) }
-    ensures book { OnOk result (live.new.book ≡ with_candidate (option_copied candidate.entry) live.old.book) }
-    ensures kept { OnOk result
-        (Forgets (candidate_rows (option_copied candidate.entry) live.old.book) live.old.kept live.new.kept) }
+    ensures book { OnOk result
+        (live.new.book ≡ with_candidate (option_copied candidate.entry) live.old.book) }
+    ensures kept { OnOk result (Forgets (candidate_rows (option_copied candidate.entry)
+        live.old.book) live.old.kept live.new.kept) }
     ensures none { OnOk result
         (candidate_fault live.old.params (option_copied candidate.entry) live.old.book ≡ None) }
     ensures fault { (fault : Fault) → result ≡ Err fault → (fault ≡ WhatIfFault.Memory)
-        ⊎ (candidate_fault live.old.params (option_copied candidate.entry) live.old.book ≡ Some fault) }
+        ⊎ (candidate_fault live.old.params (option_copied candidate.entry) live.old.book
+        ≡ Some fault) }
 {
     match candidate {
         Some(batch) => Ok(live.submit(alloc, batch)?),

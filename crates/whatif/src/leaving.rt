@@ -29,8 +29,8 @@ pub fn leave_one<L: Ledger>(
 ) -> Result<Vec<Cents>, WhatIfFault>
     ensures totals { IfOk result (λ totals.
         totals.items ≡ map (total_without live.now.params live.now.book) names.now) }
-    ensures steps { OnOk result (steps.new
-        ≤ steps.old + sum_by (steps_without live.now.params live.now.kept live.now.book) names.now) }
+    ensures steps { OnOk result (steps.new ≤ steps.old
+        + sum_by (steps_without live.now.params live.now.kept live.now.book) names.now) }
     ensures none { OnOk result (first_unknown names.now live.now.book ≡ None) }
     ensures fault { (fault : Fault) → result ≡ Err fault → (fault ≡ WhatIfFault.Memory)
         ⊎ (if_known (first_unknown names.now live.now.book) None ≡ Some fault) }

@@ -15,8 +15,9 @@ use std::alloc::{AllocError, Global};
 use std::sync::ledger::Ledger;
 
 impl LiveMargin {
-    /// An equal live margin: with these tables and trades, of which the same is kept, and whose margin is known where it is of these.
-    /// No row is copied: they stand once for both. It costs the trades, the keys of the book and what is kept of its buckets.
+    /// An equal live margin: with these tables and trades, of which the same is kept, and whose
+    /// margin is known where it is of these. No row is copied: they stand once for both. It costs
+    /// the trades, the keys of the book and what is kept of its buckets.
     ///
     /// # Errors
     ///
@@ -37,13 +38,15 @@ impl LiveMargin {
         })
     }
 
-    /// For each name the total of the margin without that trade alone, in cents and in the names' order. It costs one copy of what the
-    /// rows of the book come to, and for each name its rows, what is kept of buckets, and the buckets that are worked out: those in
-    /// which a row of the trade lies, and those of which nothing is kept.
+    /// For each name the total of the margin without that trade alone, in cents and in the names'
+    /// order. It costs one copy of what the rows of the book come to, and for each name its rows,
+    /// what is kept of buckets, and the buckets that are worked out: those in which a row of the
+    /// trade lies, and those of which nothing is kept.
     ///
     /// # Errors
     ///
-    /// `UnknownTrade` exactly where a name is not current, with the place of the first such name, and `Memory` for want of memory.
+    /// `UnknownTrade` exactly where a name is not current, with the place of the first such name,
+    /// and `Memory` for want of memory.
     pub fn totals_without<L: Ledger>(
         &self,
         alloc: Global,
@@ -51,8 +54,10 @@ impl LiveMargin {
         steps: &mut Steps<L>,
     ) -> Result<Vec<Cents>, WithdrawFault>
         ensures known { OnOk result (first_unknown names.now self.now.book ≡ None) }
-        ensures totals { IfOk result (λ totals. totals.items ≡ map (total_without self.now.params self.now.book) names.now) }
-        ensures steps { OnOk result (steps.new ≤ steps.old + sum_by (steps_without self.now.params self.now.kept self.now.book) names.now) }
+        ensures totals { IfOk result (λ totals.
+            totals.items ≡ map (total_without self.now.params self.now.book) names.now) }
+        ensures steps { OnOk result (steps.new ≤ steps.old
+            + sum_by (steps_without self.now.params self.now.kept self.now.book) names.now) }
         ensures unknown { (place : ℕ) → result ≡ Err (WithdrawFault.UnknownTrade place) →
             first_unknown names.now self.now.book ≡ Some place }
     {
@@ -69,8 +74,10 @@ impl LiveMargin {
         names: &[Name],
         steps: &mut Steps<L>,
     ) -> Result<Vec<Cents>, AllocError>
-        ensures totals { IfOk result (λ totals. totals.items ≡ map (total_without self.now.params self.now.book) names.now) }
-        ensures steps { OnOk result (steps.new ≤ steps.old + sum_by (steps_without self.now.params self.now.kept self.now.book) names.now) }
+        ensures totals { IfOk result (λ totals.
+            totals.items ≡ map (total_without self.now.params self.now.book) names.now) }
+        ensures steps { OnOk result (steps.new ≤ steps.old
+            + sum_by (steps_without self.now.params self.now.kept self.now.book) names.now) }
     {
         let mut sums = self.sums.copy(alloc)?;
         let mut totals = Vec::with_capacity(alloc, names.len())?;

@@ -15,14 +15,16 @@ use book_margin::simm_params::Params;
 use std::alloc::Global;
 
 impl LiveMargin {
-    /// Puts other tables in the place of those that the margin is worked out by. The book stands, no value of a bucket is kept, and
-    /// the margin is not known. It costs one walk over the rows of the book and one over its keys, and copies neither rows nor tables.
+    /// Puts other tables in the place of those that the margin is worked out by. The book stands,
+    /// no value of a bucket is kept, and the margin is not known. It costs one walk over the rows
+    /// of the book and one over its keys, and copies neither rows nor tables.
     ///
     /// # Errors
     ///
-    /// `BucketUnknown` exactly where these tables don't admit a row of the book, with the place of the first such row; then `Range`
-    /// exactly where the book would be out of range by them, with the first quantity that is above its limit; and `Memory` for want
-    /// of memory. Nothing changes then.
+    /// `BucketUnknown` exactly where these tables don't admit a row of the book, with the place of
+    /// the first such row; then `Range` exactly where the book would be out of range by them, with
+    /// the first quantity that is above its limit; and `Memory` for want of memory. Nothing
+    /// changes then.
     pub fn replace_tables(&mut self, alloc: Global, params: &Params) -> Result<(), BookFault>
         // the tables are those of the book from now on
         ensures admitted { OnOk result (first_unadmitted params.now self.old.book ≡ None) }

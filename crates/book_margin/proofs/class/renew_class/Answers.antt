@@ -1,7 +1,7 @@
 use Rattle.std.proofs.Common.{◌≡◌, ap, sym, false, arith}
 use Rattle.std.specs.Prelude.{is_some}
 use Rattle.kept_buckets.specs.Kept.{margin_at}
-use Rattle.book_margin.specs.Steps.{count_at}
+use Rattle.class_margin.specs.value.Place.{count_of}
 use Rattle.book_margin.proofs.Renewed.{renews_none, renews_both, renews_margin, margin_now, same_steps}
 use Rattle.book_margin.proofs.class.renew_class.Goals as goal
 
@@ -15,16 +15,16 @@ pub returns-in_ok-margin-in-None-clause-renewed : goal.returns-in_ok-margin-in-N
 returns-in_ok-margin-in-None-clause-renewed g c =
     let mid = c.renewed_margin.new.kept in
     renews_both c.args.kept.now mid c.keep_margin.new.self c.renewed_margin.ensures.renewed
-    (renews_margin mid c.keep_margin.new.self c.args.at c.in_ok-margin-in-None.margin c.renewed_margin.ensures.renewed.right c.keep_margin.ensures c.in_ok-margin-in-None.ensures.margin c.in_ok-margin-in-None.ensures.whole)
+    (renews_margin mid c.keep_margin.new.self c.args.product c.args.class c.in_ok-margin-in-None.margin c.renewed_margin.ensures.renewed.right c.keep_margin.ensures c.in_ok-margin-in-None.ensures.margin c.in_ok-margin-in-None.ensures.whole)
 
 pub returns-in_ok-margin-in-None-clause-kept : goal.returns-in_ok-margin-in-None-clause-kept
 returns-in_ok-margin-in-None-clause-kept g c =
     let mid = c.renewed_margin.new.kept in
-    margin_now mid c.keep_margin.new.self c.args.at c.in_ok-margin-in-None.margin c.keep_margin.ensures
+    margin_now mid c.keep_margin.new.self c.args.product c.args.class c.in_ok-margin-in-None.margin c.keep_margin.ensures
 
 pub returns-in_ok-margin-in-None-clause-steps : goal.returns-in_ok-margin-in-None-clause-steps
 returns-in_ok-margin-in-None-clause-steps g c =
-    omega (arith, c.in_ok-margin-in-None.ensures.steps, same_steps c.renewed_margin.new.kept c.keep_margin.new.self c.args.at c.in_ok-margin-in-None.margin c.keep_margin.ensures (count_at c.args.params.now) c.args.factors.now)
+    omega (arith, c.in_ok-margin-in-None.ensures.steps, same_steps c.renewed_margin.new.kept c.keep_margin.new.self c.args.product c.args.class c.in_ok-margin-in-None.margin c.keep_margin.ensures (count_of c.args.params.now) c.args.factors.now)
 
 pub returns-in_err-margin-in-None-clause-at_once : goal.returns-in_err-margin-in-None-clause-at_once
-returns-in_err-margin-in-None-clause-at_once g c = λ some. absurd (let none : is_some (margin_at c.args.kept.now c.args.at) ≡ false = ap is_some (sym c.in-None.ensures) in cc)
+returns-in_err-margin-in-None-clause-at_once g c = λ some. absurd (let none : is_some (margin_at c.args.kept.now c.args.product c.args.class) ≡ false = ap is_some (sym c.in-None.ensures) in cc)

@@ -3,7 +3,7 @@ use Rattle.std.specs.Prelude.{is_ok, IsOk}
 use Rattle.std.proofs.lemmas.List.{get_or_default}
 use Rattle.kept_buckets.specs.SimmKinds.declared.kinds.ProductClass.TheVariants.{RatesFX}
 use Rattle.kept_buckets.specs.SimmRules.Simm.{products}
-use Rattle.book_margin.proofs.Classes.{IsProductKept, class_of_product, all_margins, fresh}
+use Rattle.book_margin.proofs.Classes.{IsProductKept, all_margins, fresh}
 use Rattle.book_margin.proofs.Gathering.{renewed_first, renewed_next, renewed_all}
 use Rattle.book_margin.proofs.Renewed.{renews_both, margin_still, margins_still}
 use Rattle.book_margin.proofs.renewal.renew.Goals as goal
@@ -27,7 +27,7 @@ pub loop-product-preserved : goal.loop-product-preserved
 loop-product-preserved g c =
     renewed_next c.args.params.now c.args.factors.now IsProductKept c.args.kept.now c.loop-product.kept c.renew_product.new.kept products c.loop-product.product-index _ c.args.steps.now c.loop-product.steps c.renew_product.new.steps
     c.loop-product-test.true (get_or_default products c.loop-product.product-index RatesFX _ c.loop-product-test.true) c.loop-product.invariant c.renew_product.ensures.renewed
-    (λ a h k. margin_still c.loop-product.kept c.renew_product.new.kept c.renew_product.ensures.renewed (class_of_product a k) (h k)) c.in_ok-renew_product.ensures.kept c.in_ok-renew_product.ensures.steps
+    (λ a h k. margin_still c.loop-product.kept c.renew_product.new.kept c.renew_product.ensures.renewed a k (h k)) c.in_ok-renew_product.ensures.kept c.in_ok-renew_product.ensures.steps
 
 pub returns-clause-renewed : goal.returns-clause-renewed
 returns-clause-renewed g c = c.loop-product.invariant.renewed

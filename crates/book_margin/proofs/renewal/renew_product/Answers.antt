@@ -3,7 +3,7 @@ use Rattle.std.specs.Prelude.{is_ok, IsOk}
 use Rattle.std.proofs.lemmas.List.{get_or_default}
 use Rattle.kept_buckets.specs.SimmKinds.declared.kinds.RiskClass.TheVariants.{IR}
 use Rattle.kept_buckets.specs.SimmRules.Simm.{classes}
-use Rattle.book_margin.proofs.Classes.{IsClassKept, class_of_product, each_class}
+use Rattle.book_margin.proofs.Classes.{IsClassKept, each_class}
 use Rattle.book_margin.proofs.Gathering.{renewed_first, renewed_next, renewed_all}
 use Rattle.book_margin.proofs.Renewed.{renews_both, margin_still, margins_still}
 use Rattle.book_margin.proofs.renewal.renew_product.Goals as goal
@@ -20,14 +20,14 @@ returns-in_err-renew_class-clause-renewed g c =
 
 pub returns-in_err-renew_class-clause-at_once : goal.returns-in_err-renew_class-clause-at_once
 returns-in_err-renew_class-clause-at_once g c = λ all.
-    let ok : IsOk c.renew_class.result = c.renew_class.ensures.at_once (margins_still c.args.kept.now c.loop-class.kept c.loop-class.invariant.renewed all (class_of_product c.args.product _)) in
+    let ok : IsOk c.renew_class.result = c.renew_class.ensures.at_once (margins_still c.args.kept.now c.loop-class.kept c.loop-class.invariant.renewed all c.args.product _) in
     absurd (let err : is_ok c.renew_class.result ≡ false = ap is_ok c.in_err-renew_class.was in cc)
 
 pub loop-class-preserved : goal.loop-class-preserved
 loop-class-preserved g c =
     renewed_next c.args.params.now c.args.factors.now (IsClassKept c.args.product) c.args.kept.now c.loop-class.kept c.renew_class.new.kept classes c.loop-class.class-index _ c.args.steps.now c.loop-class.steps c.renew_class.new.steps
     c.loop-class-test.true (get_or_default classes c.loop-class.class-index IR _ c.loop-class-test.true) c.loop-class.invariant c.renew_class.ensures.renewed
-    (λ k. margin_still c.loop-class.kept c.renew_class.new.kept c.renew_class.ensures.renewed (class_of_product c.args.product k)) c.in_ok-renew_class.ensures.kept c.in_ok-renew_class.ensures.steps
+    (λ k. margin_still c.loop-class.kept c.renew_class.new.kept c.renew_class.ensures.renewed c.args.product k) c.in_ok-renew_class.ensures.kept c.in_ok-renew_class.ensures.steps
 
 pub returns-clause-renewed : goal.returns-clause-renewed
 returns-clause-renewed g c = c.loop-class.invariant.renewed

@@ -8,7 +8,7 @@ use Rattle.bucket_cache.proofs.Gaining.{rows_taken}
 use Rattle.bucket_cache.proofs.touching.touch_lent.Goals as goal
 
 pub loop-trade-init : goal.loop-trade-init
-loop-trade-init c = record { values = λ place. refl; margins = λ at. refl }
+loop-trade-init c = record { values = λ place. refl; margins = λ c k. refl }
 
 pub loop-trade-preserved : goal.loop-trade-preserved
 loop-trade-preserved c =

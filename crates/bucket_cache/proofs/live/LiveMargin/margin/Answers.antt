@@ -32,13 +32,13 @@ returns-in-Some-clause-total_below g c =
 
 pub returns-in-Some-clause-renewed : goal.returns-in-Some-clause-renewed
 returns-in-Some-clause-renewed g c =
-    subst (λ (l : Live). Renews l.params (factors_of (rows_of l.book)) l.kept l.kept) c.self.view_is (record { right = c.self.invariant.summed.right; values = λ place v h. h; margins = λ at m h. h })
+    subst (λ (l : Live). Renews l.params (factors_of (rows_of l.book)) l.kept l.kept) c.self.view_is (record { right = c.self.invariant.summed.right; values = λ place v h. h; margins = λ a k m h. h })
 
 pub returns-in-Some-clause-all : goal.returns-in-Some-clause-all
-returns-in-Some-clause-all g c = λ at measure.
-    subst (IsCached at measure) c.self.view_is
-    (fresh_cached c.self.inside.params (factors_of (rows_of (trades_of c.self.inside.trades.entries))) c.self.inside.kept c.self.invariant.summed.right at
-    (if_some c.self.inside.last c.in-Some.margins (IsMargin c.self.inside.params (rows_of (trades_of c.self.inside.trades.entries)) c.self.inside.kept) c.in-Some.is c.self.invariant.fresh).all measure)
+returns-in-Some-clause-all g c = λ place.
+    subst (IsCached place) c.self.view_is
+    (fresh_cached (factors_of (rows_of (trades_of c.self.inside.trades.entries))) c.self.inside.kept
+    (if_some c.self.inside.last c.in-Some.margins (IsMargin c.self.inside.params (rows_of (trades_of c.self.inside.trades.entries)) c.self.inside.kept) c.in-Some.is c.self.invariant.fresh).all place)
 
 pub returns-in-Some-clause-fresh : goal.returns-in-Some-clause-fresh
 returns-in-Some-clause-fresh g c = sym (ap (λ (l : Live). l.is_fresh) c.self.view_is) ∙ ap is_some c.in-Some.is
@@ -122,11 +122,10 @@ returns-clause-renewed g c =
     (renews_to c.self.inside.params (rows_of (trades_of c.self.inside.trades.entries)) c.self.inside.sums c.self.inside.kept c.margin_of.new.kept c.self.invariant.summed.summed c.margin_of.ensures.renewed)
 
 pub returns-clause-all : goal.returns-clause-all
-returns-clause-all g c = λ at measure.
+returns-clause-all g c = λ place.
     let us = trades_of c.self.inside.trades.entries in
-    fresh_cached c.self.inside.params (factors_of (rows_of us)) c.margin_of.new.kept
-    (renews_to c.self.inside.params (rows_of us) c.self.inside.sums c.self.inside.kept c.margin_of.new.kept c.self.invariant.summed.summed c.margin_of.ensures.renewed).right at
-    (subst (λ factors. IsFresh factors c.margin_of.new.kept) (ap (λ (s : Sums). s.factors) c.self.invariant.summed.summed) c.in_ok-margins.ensures.fresh) measure
+    fresh_cached (factors_of (rows_of us)) c.margin_of.new.kept
+    (subst (λ factors. IsFresh factors c.margin_of.new.kept) (ap (λ (s : Sums). s.factors) c.self.invariant.summed.summed) c.in_ok-margins.ensures.fresh) place
 
 pub returns-clause-steps : goal.returns-clause-steps
 returns-clause-steps g c =

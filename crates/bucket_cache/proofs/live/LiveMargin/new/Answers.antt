@@ -8,5 +8,5 @@ use Rattle.bucket_cache.proofs.live.LiveMargin.new.Goals as goal
 
 pub returns-clause-none : goal.returns-clause-none
 returns-clause-none c =
-    no_values c.without_margin-live.result.params c.know_margin.new.self.kept
+    no_values c.without_margin-live.result.params c.know_margin.new.self.kept c.facts.ensures
     (subst (λ (trades : List TradeRows). AreRight c.without_margin-live.result.params (factors_of (rows_of trades)) c.know_margin.new.self.kept) c.without_margin-live.ensures.book c.know_margin.ensures.renewed.right)

@@ -5,7 +5,7 @@ use Rattle.book_margin.specs.FactorBook.Factors.{factors_of}
 use Rattle.bucket_cache.specs.declared.sums.Sums.{Sums}
 use Rattle.bucket_cache.specs.Entries.{trades_of}
 use Rattle.bucket_cache.specs.Live.{IsLive}
-use Rattle.bucket_cache.proofs.Replaced.{live_under, summed_under, none_valued}
+use Rattle.bucket_cache.proofs.Replaced.{live_under, summed_under}
 use Rattle.bucket_cache.proofs.live.LiveMargin.replace_tables.Goals as goal
 
 pub invariant_of-self : goal.invariant_of-self
@@ -24,4 +24,4 @@ invariant_of-self c =
     }
 
 pub returns-clause-none : goal.returns-clause-none
-returns-clause-none c = none_valued c.new.result c.new.ensures.values
+returns-clause-none c = c.new.ensures.empty
