@@ -1,5 +1,6 @@
 mod Pieces
 mod Lent
+mod Values
 mod FromKept
 mod Weighed
 mod OverTenors

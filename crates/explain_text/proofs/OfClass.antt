@@ -3,49 +3,47 @@ use Rattle.std.proofs.Common.{◌≡◌, ℕ, List, [], ◌++◌, Bool, true, co
 use Rattle.std.specs.List.{flat_map}
 use Rattle.measured_bucket.specs.SimmKinds.declared.kinds.Measure.{Measure}
 use Rattle.measured_bucket.specs.SimmKinds.declared.kinds.ProductClass.{ProductClass}
+use Rattle.measured_bucket.specs.SimmKinds.declared.kinds.RiskClass.{RiskClass}
 use Rattle.measured_bucket.specs.SimmKinds.declared.row.TradeRows.{TradeRows}
 use Rattle.measured_bucket.specs.SimmRules.Params.{Params}
 use Rattle.measured_bucket.specs.SimmRules.Parts.{class_part, product_part}
 use Rattle.measured_bucket.specs.SimmRules.Simm.{classes}
 use Rattle.bucket_cache.specs.BookMargin.declared.measures.MeasureMargins.{MeasureMargins}
 use Rattle.bucket_cache.specs.BookMargin.Measures.{AreMeasures, measure_in}
-use Rattle.bucket_cache.specs.FactorBook.declared.at.ClassAt.{ClassAt}
-use Rattle.bucket_cache.specs.FactorBook.declared.at.SideAt.{SideAt}
 use Rattle.bucket_cache.specs.FactorBook.declared.place.BookSide.{BookSide}
 use Rattle.bucket_cache.specs.FactorBook.declared.place.BookSide.TheVariants as side
-use Rattle.bucket_cache.specs.KeptBuckets.Cached.{cached_in}
+use Rattle.bucket_cache.specs.KeptBuckets.Kept.{cached_in}
 use Rattle.bucket_cache.specs.declared.figures.BatchFigures.{BatchFigures}
 use Rattle.bucket_cache.specs.Figures.{AreFigures}
 use Rattle.breakdown_text.specs.Margins.{class_margin_line, product_margin_line}
 use Rattle.breakdown_text.proofs.Pieces.{two_pieces, three_pieces}
 use Rattle.explain_text.specs.Sides.{side_lines}
-use Rattle.explain_text.specs.Classes.{side_of_class, has_class, has_product, product_lines}
+use Rattle.explain_text.specs.Classes.{has_class, has_product, product_lines}
 use Rattle.explain_text.specs.Explained.{values_of, margins_of}
 use Rattle.explain_text.proofs.FromKept.{side_is}
-use Rattle.explain_text.proofs.Products.{lines_at, lines_of_class, its_lines}
+use Rattle.explain_text.proofs.Products.{lines_of_class, its_lines}
 
-module _ (p : Params) (trades : List TradeRows) (f : BatchFigures) (figures : AreFigures p trades f) (at : ClassAt) (m : MeasureMargins) (are : AreMeasures p f.factors at m) where
-  abbrev kept_lines : SideAt → List ℕ
-  kept_lines s = side_lines p (cached_in f.kept) (λ (x : Measure). (measure_in m x).0) f.factors s
+module _ (p : Params) (trades : List TradeRows) (f : BatchFigures) (figures : AreFigures p trades f) (product : ProductClass) (class : RiskClass) (m : MeasureMargins) (are : AreMeasures p f.factors product class m) where
+  abbrev kept_lines : BookSide → List ℕ
+  kept_lines s = side_lines p (cached_in f.kept) (λ (x : Measure). (measure_in m x).0) f.factors product class s
 
   abbrev ruled_lines : BookSide → List ℕ
-  ruled_lines s = side_lines p (values_of p f.factors) (margins_of p f.factors at) f.factors (side_of_class at s)
+  ruled_lines s = side_lines p (values_of p f.factors) (margins_of p f.factors product class) f.factors product class s
 
-  side_same : (s : BookSide) (its : SideAt) (t0 t1 : List ℕ) → its ≡ side_of_class at s → t1 ≡ t0 ++ kept_lines its → t1 ≡ t0 ++ ruled_lines s
-  side_same s its t0 t1 is grown =
-      grown ∙ ap (λ x. t0 ++ kept_lines x) is
-      ∙ ap (λ t. t0 ++ t) (side_is p f.factors f.kept figures.right figures.fresh (side_of_class at s) (λ (x : Measure). (measure_in m x).0) (margins_of p f.factors at) are)
+  side_same : (s : BookSide) (t0 t1 : List ℕ) → t1 ≡ t0 ++ kept_lines s → t1 ≡ t0 ++ ruled_lines s
+  side_same s t0 t1 grown =
+      grown ∙ ap (λ t. t0 ++ t) (side_is p f.factors f.kept figures.right figures.fresh product class s (λ (x : Measure). (measure_in m x).0) (margins_of p f.factors product class) are)
 
-  pub class_is : (has : Bool) (shown : ℤ) (first second : SideAt) (t0 t1 t2 t3 : List ℕ)
-      → has ≡ has_class f.factors at → has ≡ true → shown ≡ (class_part (product_part f.margin at.product) at.class).0
-      → first ≡ side_of_class at side.Delta → second ≡ side_of_class at side.Volatility
-      → t1 ≡ t0 ++ kept_lines first → t2 ≡ t1 ++ kept_lines second → t3 ≡ t2 ++ class_margin_line at.product at.class shown
-      → t3 ≡ t0 ++ lines_at p f at
-  class_is has shown first second t0 t1 t2 t3 is some margin delta volatility e1 e2 e3 =
-      let all : List ℕ = ruled_lines side.Delta ++ ruled_lines side.Volatility ++ class_margin_line at.product at.class (class_part (product_part f.margin at.product) at.class).0 in
-      three_pieces (ruled_lines side.Delta) (ruled_lines side.Volatility) (class_margin_line at.product at.class (class_part (product_part f.margin at.product) at.class).0) t0 t1 t2 t3
-      (side_same side.Delta first t0 t1 delta e1) (side_same side.Volatility second t1 t2 volatility e2)
-      (e3 ∙ ap (λ z. t2 ++ class_margin_line at.product at.class z) margin)
+  pub class_is : (has : Bool) (shown : ℤ) (t0 t1 t2 t3 : List ℕ)
+      → has ≡ has_class f.factors product class → has ≡ true → shown ≡ (class_part (product_part f.margin product) class).0
+      → t1 ≡ t0 ++ kept_lines side.Delta → t2 ≡ t1 ++ kept_lines side.Volatility → t3 ≡ t2 ++ class_margin_line product class shown
+      → t3 ≡ t0 ++ lines_of_class p f product class
+  class_is has shown t0 t1 t2 t3 is some margin e1 e2 e3 =
+      let last : List ℕ = class_margin_line product class (class_part (product_part f.margin product) class).0 in
+      let all : List ℕ = ruled_lines side.Delta ++ ruled_lines side.Volatility ++ last in
+      three_pieces (ruled_lines side.Delta) (ruled_lines side.Volatility) last t0 t1 t2 t3
+      (side_same side.Delta t0 t1 e1) (side_same side.Volatility t1 t2 e2)
+      (e3 ∙ ap (λ z. t2 ++ class_margin_line product class z) margin)
       ∙ ap (λ b. t0 ++ cond b all []) (sym (sym is ∙ some))
 
 module _ (p : Params) (f : BatchFigures) (product : ProductClass) where

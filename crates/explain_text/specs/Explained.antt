@@ -30,12 +30,12 @@ adds_lines parameters size b =
     ++ flat_map (multiplier_line (λ product. (product_part b product).margin.0)) (flat_map multiplier parameters)
     ++ add_on_lines b
 
--- what a bucket of the factors comes to in a measure, and a risk class
+-- what a place of the factors comes to in a measure, and a risk class
 abbrev pub values_of : Params → List (FactorKey × Holding) → Values
-values_of p factors at measure = value_in p factors at measure
+values_of p factors place measure = value_in p factors place measure
 
 abbrev pub margins_of : Params → List (FactorKey × Holding) → Margins
-margins_of p factors at measure = measure_at p factors at measure
+margins_of p factors product class measure = measure_at p factors product class measure
 
 -- All lines. The net of a key is that of its rows; the weighted value of a factor, the value of a bucket and the margin of a measure
 -- are those of the written rule over the nets, and each further margin is a part of SIMM.

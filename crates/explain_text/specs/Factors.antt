@@ -1,7 +1,7 @@
 -- The lines of the factors of a bucket in a measure: each with what it is weighed from, and with its weighted value by the very
 -- words that the value of the bucket sums over.
 -- (ISDA SIMM methodology: weighted sensitivities, concentration risk factors, curvature risk exposures, base correlation margin.)
-use Rattle.std.specs.Prelude.{ℕ, List, [], Option, Some, None, if◌then◌else◌, ℤ, ◌*ℤ◌}
+use Rattle.std.specs.Prelude.{ℕ, List, [], Option, Some, None, ℤ, ◌*ℤ◌}
 use Rattle.std.specs.List.{flat_map}
 use Rattle.measured_bucket.specs.SimmKinds.declared.kinds.Measure.{Measure}
 use Rattle.measured_bucket.specs.SimmKinds.declared.kinds.Measure.TheVariants as measure
@@ -21,16 +21,13 @@ use Rattle.measured_bucket.specs.SimmRules.Rates.{RateIn, VolatilityIn, rate_cr,
 use Rattle.measured_bucket.specs.SimmRules.Credit.{credit_params, weighted_point, curved_point}
 use Rattle.measured_bucket.specs.SimmRules.Priced.{NameVolatility, priced_params, names_of, tenors_of, weighted_name, price_vega_risk, curved_name}
 use Rattle.measured_bucket.specs.SimmRules.ForeignExchange.{PairVolatility, fx_sigma, fx_vega_threshold, weighted_currency, pairs_of, pair_tenors, pair_vega_risk, weighted_pair, curved_pair}
-use Rattle.measured_bucket.specs.SimmParams.ClassKinds.{credit_class, priced_class}
 use Rattle.measured_bucket.specs.SimmParams.ListedBuckets.{credit_bucket_of, priced_bucket_of}
-use Rattle.bucket_cache.specs.FactorBook.declared.at.BucketAt.{BucketAt}
 use Rattle.bucket_cache.specs.FactorBook.declared.holding.Holding.{Holding}
 use Rattle.measured_bucket.specs.declared.explained.Explained.{Explained}
 use Rattle.measured_bucket.specs.Explained.{Unweighed, from_itself, without_group}
 use Rattle.class_rates.specs.Rates.{rates_among}
 use Rattle.class_rates.specs.Volatilities.{volatilities_among}
 use Rattle.class_rates.specs.Unweighed.{rates_group, unweighed_rate, volatilities_group, unweighed_volatility, uncurved_volatility}
-use Rattle.class_credit.specs.Base.{index_nets}
 use Rattle.class_credit.specs.Points.{point_nets}
 use Rattle.class_credit.specs.Unweighed.{unweighed_point, uncurved_point, unweighed_index}
 use Rattle.class_priced.specs.Names.{name_nets, volatility_nets}
@@ -39,9 +36,8 @@ use Rattle.class_priced.specs.Weights.{curved_at}
 use Rattle.class_exchange.specs.Currencies.{risky_nets}
 use Rattle.class_exchange.specs.Pairs.{pair_nets}
 use Rattle.class_exchange.specs.Unweighed.{unweighed_currency}
-use Rattle.class_margin.specs.declared.value.slot.Slot.{Slot}
-use Rattle.class_margin.specs.declared.value.slot.Slot.TheVariants as slot
-use Rattle.class_margin.specs.value.Slot.{slot_of, is_base}
+use Rattle.bucket_cache.specs.FactorBook.declared.slot.Slot.{Slot}
+use Rattle.bucket_cache.specs.FactorBook.declared.slot.Slot.TheVariants as slot
 use Rattle.explain_text.specs.Lines.{factor_line}
 use Rattle.explain_text.specs.Names.{rate_name, volatility_name, point_type, point_volatility_type, point_name, index_name, price_type, price_volatility_type, price_name, currency_name, pair_name}
 
@@ -149,38 +145,31 @@ pair_curvature_lines p product amounts =
 
 abbrev pub delta_lines : Params → ProductClass → List (FactorKey × Holding) → Slot → List ℕ
 delta_lines p product its (slot.Rates currency) = rate_lines p product currency (rates_among currency its)
-delta_lines p product its (slot.Credit kind at) =
-    lines_of (point_lines product (point_type kind) at (point_nets its)) (credit_bucket_of (credit_params p (credit_class kind)).buckets at)
-delta_lines p product its (slot.Priced kind at) =
-    lines_of (name_lines product (price_type kind) at (name_nets its)) (priced_bucket_of (priced_params p (priced_class kind)).buckets at)
+delta_lines p product its (slot.Credit class at) =
+    lines_of (point_lines product (point_type class) at (point_nets its)) (credit_bucket_of (credit_params p class).buckets at)
+delta_lines p product its (slot.Priced class at) =
+    lines_of (name_lines product (price_type class) at (name_nets its)) (priced_bucket_of (priced_params p class).buckets at)
 delta_lines p product its slot.Exchange = currency_lines p product (risky_nets p its)
 
 abbrev pub vega_lines : Params → ProductClass → List (FactorKey × Holding) → Slot → List ℕ
 vega_lines p product its (slot.Rates currency) = rate_vega_lines p product currency (volatilities_among currency its)
-vega_lines p product its (slot.Credit kind at) =
-    lines_of (point_vega_lines product (point_volatility_type kind) at (point_nets its))
-    (credit_bucket_of (credit_params p (credit_class kind)).buckets at)
-vega_lines p product its (slot.Priced kind at) =
-    lines_of (name_vega_lines product (price_volatility_type kind) at (priced_params p (priced_class kind)).hvr (volatility_nets its))
-    (priced_bucket_of (priced_params p (priced_class kind)).buckets at)
+vega_lines p product its (slot.Credit class at) =
+    lines_of (point_vega_lines product (point_volatility_type class) at (point_nets its))
+    (credit_bucket_of (credit_params p class).buckets at)
+vega_lines p product its (slot.Priced class at) =
+    lines_of (name_vega_lines product (price_volatility_type class) at (priced_params p class).hvr (volatility_nets its))
+    (priced_bucket_of (priced_params p class).buckets at)
 vega_lines p product its slot.Exchange = pair_vega_lines p product (pair_nets its)
 
 abbrev pub curvature_lines : Params → ProductClass → List (FactorKey × Holding) → Slot → List ℕ
 curvature_lines p product its (slot.Rates currency) = rate_curvature_lines product currency (volatilities_among currency its)
-curvature_lines p product its (slot.Credit kind at) =
-    lines_of (point_curvature_lines product (point_volatility_type kind) at (point_nets its))
-    (credit_bucket_of (credit_params p (credit_class kind)).buckets at)
-curvature_lines p product its (slot.Priced kind at) =
-    lines_of (name_curvature_lines product (price_volatility_type kind) at (volatility_nets its))
-    (priced_bucket_of (priced_params p (priced_class kind)).buckets at)
+curvature_lines p product its (slot.Credit class at) =
+    lines_of (point_curvature_lines product (point_volatility_type class) at (point_nets its))
+    (credit_bucket_of (credit_params p class).buckets at)
+curvature_lines p product its (slot.Priced class at) =
+    lines_of (name_curvature_lines product (price_volatility_type class) at (volatility_nets its))
+    (priced_bucket_of (priced_params p class).buckets at)
 curvature_lines p product its slot.Exchange = pair_curvature_lines p product (pair_nets its)
-
--- the factors of a bucket in a measure
-abbrev pub factor_lines : Params → BucketAt → Measure → List (FactorKey × Holding) → List ℕ
-factor_lines p at measure.Delta its = lines_of (delta_lines p at.product its) (slot_of at.class at.bucket)
-factor_lines p at measure.Vega its = lines_of (vega_lines p at.product its) (slot_of at.class at.bucket)
-factor_lines p at measure.Curvature its = lines_of (curvature_lines p at.product its) (slot_of at.class at.bucket)
-factor_lines p at measure.BaseCorr its = if is_base at.class at.bucket then index_lines p at.product (index_nets its) else []
 
 -- ---- as the code has them
 

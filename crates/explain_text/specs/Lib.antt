@@ -2,7 +2,6 @@ pub mod Lines
 pub mod Names
 pub mod Factors
 pub mod Sides
-pub mod Measurable
 pub mod Classes
 pub mod Explained
 pub use Rattle.bucket_cache.specs as BucketCache

@@ -14,9 +14,9 @@ use Rattle.measured_bucket.specs.SimmKinds.Factors.{kind_of}
 use Rattle.measured_bucket.specs.SimmKinds.Kinds.{product_word, class_word, kind_word}
 use Rattle.measured_bucket.specs.SimmRules.declared.values.BucketMargin.{BucketMargin}
 use Rattle.measured_bucket.specs.SimmRules.Risks.{Amount}
-use Rattle.bucket_cache.specs.FactorBook.declared.at.BucketAt.{BucketAt}
-use Rattle.bucket_cache.specs.FactorBook.declared.at.ClassAt.{ClassAt}
 use Rattle.bucket_cache.specs.FactorBook.declared.holding.Holding.{Holding}
+use Rattle.bucket_cache.specs.FactorBook.declared.place.Place.{Place}
+use Rattle.bucket_cache.specs.FactorBook.Place.{stand_bucket, stand_class}
 use Rattle.measured_bucket.specs.declared.weighing.Group.{Group}
 use Rattle.measured_bucket.specs.declared.weighing.Weighing.{Weighing}
 use Rattle.breakdown_text.specs.FaultText.Fields.{field, last_field}
@@ -62,13 +62,13 @@ abbrev pub value_fields : BucketMargin → List ℕ
 value_fields v = sum_fields v ++ root_fields v
 
 -- the value of a bucket in a measure
-abbrev pub bucket_line : BucketAt → Measure → BucketMargin → List ℕ
-bucket_line at measure v =
-    measure_fields (codes "BUCKET") measure at.product at.class ++ field (bucket_word at.bucket) ++ value_fields v
+abbrev pub bucket_line : Place → Measure → BucketMargin → List ℕ
+bucket_line place measure v =
+    measure_fields (codes "BUCKET") measure place.product (stand_class place.stand) ++ field (bucket_word (stand_bucket place.stand)) ++ value_fields v
 
 -- the margin of a measure in a risk class
-abbrev pub measure_line : ClassAt → Measure → ℤ → List ℕ
-measure_line at measure margin = measure_fields (codes "MEASURE") measure at.product at.class ++ last_field (money_text margin)
+abbrev pub measure_line : ProductClass → RiskClass → Measure → ℤ → List ℕ
+measure_line product class measure margin = measure_fields (codes "MEASURE") measure product class ++ last_field (money_text margin)
 
 -- ---- factors
 

@@ -8,10 +8,10 @@ use Rattle.measured_bucket.specs.SimmKinds.Kinds.{kind_word, sub_word}
 use Rattle.measured_bucket.specs.SimmKinds.Pair.{Pair}
 use Rattle.measured_bucket.specs.SimmKinds.Tenors.{tenor_word, tenor_at}
 use Rattle.measured_bucket.specs.SimmRules.Risks.{Rate, Curve, Inflation, Basis, RateVolatility, Of_rates, Of_inflation, CreditPoint}
-use Rattle.measured_bucket.specs.SimmParams.declared.class_kind.CreditKind.{CreditKind}
-use Rattle.measured_bucket.specs.SimmParams.declared.class_kind.CreditKind.TheVariants as credit
-use Rattle.measured_bucket.specs.SimmParams.declared.class_kind.PricedKind.{PricedKind}
-use Rattle.measured_bucket.specs.SimmParams.declared.class_kind.PricedKind.TheVariants as priced
+use Rattle.measured_bucket.specs.SimmRules.declared.classes.CreditClass.{CreditClass}
+use Rattle.measured_bucket.specs.SimmRules.declared.classes.CreditClass.TheVariants as credit
+use Rattle.measured_bucket.specs.SimmRules.declared.classes.PricedClass.{PricedClass}
+use Rattle.measured_bucket.specs.SimmRules.declared.classes.PricedClass.TheVariants as priced
 use Rattle.breakdown_text.specs.FaultText.Fields.{field}
 use Rattle.breakdown_text.specs.Factors.{parts}
 use Rattle.explain_text.specs.Lines.{bucket_word}
@@ -33,11 +33,11 @@ volatility_name currency (Of_inflation tenor) = name_fields kind.InflationVol cu
 -- ---- credit
 
 -- the type of the points of a class of credit, and of their volatilities
-abbrev pub point_type : CreditKind → RiskType
+abbrev pub point_type : CreditClass → RiskType
 point_type credit.Qualifying = kind.CreditQ
 point_type credit.NonQualifying = kind.CreditNonQ
 
-abbrev pub point_volatility_type : CreditKind → RiskType
+abbrev pub point_volatility_type : CreditClass → RiskType
 point_volatility_type credit.Qualifying = kind.CreditVol
 point_volatility_type credit.NonQualifying = kind.CreditVolNonQ
 
@@ -50,11 +50,11 @@ index_name index = name_fields kind.BaseCorr index [] [] [] []
 
 -- ---- equity and commodities: all tenors of a name are one factor
 
-abbrev pub price_type : PricedKind → RiskType
+abbrev pub price_type : PricedClass → RiskType
 price_type priced.Equities = kind.Equity
 price_type priced.Commodities = kind.Commodity
 
-abbrev pub price_volatility_type : PricedKind → RiskType
+abbrev pub price_volatility_type : PricedClass → RiskType
 price_volatility_type priced.Equities = kind.EquityVol
 price_volatility_type priced.Commodities = kind.CommodityVol
 

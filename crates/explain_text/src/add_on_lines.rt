@@ -9,7 +9,8 @@ ghost use Rattle.class_combine.specs.Multipliers.{IsMultiplier};
 ghost use Rattle.class_combine.specs.Notionals.{size_at, IsFactor};
 ghost use Rattle.class_combine.specs.Sums.{AreOfBook};
 ghost use Rattle.class_combine.specs.Whole.{HasProductMargins};
-ghost use Rattle.explain_text.specs.Lines.{add_on_fields, amount_fields, notional_line, multiplier_line};
+ghost use Rattle.explain_text.specs.Lines.{add_on_fields, amount_fields};
+ghost use Rattle.explain_text.specs.Lines.{notional_line, multiplier_line};
 ghost use Rattle.explain_text.specs.Explained.{adds_lines};
 
 use breakdown_text::fault_text::{push_field, push_last_amount, push_number, push_sum};
@@ -21,8 +22,8 @@ use measured_bucket::simm_kinds::{CrifRow, Name, ProductClass};
 use measured_bucket::simm_rules::Breakdown;
 use std::alloc::AllocError;
 
-/// Adds the lines of the additional margins of a batch with these parameters: each factor of notionals and each multiplier, in the
-/// order of their rows, and the sums that aren't 0.
+/// Adds the lines of the additional margins of a batch with these parameters: each factor of
+/// notionals and each multiplier, in the order of their rows, and the sums that aren't 0.
 pub(crate) fn push_adds(
     text: &mut Text,
     parameters: &[CrifRow],
@@ -30,7 +31,8 @@ pub(crate) fn push_adds(
 ) -> Result<(), AllocError>
     requires add_ons { AreOfBook figures.now.add_ons parameters.now }
     requires margins { HasProductMargins figures.now.margin }
-    ensures { OnOk result (text.new ≡ text.old ++ adds_lines parameters.now (size_at figures.now.add_ons.notionals) figures.now.margin) }
+    ensures { OnOk result (text.new ≡ text.old
+        ++ adds_lines parameters.now (size_at figures.now.add_ons.notionals) figures.now.margin) }
 {
     push_notionals(text, parameters, &figures.add_ons)?;
     push_multipliers(text, parameters, &figures.margin)?;
@@ -45,8 +47,8 @@ fn push_notionals(
     sums: &AddOnSums,
 ) -> Result<(), AllocError>
     requires { AreOfBook sums.now parameters.now }
-    ensures { OnOk result (text.new ≡ text.old
-        ++ flat_map (notional_line (size_at sums.now.notionals)) (flat_map notional_factor parameters.now)) }
+    ensures { OnOk result (text.new ≡ text.old ++ flat_map
+        (notional_line (size_at sums.now.notionals)) (flat_map notional_factor parameters.now)) }
 {
     for row in parameters {
         push_row_notional(text, row, sums)?;
@@ -82,8 +84,8 @@ fn push_notional(
 ) -> Result<(), AllocError>
     requires factor { IsFactor factor.0 }
     requires book { (parameters : List Row) × AreOfBook sums.now parameters }
-    ensures { OnOk result (text.new ≡ text.old
-        ++ notional_line (size_at sums.now.notionals) (record { of = qualifier.now; amount = factor.0 })) }
+    ensures { OnOk result (text.new ≡ text.old ++ notional_line (size_at sums.now.notionals)
+        (record { of = qualifier.now; amount = factor.0 })) }
 {
     let share = notional_share(sums, qualifier, factor);
     push_start(text, b"NOTIONAL", qualifier.bytes(), factor)?;
@@ -100,7 +102,8 @@ fn push_multipliers(
     requires amounts { list_all is_in_range parameters.now ≡ true }
     requires margins { HasProductMargins margin.now }
     ensures { OnOk result (text.new ≡ text.old
-        ++ flat_map (multiplier_line (λ product. (product_part margin.now product).margin.0)) (flat_map multiplier parameters.now)) }
+        ++ flat_map (multiplier_line (λ product. (product_part margin.now product).margin.0))
+        (flat_map multiplier parameters.now)) }
 {
     for row in parameters {
         push_row_multiplier(text, row, margin)?;
@@ -113,7 +116,8 @@ fn push_row_multiplier(text: &mut Text, row: &CrifRow, margin: &Breakdown) -> Re
     requires row { is_in_range row.now ≡ true }
     requires margins { HasProductMargins margin.now }
     ensures { OnOk result (text.new ≡ text.old
-        ++ flat_map (multiplier_line (λ product. (product_part margin.now product).margin.0)) (multiplier row.now)) }
+        ++ flat_map (multiplier_line (λ product. (product_part margin.now product).margin.0))
+        (multiplier row.now)) }
 {
     match row {
         CrifRow::Multiplier { product, factor } => {
@@ -137,7 +141,8 @@ fn push_multiplier(
     requires factor { IsMultiplier factor.0 }
     requires margins { HasProductMargins margin.now }
     ensures { OnOk result (text.new ≡ text.old
-        ++ multiplier_line (λ product. (product_part margin.now product).margin.0) (record { of = product; amount = factor.0 })) }
+        ++ multiplier_line (λ product. (product_part margin.now product).margin.0)
+        (record { of = product; amount = factor.0 })) }
 {
     let its = margin.product(product).margin;
     let adds = multiplier_share(factor, its);

@@ -5,12 +5,13 @@ ghost use Rattle.measured_bucket.specs.SimmKinds.declared.row.TradeRows.{TradeRo
 ghost use Rattle.measured_bucket.specs.SimmRules.Parts.{class_part, product_part};
 ghost use Rattle.measured_bucket.specs.SimmRules.Simm.{classes};
 ghost use Rattle.bucket_cache.specs.Figures.{AreFigures};
-ghost use Rattle.explain_text.specs.Classes.{side_of_class, has_side, has_class, has_product, class_in, class_lines, product_lines};
+ghost use Rattle.explain_text.specs.Classes.{has_side, has_class, has_product};
+ghost use Rattle.explain_text.specs.Classes.{class_lines, product_lines};
 ghost use Rattle.explain_text.specs.Explained.{values_of, margins_of, products_lines};
 
 use crate::side_lines::push_side;
 use breakdown_text::{push_class_margin, push_product_margin};
-use bucket_cache::factor_book::{BookSide, ClassAt, Factors, SideAt};
+use bucket_cache::factor_book::{BookSide, Factors};
 use bucket_cache::{BatchFigures, measure_margins};
 use measured_bucket::mh_units::Text;
 use measured_bucket::simm_kinds::{ProductClass, RiskClass};
@@ -26,7 +27,8 @@ pub(crate) fn push_products(
 ) -> Result<(), AllocError>
     requires { (trades : List TradeRows) × AreFigures params.now trades figures.now }
     ensures { OnOk result (text.new ≡ text.old
-        ++ products_lines params.now (values_of params.now figures.now.factors) (margins_of params.now figures.now.factors) figures.now.factors figures.now.margin) }
+        ++ products_lines params.now (values_of params.now figures.now.factors)
+        (margins_of params.now figures.now.factors) figures.now.factors figures.now.margin) }
 {
     for product in &ProductClass::ALL {
         push_product(text, alloc, params, figures, *product)?;
@@ -45,7 +47,8 @@ fn push_product(
 ) -> Result<(), AllocError>
     requires { (trades : List TradeRows) × AreFigures params.now trades figures.now }
     ensures { OnOk result (text.new ≡ text.old
-        ++ product_lines params.now (values_of params.now figures.now.factors) (margins_of params.now figures.now.factors) figures.now.factors product
+        ++ product_lines params.now (values_of params.now figures.now.factors)
+        (margins_of params.now figures.now.factors) figures.now.factors product
         (product_part figures.now.margin product)) }
 {
     if !has_product(&figures.factors, product) {
@@ -66,11 +69,12 @@ fn push_classes(
 ) -> Result<(), AllocError>
     requires { (trades : List TradeRows) × AreFigures params.now trades figures.now }
     ensures { OnOk result (text.new ≡ text.old
-        ++ flat_map (λ class. class_lines params.now (values_of params.now figures.now.factors) (margins_of params.now figures.now.factors) figures.now.factors
-        (class_in product class) (class_part (product_part figures.now.margin product) class).0) classes) }
+        ++ flat_map (λ class. class_lines params.now (values_of params.now figures.now.factors)
+        (margins_of params.now figures.now.factors) figures.now.factors
+        product class (class_part (product_part figures.now.margin product) class).0) classes) }
 {
     for class in &RiskClass::ALL {
-        push_class(text, alloc, params, figures, class_in(product, *class))?;
+        push_class(text, alloc, params, figures, product, *class)?;
     }
     Ok(())
 }
@@ -81,59 +85,46 @@ fn push_class(
     alloc: Global,
     params: &Params,
     figures: &BatchFigures,
-    at: ClassAt,
+    product: ProductClass,
+    class: RiskClass,
 ) -> Result<(), AllocError>
     requires { (trades : List TradeRows) × AreFigures params.now trades figures.now }
     ensures { OnOk result (text.new ≡ text.old
-        ++ class_lines params.now (values_of params.now figures.now.factors) (margins_of params.now figures.now.factors) figures.now.factors at
-        (class_part (product_part figures.now.margin at.product) at.class).0) }
+        ++ class_lines params.now (values_of params.now figures.now.factors)
+        (margins_of params.now figures.now.factors) figures.now.factors product class
+        (class_part (product_part figures.now.margin product) class).0) }
 {
     let factors = &figures.factors;
     let kept = &figures.kept;
-    if !has_class(factors, at) {
+    if !has_class(factors, product, class) {
         return Ok(());
     }
-    let margins = measure_margins(alloc, params, factors, kept, at)?;
-    let (delta, volatility) = (
-        side_of(at, BookSide::Delta),
-        side_of(at, BookSide::Volatility),
-    );
-    push_side(text, alloc, params, factors, kept, delta, margins)?;
-    push_side(text, alloc, params, factors, kept, volatility, margins)?;
-    let margin = figures.margin.product(at.product).class(at.class);
-    push_class_margin(text, at.product, at.class, margin.0)?;
+    let margins = measure_margins(alloc, params, factors, kept, product, class)?;
+    let (delta, volatility) = (BookSide::Delta, BookSide::Volatility);
+    push_side(
+        text, alloc, params, factors, kept, product, class, delta, margins,
+    )?;
+    push_side(
+        text, alloc, params, factors, kept, product, class, volatility, margins,
+    )?;
+    let margin = figures.margin.product(product).class(class);
+    push_class_margin(text, product, class, margin.0)?;
     Ok(())
 }
 
-fn class_in(product: ProductClass, class: RiskClass) -> ClassAt
-    ensures { result ≡ class_in product class }
-{
-    ClassAt { product, class }
-}
-
-fn side_of(at: ClassAt, side: BookSide) -> SideAt
-    ensures { result ≡ side_of_class at side }
-{
-    SideAt {
-        product: at.product,
-        class: at.class,
-        side,
-    }
-}
-
 // Whether a side has a factor.
-fn has_side(factors: &Factors, at: SideAt) -> bool
-    ensures { result ≡ has_side factors.now at }
+fn has_side(factors: &Factors, product: ProductClass, class: RiskClass, side: BookSide) -> bool
+    ensures { result ≡ has_side factors.now product class side }
 {
-    factors.side(at).next().is_some()
+    factors.side(product, class, side).next().is_some()
 }
 
 // Whether a class has one.
-fn has_class(factors: &Factors, at: ClassAt) -> bool
-    ensures { result ≡ has_class factors.now at }
+fn has_class(factors: &Factors, product: ProductClass, class: RiskClass) -> bool
+    ensures { result ≡ has_class factors.now product class }
 {
-    has_side(factors, side_of(at, BookSide::Delta))
-        || has_side(factors, side_of(at, BookSide::Volatility))
+    has_side(factors, product, class, BookSide::Delta)
+        || has_side(factors, product, class, BookSide::Volatility)
 }
 
 // Whether a product class has one.
@@ -141,7 +132,7 @@ fn has_product(factors: &Factors, product: ProductClass) -> bool
     ensures { result ≡ has_product factors.now product }
 {
     for class in &RiskClass::ALL {
-        if has_class(factors, class_in(product, *class)) {
+        if has_class(factors, product, *class) {
             return true;
         }
     }

@@ -14,9 +14,11 @@ use measured_bucket::simm_kinds::TradeRows;
 use measured_bucket::simm_params::Params;
 use std::alloc::{AllocError, Global};
 
-/// How the margin of a batch comes about, in lines: of each product class and risk class that has a sensitivity the nets of each
-/// bucket on each side, in key order, and the value of the bucket in each measure; the margins of measures, risk classes and product
-/// classes; each factor of notionals and each multiplier with what it adds; the additional margins that aren't 0, and the whole.
+/// How the margin of a batch comes about, in lines: of each product class and risk class that
+/// has a sensitivity the nets of each bucket on each side, in key order, and the value of the
+/// bucket in each measure; the margins of measures, risk classes and product classes; each
+/// factor of notionals and each multiplier with what it adds; the additional margins that aren't
+/// 0, and the whole.
 ///
 /// # Errors
 ///

@@ -2,7 +2,8 @@
 ghost use Rattle.std.specs.Prelude.{◌≡◌, ◌++◌, OnOk};
 ghost use Rattle.std.specs.List.{flat_map};
 ghost use Rattle.explain_text.specs.Factors.{explained_line};
-ghost use Rattle.explain_text.specs.Lines.{amount_text, group_fields, weighing_fields, weighted_fields};
+ghost use Rattle.explain_text.specs.Lines.{amount_text, group_fields};
+ghost use Rattle.explain_text.specs.Lines.{weighing_fields, weighted_fields};
 ghost use Rattle.breakdown_text.specs.FaultText.Fields.{field};
 
 use crate::measure_fields::measure_word;

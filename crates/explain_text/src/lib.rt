@@ -1,11 +1,11 @@
-//! How the margin of a batch comes about, bottom up: the nets of each bucket, in each measure its factors with what they are
-//! weighed from and its value, the margins of measures, of risk classes and of product classes, the additional margins one by one,
-//! and the whole. The order of the lines hangs on the keys of the book alone, so that two parties find the first figure that
+//! How the margin of a batch comes about, bottom up: the nets of each bucket, in each measure its
+//! factors with what they are weighed from and its value, the margins of measures, of risk classes
+//! and of product classes, the additional margins one by one, and the whole. The order of the
+//! lines hangs on the keys of the book alone, so that two parties find the first figure that
 //! differs by a comparison of lines.
 #![tactic(auto)]
 
 mod add_on_lines;
-mod bucket_lines;
 mod class_lines;
 mod explained;
 mod factor_lines;
@@ -13,6 +13,7 @@ mod factors;
 mod measure_fields;
 mod names;
 mod net_lines;
+mod place_lines;
 mod side_lines;
 mod sides;
 

@@ -3,9 +3,8 @@ ghost use Rattle.std.specs.Prelude.{◌≡◌, ◌++◌, OnOk};
 ghost use Rattle.explain_text.specs.Lines.{measure_word, measure_fields};
 
 use breakdown_text::fault_text::push_field;
-use bucket_cache::factor_book::ClassAt;
 use measured_bucket::mh_units::Text;
-use measured_bucket::simm_kinds::Measure;
+use measured_bucket::simm_kinds::{Measure, ProductClass, RiskClass};
 use std::alloc::AllocError;
 
 /// The word of a measure.
@@ -25,12 +24,13 @@ pub(crate) fn push_measure_fields(
     text: &mut Text,
     word: &[u8],
     measure: Measure,
-    at: ClassAt,
+    product: ProductClass,
+    class: RiskClass,
 ) -> Result<(), AllocError>
-    ensures { OnOk result (text.new ≡ text.old ++ measure_fields word.now measure at.product at.class) }
+    ensures { OnOk result (text.new ≡ text.old ++ measure_fields word.now measure product class) }
 {
     push_field(text, word)?;
     push_field(text, measure_word(measure).as_bytes())?;
-    push_field(text, at.product.word().as_bytes())?;
-    push_field(text, at.class.word().as_bytes())
+    push_field(text, product.word().as_bytes())?;
+    push_field(text, class.word().as_bytes())
 }

@@ -9,7 +9,7 @@ ghost use Rattle.explain_text.specs.Lines.{bucket_word};
 ghost use Rattle.explain_text.specs.Names.{currency_name, index_name, name_fields, pair_name};
 ghost use Rattle.explain_text.specs.Names.{point_name, price_name, rate_name, volatility_name};
 
-use crate::bucket_lines::push_bucket_word;
+use crate::place_lines::push_bucket_word;
 use breakdown_text::fault_text::push_field;
 use breakdown_text::push_factor_parts;
 use class_credit::{IndexNet, PointNet};

@@ -12,7 +12,7 @@ use std::alloc::AllocError;
 
 /// Adds the lines of the nets of a place.
 pub(crate) fn push_nets(text: &mut Text, lent: &PlaceFactors) -> Result<(), AllocError>
-    ensures { OnOk result (text.new ≡ text.old ++ flat_map net_line lent.now) }
+    ensures { OnOk result (text.new ≡ text.old ++ flat_map net_line lent.now.factors) }
 {
     for (key, holding) in lent.iter() {
         push_net(text, key, holding)?;

@@ -1,12 +1,12 @@
 //! The measures of the sides of a risk class.
 ghost use Rattle.std.specs.Prelude.{◌≡◌};
-ghost use Rattle.bucket_cache.specs.FactorBook.Places.{buckets_on};
-ghost use Rattle.bucket_cache.specs.KeptBuckets.Cached.{cached_in};
-ghost use Rattle.explain_text.specs.Sides.{first_measure, second_measure, bucket_in, class_of_side, has_measure};
+ghost use Rattle.bucket_cache.specs.FactorBook.Places.{by_side};
+ghost use Rattle.bucket_cache.specs.KeptBuckets.Kept.{cached_in};
+ghost use Rattle.explain_text.specs.Sides.{first_measure, second_measure, has_measure};
 
-use bucket_cache::factor_book::{BookSide, BucketAt, ClassAt, Factors, SideAt};
+use bucket_cache::factor_book::{BookSide, Factors};
 use bucket_cache::kept_buckets::KeptBuckets;
-use measured_bucket::simm_kinds::{BucketId, Measure};
+use measured_bucket::simm_kinds::{Measure, ProductClass, RiskClass};
 
 /// The first of the two measures of a side.
 pub(crate) fn first_measure(side: BookSide) -> Measure
@@ -28,38 +28,20 @@ pub(crate) fn second_measure(side: BookSide) -> Measure
     }
 }
 
-/// A bucket of a side.
-pub(crate) fn bucket_in(at: SideAt, bucket: BucketId) -> BucketAt
-    ensures { result ≡ bucket_in at bucket }
-{
-    BucketAt {
-        product: at.product,
-        class: at.class,
-        bucket,
-    }
-}
-
-/// The class of a side.
-pub(crate) fn class_of(at: SideAt) -> ClassAt
-    ensures { result ≡ class_of_side at }
-{
-    ClassAt {
-        product: at.product,
-        class: at.class,
-    }
-}
-
-/// Whether a bucket of a side that has a factor has the measure.
+/// Whether a place of a side that has a factor has the measure.
 pub(crate) fn has_measure(
     factors: &Factors,
     kept: &KeptBuckets,
-    at: SideAt,
+    product: ProductClass,
+    class: RiskClass,
+    side: BookSide,
     measure: Measure,
 ) -> bool
-    ensures { result ≡ has_measure (cached_in kept.now) at measure (buckets_on at factors.now) }
+    ensures { result
+        ≡ has_measure (cached_in kept.now) measure (by_side product class side factors.now) }
 {
-    for (place, _) in factors.side(at) {
-        if kept.cached(bucket_in(at, place.bucket), measure).is_some() {
+    for (_, lent) in factors.side(product, class, side) {
+        if kept.cached(&lent.place(), measure).is_some() {
             return true;
         }
     }

@@ -20,9 +20,9 @@ pub(crate) fn push_base(
     product: ProductClass,
     lent: &PlaceFactors,
 ) -> Result<(), AllocError>
-    requires { AreIndices params.now (index_nets lent.now) }
+    requires { AreIndices params.now (index_nets lent.now.factors) }
     ensures { OnOk result (text.new ≡ text.old
-        ++ index_lines params.now product (index_nets lent.now)) }
+        ++ index_lines params.now product (index_nets lent.now.factors)) }
 {
     let indices = indices_among(alloc, lent)?;
     let measured = BaseCorrelation {

@@ -1,7 +1,7 @@
 //! The lines of the factors of a bucket of credit, which the parameter file lists.
 ghost use Rattle.std.specs.Prelude.{◌≡◌, ◌++◌, OnOk, pos};
 ghost use Rattle.class_credit.specs.Points.{point_nets, ArePoints};
-ghost use Rattle.class_margin.specs.declared.value.slot.Slot.TheVariants as slot;
+ghost use Rattle.bucket_cache.specs.FactorBook.declared.slot.Slot.TheVariants as slot;
 ghost use Rattle.class_margin.specs.value.Delta.{IsDeltaReady};
 ghost use Rattle.class_margin.specs.value.Volatile.{IsVolatileReady};
 ghost use Rattle.explain_text.specs.Factors.{curvature_lines, delta_lines, vega_lines};
@@ -16,7 +16,8 @@ use class_credit::{CreditCurvature, CreditDelta, CreditVega, ListedCredit, point
 use measured_bucket::explain;
 use measured_bucket::mh_units::Text;
 use measured_bucket::simm_kinds::{Bucket, Measure, ProductClass, RiskType};
-use measured_bucket::simm_params::{CreditKind, Params};
+use measured_bucket::simm_params::Params;
+use measured_bucket::simm_rules::CreditClass;
 use std::alloc::{AllocError, Global};
 
 /// Adds those of delta.
@@ -25,16 +26,16 @@ pub(crate) fn push_delta(
     alloc: Global,
     params: &Params,
     product: ProductClass,
-    kind: CreditKind,
+    class: CreditClass,
     bucket: &Bucket,
     lent: &PlaceFactors,
 ) -> Result<(), AllocError>
-    requires { IsDeltaReady params.now (slot.Credit kind bucket.now) lent.now }
+    requires { IsDeltaReady params.now (slot.Credit class bucket.now) lent.now.factors }
     ensures { OnOk result (text.new ≡ text.old
-        ++ delta_lines params.now product lent.now (slot.Credit kind bucket.now)) }
+        ++ delta_lines params.now product lent.now.factors (slot.Credit class bucket.now)) }
 {
-    match ListedCredit::of(params, kind, *bucket) {
-        Some(listed) => delta_of(text, alloc, product, kind, bucket, listed, lent),
+    match ListedCredit::of(params, class, *bucket) {
+        Some(listed) => delta_of(text, alloc, product, class, bucket, listed, lent),
         None => Ok(()),
     }
 }
@@ -44,18 +45,18 @@ fn delta_of(
     text: &mut Text,
     alloc: Global,
     product: ProductClass,
-    kind: CreditKind,
+    class: CreditClass,
     bucket: &Bucket,
     listed: ListedCredit,
     lent: &PlaceFactors,
 ) -> Result<(), AllocError>
-    requires { ArePoints listed.bucket.terms.weight.0 (point_nets lent.now) }
-    ensures { let its = point_nets lent.now in let b = credit_bucket_view listed.bucket in
+    requires { ArePoints listed.bucket.terms.weight.0 (point_nets lent.now.factors) }
+    ensures { let its = point_nets lent.now.factors in let b = credit_bucket_view listed.bucket in
         OnOk result (text.new ≡ text.old
-        ++ point_lines product (point_type kind) bucket.now its b) }
+        ++ point_lines product (point_type class) bucket.now its b) }
 {
     let within = ListedType {
-        kind: point_type(kind),
+        kind: point_type(class),
         bucket: *bucket,
     };
     let points = points_among(alloc, lent)?;
@@ -73,16 +74,16 @@ pub(crate) fn push_vega(
     alloc: Global,
     params: &Params,
     product: ProductClass,
-    kind: CreditKind,
+    class: CreditClass,
     bucket: &Bucket,
     lent: &PlaceFactors,
 ) -> Result<(), AllocError>
-    requires { IsVolatileReady params.now (slot.Credit kind bucket.now) lent.now }
+    requires { IsVolatileReady params.now (slot.Credit class bucket.now) lent.now.factors }
     ensures { OnOk result (text.new ≡ text.old
-        ++ vega_lines params.now product lent.now (slot.Credit kind bucket.now)) }
+        ++ vega_lines params.now product lent.now.factors (slot.Credit class bucket.now)) }
 {
-    match ListedCredit::of(params, kind, *bucket) {
-        Some(listed) => vega_of(text, alloc, product, kind, bucket, listed, lent),
+    match ListedCredit::of(params, class, *bucket) {
+        Some(listed) => vega_of(text, alloc, product, class, bucket, listed, lent),
         None => Ok(()),
     }
 }
@@ -92,18 +93,18 @@ fn vega_of(
     text: &mut Text,
     alloc: Global,
     product: ProductClass,
-    kind: CreditKind,
+    class: CreditClass,
     bucket: &Bucket,
     listed: ListedCredit,
     lent: &PlaceFactors,
 ) -> Result<(), AllocError>
-    requires { ArePoints (pos 10000) (point_nets lent.now) }
-    ensures { let its = point_nets lent.now in let b = credit_bucket_view listed.bucket in
+    requires { ArePoints (pos 10000) (point_nets lent.now.factors) }
+    ensures { let its = point_nets lent.now.factors in let b = credit_bucket_view listed.bucket in
         OnOk result (text.new ≡ text.old
-        ++ point_vega_lines product (point_volatility_type kind) bucket.now its b) }
+        ++ point_vega_lines product (point_volatility_type class) bucket.now its b) }
 {
     let within = ListedType {
-        kind: volatility_type(kind),
+        kind: volatility_type(class),
         bucket: *bucket,
     };
     let points = points_among(alloc, lent)?;
@@ -121,16 +122,16 @@ pub(crate) fn push_curvature(
     alloc: Global,
     params: &Params,
     product: ProductClass,
-    kind: CreditKind,
+    class: CreditClass,
     bucket: &Bucket,
     lent: &PlaceFactors,
 ) -> Result<(), AllocError>
-    requires { IsVolatileReady params.now (slot.Credit kind bucket.now) lent.now }
+    requires { IsVolatileReady params.now (slot.Credit class bucket.now) lent.now.factors }
     ensures { OnOk result (text.new ≡ text.old
-        ++ curvature_lines params.now product lent.now (slot.Credit kind bucket.now)) }
+        ++ curvature_lines params.now product lent.now.factors (slot.Credit class bucket.now)) }
 {
-    match ListedCredit::of(params, kind, *bucket) {
-        Some(listed) => curvature_of(text, alloc, product, kind, bucket, listed, lent),
+    match ListedCredit::of(params, class, *bucket) {
+        Some(listed) => curvature_of(text, alloc, product, class, bucket, listed, lent),
         None => Ok(()),
     }
 }
@@ -140,18 +141,18 @@ fn curvature_of(
     text: &mut Text,
     alloc: Global,
     product: ProductClass,
-    kind: CreditKind,
+    class: CreditClass,
     bucket: &Bucket,
     listed: ListedCredit,
     lent: &PlaceFactors,
 ) -> Result<(), AllocError>
-    requires { ArePoints (pos 10000) (point_nets lent.now) }
-    ensures { let its = point_nets lent.now in let b = credit_bucket_view listed.bucket in
+    requires { ArePoints (pos 10000) (point_nets lent.now.factors) }
+    ensures { let its = point_nets lent.now.factors in let b = credit_bucket_view listed.bucket in
         OnOk result (text.new ≡ text.old
-        ++ point_curvature_lines product (point_volatility_type kind) bucket.now its b) }
+        ++ point_curvature_lines product (point_volatility_type class) bucket.now its b) }
 {
     let within = ListedType {
-        kind: volatility_type(kind),
+        kind: volatility_type(class),
         bucket: *bucket,
     };
     let points = points_among(alloc, lent)?;
@@ -170,21 +171,21 @@ fn curvature_of(
 }
 
 // The type of the points of a class.
-fn point_type(kind: CreditKind) -> RiskType
-    ensures { result ≡ point_type kind }
+fn point_type(class: CreditClass) -> RiskType
+    ensures { result ≡ point_type class }
 {
-    match kind {
-        CreditKind::Qualifying => RiskType::CreditQ,
-        CreditKind::NonQualifying => RiskType::CreditNonQ,
+    match class {
+        CreditClass::Qualifying => RiskType::CreditQ,
+        CreditClass::NonQualifying => RiskType::CreditNonQ,
     }
 }
 
 // The type of their volatilities.
-fn volatility_type(kind: CreditKind) -> RiskType
-    ensures { result ≡ point_volatility_type kind }
+fn volatility_type(class: CreditClass) -> RiskType
+    ensures { result ≡ point_volatility_type class }
 {
-    match kind {
-        CreditKind::Qualifying => RiskType::CreditVol,
-        CreditKind::NonQualifying => RiskType::CreditVolNonQ,
+    match class {
+        CreditClass::Qualifying => RiskType::CreditVol,
+        CreditClass::NonQualifying => RiskType::CreditVolNonQ,
     }
 }

@@ -21,9 +21,9 @@ pub(crate) fn push_delta(
     product: ProductClass,
     lent: &PlaceFactors,
 ) -> Result<(), AllocError>
-    requires { AreRisky params.now (risky_nets params.now lent.now) }
+    requires { AreRisky params.now (risky_nets params.now lent.now.factors) }
     ensures { OnOk result (text.new ≡ text.old
-        ++ currency_lines params.now product (risky_nets params.now lent.now)) }
+        ++ currency_lines params.now product (risky_nets params.now lent.now.factors)) }
 {
     let currencies = risky_currencies(alloc, params, lent)?;
     let measured = FxDelta {
@@ -42,9 +42,9 @@ pub(crate) fn push_vega(
     product: ProductClass,
     lent: &PlaceFactors,
 ) -> Result<(), AllocError>
-    requires { ArePairs params.now (pair_nets lent.now) }
+    requires { ArePairs params.now (pair_nets lent.now.factors) }
     ensures { OnOk result (text.new ≡ text.old
-        ++ pair_vega_lines params.now product (pair_nets lent.now)) }
+        ++ pair_vega_lines params.now product (pair_nets lent.now.factors)) }
 {
     params.facts();
     let pairs = volatile_pairs(alloc, lent, TenorScale::Even)?;
@@ -64,9 +64,9 @@ pub(crate) fn push_curvature(
     product: ProductClass,
     lent: &PlaceFactors,
 ) -> Result<(), AllocError>
-    requires { ArePairs params.now (pair_nets lent.now) }
+    requires { ArePairs params.now (pair_nets lent.now.factors) }
     ensures { OnOk result (text.new ≡ text.old
-        ++ pair_curvature_lines params.now product (pair_nets lent.now)) }
+        ++ pair_curvature_lines params.now product (pair_nets lent.now.factors)) }
 {
     params.facts();
     let pairs = volatile_pairs(alloc, lent, TenorScale::Curved)?;

@@ -1,10 +1,11 @@
 //! The lines of the factors of a bucket of equity or of commodities, which the parameter file
 //! lists.
 ghost use Rattle.std.specs.Prelude.{◌≡◌, ◌++◌, OnOk};
-ghost use Rattle.class_margin.specs.declared.value.slot.Slot.TheVariants as slot;
+ghost use Rattle.bucket_cache.specs.FactorBook.declared.slot.Slot.TheVariants as slot;
 ghost use Rattle.class_margin.specs.value.Delta.{IsDeltaReady};
 ghost use Rattle.class_margin.specs.value.Volatile.{IsVolatileReady};
-ghost use Rattle.class_priced.specs.Names.{name_nets, volatility_nets, AreNameVolatilities, AreNames};
+ghost use Rattle.class_priced.specs.Names.{name_nets, volatility_nets};
+ghost use Rattle.class_priced.specs.Names.{AreNameVolatilities, AreNames};
 ghost use Rattle.explain_text.specs.Factors.{curvature_lines, delta_lines, vega_lines};
 ghost use Rattle.explain_text.specs.Factors.{name_curvature_lines, name_lines, name_vega_lines};
 ghost use Rattle.explain_text.specs.Names.{price_type, price_volatility_type};
@@ -18,7 +19,8 @@ use class_priced::{
 };
 use measured_bucket::mh_units::Text;
 use measured_bucket::simm_kinds::{Bucket, Measure, ProductClass, RiskType};
-use measured_bucket::simm_params::{Params, PricedKind};
+use measured_bucket::simm_params::Params;
+use measured_bucket::simm_rules::PricedClass;
 use measured_bucket::{TenorScale, explain};
 use std::alloc::{AllocError, Global};
 
@@ -28,16 +30,16 @@ pub(crate) fn push_delta(
     alloc: Global,
     params: &Params,
     product: ProductClass,
-    kind: PricedKind,
+    class: PricedClass,
     bucket: &Bucket,
     lent: &PlaceFactors,
 ) -> Result<(), AllocError>
-    requires { IsDeltaReady params.now (slot.Priced kind bucket.now) lent.now }
+    requires { IsDeltaReady params.now (slot.Priced class bucket.now) lent.now.factors }
     ensures { OnOk result (text.new ≡ text.old
-        ++ delta_lines params.now product lent.now (slot.Priced kind bucket.now)) }
+        ++ delta_lines params.now product lent.now.factors (slot.Priced class bucket.now)) }
 {
-    match ListedPriced::of(params, kind, *bucket) {
-        Some(listed) => delta_of(text, alloc, product, kind, bucket, listed, lent),
+    match ListedPriced::of(params, class, *bucket) {
+        Some(listed) => delta_of(text, alloc, product, class, bucket, listed, lent),
         None => Ok(()),
     }
 }
@@ -47,18 +49,18 @@ fn delta_of(
     text: &mut Text,
     alloc: Global,
     product: ProductClass,
-    kind: PricedKind,
+    class: PricedClass,
     bucket: &Bucket,
     listed: ListedPriced,
     lent: &PlaceFactors,
 ) -> Result<(), AllocError>
-    requires { AreNames listed.bucket.terms.weight.0 (name_nets lent.now) }
-    ensures { let its = name_nets lent.now in let b = priced_bucket_view listed.bucket in
+    requires { AreNames listed.bucket.terms.weight.0 (name_nets lent.now.factors) }
+    ensures { let its = name_nets lent.now.factors in let b = priced_bucket_view listed.bucket in
         OnOk result (text.new ≡ text.old
-        ++ name_lines product (price_type kind) bucket.now its b) }
+        ++ name_lines product (price_type class) bucket.now its b) }
 {
     let within = ListedType {
-        kind: price_type(kind),
+        kind: price_type(class),
         bucket: *bucket,
     };
     let names = delta_names(alloc, lent)?;
@@ -76,16 +78,16 @@ pub(crate) fn push_vega(
     alloc: Global,
     params: &Params,
     product: ProductClass,
-    kind: PricedKind,
+    class: PricedClass,
     bucket: &Bucket,
     lent: &PlaceFactors,
 ) -> Result<(), AllocError>
-    requires { IsVolatileReady params.now (slot.Priced kind bucket.now) lent.now }
+    requires { IsVolatileReady params.now (slot.Priced class bucket.now) lent.now.factors }
     ensures { OnOk result (text.new ≡ text.old
-        ++ vega_lines params.now product lent.now (slot.Priced kind bucket.now)) }
+        ++ vega_lines params.now product lent.now.factors (slot.Priced class bucket.now)) }
 {
-    match ListedPriced::of(params, kind, *bucket) {
-        Some(listed) => vega_of(text, alloc, product, kind, bucket, listed, lent),
+    match ListedPriced::of(params, class, *bucket) {
+        Some(listed) => vega_of(text, alloc, product, class, bucket, listed, lent),
         None => Ok(()),
     }
 }
@@ -95,18 +97,18 @@ fn vega_of(
     text: &mut Text,
     alloc: Global,
     product: ProductClass,
-    kind: PricedKind,
+    class: PricedClass,
     bucket: &Bucket,
     listed: ListedPriced,
     lent: &PlaceFactors,
 ) -> Result<(), AllocError>
-    requires { AreNameVolatilities listed.bucket.sigma.0 (volatility_nets lent.now) }
-    ensures { let its = volatility_nets lent.now in let b = priced_bucket_view listed.bucket in
-        OnOk result (text.new ≡ text.old
-        ++ name_vega_lines product (price_volatility_type kind) bucket.now listed.hvr.0 its b) }
+    requires { AreNameVolatilities listed.bucket.sigma.0 (volatility_nets lent.now.factors) }
+    ensures { let its = volatility_nets lent.now.factors in
+        let b = priced_bucket_view listed.bucket in OnOk result (text.new ≡ text.old
+        ++ name_vega_lines product (price_volatility_type class) bucket.now listed.hvr.0 its b) }
 {
     let within = ListedType {
-        kind: volatility_type(kind),
+        kind: volatility_type(class),
         bucket: *bucket,
     };
     let names = volatile_names(alloc, lent, TenorScale::Even)?;
@@ -124,16 +126,16 @@ pub(crate) fn push_curvature(
     alloc: Global,
     params: &Params,
     product: ProductClass,
-    kind: PricedKind,
+    class: PricedClass,
     bucket: &Bucket,
     lent: &PlaceFactors,
 ) -> Result<(), AllocError>
-    requires { IsVolatileReady params.now (slot.Priced kind bucket.now) lent.now }
+    requires { IsVolatileReady params.now (slot.Priced class bucket.now) lent.now.factors }
     ensures { OnOk result (text.new ≡ text.old
-        ++ curvature_lines params.now product lent.now (slot.Priced kind bucket.now)) }
+        ++ curvature_lines params.now product lent.now.factors (slot.Priced class bucket.now)) }
 {
-    match ListedPriced::of(params, kind, *bucket) {
-        Some(listed) => curvature_of(text, alloc, product, kind, bucket, listed, lent),
+    match ListedPriced::of(params, class, *bucket) {
+        Some(listed) => curvature_of(text, alloc, product, class, bucket, listed, lent),
         None => Ok(()),
     }
 }
@@ -143,18 +145,18 @@ fn curvature_of(
     text: &mut Text,
     alloc: Global,
     product: ProductClass,
-    kind: PricedKind,
+    class: PricedClass,
     bucket: &Bucket,
     listed: ListedPriced,
     lent: &PlaceFactors,
 ) -> Result<(), AllocError>
-    requires { AreNameVolatilities listed.bucket.sigma.0 (volatility_nets lent.now) }
-    ensures { let its = volatility_nets lent.now in let b = priced_bucket_view listed.bucket in
-        OnOk result (text.new ≡ text.old
-        ++ name_curvature_lines product (price_volatility_type kind) bucket.now its b) }
+    requires { AreNameVolatilities listed.bucket.sigma.0 (volatility_nets lent.now.factors) }
+    ensures { let its = volatility_nets lent.now.factors in
+        let b = priced_bucket_view listed.bucket in OnOk result (text.new ≡ text.old
+        ++ name_curvature_lines product (price_volatility_type class) bucket.now its b) }
 {
     let within = ListedType {
-        kind: volatility_type(kind),
+        kind: volatility_type(class),
         bucket: *bucket,
     };
     let names = volatile_names(alloc, lent, TenorScale::Curved)?;
@@ -173,21 +175,21 @@ fn curvature_of(
 }
 
 // The type of the names of a class.
-fn price_type(kind: PricedKind) -> RiskType
-    ensures { result ≡ price_type kind }
+fn price_type(class: PricedClass) -> RiskType
+    ensures { result ≡ price_type class }
 {
-    match kind {
-        PricedKind::Equities => RiskType::Equity,
-        PricedKind::Commodities => RiskType::Commodity,
+    match class {
+        PricedClass::Equities => RiskType::Equity,
+        PricedClass::Commodities => RiskType::Commodity,
     }
 }
 
 // The type of their volatilities.
-fn volatility_type(kind: PricedKind) -> RiskType
-    ensures { result ≡ price_volatility_type kind }
+fn volatility_type(class: PricedClass) -> RiskType
+    ensures { result ≡ price_volatility_type class }
 {
-    match kind {
-        PricedKind::Equities => RiskType::EquityVol,
-        PricedKind::Commodities => RiskType::CommodityVol,
+    match class {
+        PricedClass::Equities => RiskType::EquityVol,
+        PricedClass::Commodities => RiskType::CommodityVol,
     }
 }

@@ -24,9 +24,9 @@ pub(crate) fn push_delta(
     currency: &Currency,
     lent: &PlaceFactors,
 ) -> Result<(), AllocError>
-    requires { AreRates params.now (rates_among currency.now lent.now) }
+    requires { AreRates params.now (rates_among currency.now lent.now.factors) }
     ensures { OnOk result (text.new ≡ text.old
-        ++ rate_lines params.now product currency.now (rates_among currency.now lent.now)) }
+        ++ rate_lines params.now product currency.now (rates_among currency.now lent.now.factors)) }
 {
     let rates = rates_among(alloc, lent)?;
     let measured = CurrencyDelta {
@@ -47,9 +47,9 @@ pub(crate) fn push_vega(
     currency: &Currency,
     lent: &PlaceFactors,
 ) -> Result<(), AllocError>
-    requires { AreVolatilities (volatilities_among currency.now lent.now) }
-    ensures { OnOk result (text.new ≡ text.old
-        ++ rate_vega_lines params.now product currency.now (volatilities_among currency.now lent.now)) }
+    requires { AreVolatilities (volatilities_among currency.now lent.now.factors) }
+    ensures { OnOk result (text.new ≡ text.old ++ rate_vega_lines params.now product currency.now
+        (volatilities_among currency.now lent.now.factors)) }
 {
     let volatilities = volatilities_among(alloc, lent)?;
     let measured = CurrencyVega {
@@ -70,9 +70,9 @@ pub(crate) fn push_curvature(
     currency: &Currency,
     lent: &PlaceFactors,
 ) -> Result<(), AllocError>
-    requires { AreVolatilities (volatilities_among currency.now lent.now) }
-    ensures { OnOk result (text.new ≡ text.old
-        ++ rate_curvature_lines product currency.now (volatilities_among currency.now lent.now)) }
+    requires { AreVolatilities (volatilities_among currency.now lent.now.factors) }
+    ensures { OnOk result (text.new ≡ text.old ++ rate_curvature_lines product currency.now
+        (volatilities_among currency.now lent.now.factors)) }
 {
     let volatilities = volatilities_among(alloc, lent)?;
     let measured = CurrencyCurvature {

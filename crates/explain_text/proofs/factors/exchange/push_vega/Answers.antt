@@ -27,7 +27,7 @@ explain-requires c =
 pub returns : goal.returns
 returns c =
     let p = c.args.params.now in
-    let amounts = pair_nets c.args.lent.now in
+    let amounts = pair_nets c.args.lent.now.factors in
     let there = ap pair_sums c.as_slice.ensures.value ∙ c.in_ok-pairs.ensures.sums in
     added measure.Vega c.args.product _ pair_name
     (vega_of_pair p amounts) (weighted_pair p amounts) (pairs_of amounts) c.in_ok-factors.factors.items

@@ -31,7 +31,7 @@ pub returns : goal.returns
 returns c =
     let product = c.args.product in
     let bucket = c.args.bucket.now in
-    let amounts = volatility_nets c.args.lent.now in
+    let amounts = volatility_nets c.args.lent.now.factors in
     let there = ap name_sums c.as_slice.ensures.value ∙ c.in_ok-names.ensures.sums in
     let b = priced_bucket_view c.args.listed.bucket in
     added measure.Curvature product _ (price_name c.volatility_type.result bucket)
