@@ -2,22 +2,22 @@
 use Rattle.std.specs.Prelude.{ℕ, List, [], ◌∷◌, ◌++◌, flat_map, codes}
 use Rattle.mh_io.specs.MhUnits.declared.quantities.Cents.{Cents}
 use Rattle.mh_io.specs.MhUnits.Money.{money_text}
-use Rattle.feed_events.specs.SetCore.SimmRules.declared.values.ClassMargins.{ClassMargins}
+use Rattle.feed_events.specs.SetCore.SimmRules.declared.tables.ByClass.{ByClass}
 use Rattle.feed_events.specs.SetCore.SimmRules.declared.values.Breakdown.{Breakdown}
 use Rattle.feed_events.specs.SetCore.declared.reply.Reply.{Reply}
 use Rattle.feed_events.specs.SetCore.declared.reply.Reply.TheVariants as reply
 use Rattle.feed_events.specs.SetCore.Text.{reply_text}
 use Rattle.feed_writer.specs.Messages.{next_field}
 
-abbrev pub class_amounts : ClassMargins → List Cents
+abbrev pub class_amounts : ByClass Cents → List Cents
 class_amounts c = c.ir ∷ c.credit_q ∷ c.credit_nonq ∷ c.equity ∷ c.commodity ∷ c.fx ∷ []
 
 abbrev pub all_class_amounts : Breakdown → List Cents
 all_class_amounts b =
-    class_amounts b.rates_fx.classes ++ (class_amounts b.credit.classes ++ (class_amounts b.equity.classes ++ class_amounts b.commodity.classes))
+    class_amounts b.products.rates_fx.classes ++ (class_amounts b.products.credit.classes ++ (class_amounts b.products.equity.classes ++ class_amounts b.products.commodity.classes))
 
 abbrev pub product_amounts : Breakdown → List Cents
-product_amounts b = b.rates_fx.margin ∷ b.credit.margin ∷ b.equity.margin ∷ b.commodity.margin ∷ []
+product_amounts b = b.products.rates_fx.margin ∷ b.products.credit.margin ∷ b.products.equity.margin ∷ b.products.commodity.margin ∷ []
 
 -- the three add-ons, and the total
 abbrev pub sum_amounts : Breakdown → List Cents

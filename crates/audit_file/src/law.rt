@@ -29,20 +29,23 @@ pub fn legal_texts_are_answered_yes()
         ≡ Ok (Verdict.Yes (length js) (all_entries js)) }
 {}
 
-/// Where the answer is Yes, each set is told, in order: the events of the file with the replies of the written rule are legal
-/// journals, and each reply line is that of its reply.
+/// Where the answer is Yes, each set is told, in order: the events of the file with the replies of
+/// the written rule are legal journals, and each reply line is that of its reply.
 pub fn yes_means_legal()
-    ensures legal { (base : Base) (names : List (List ℕ)) (taken : List ℕ) (ended : Bool)
-        (sets entries : ℕ) → verdict (rule_of base) names taken ended ≡ Ok (Verdict.Yes sets entries) →
+    ensures legal { (base : Base) (names : List (List ℕ)) (taken : List ℕ)
+        (ended : Bool) (sets entries : ℕ) →
+        verdict (rule_of base) names taken ended ≡ Ok (Verdict.Yes sets entries) →
         TellsLegal base (told names taken ended) }
-    ensures sets { (base : Base) (names : List (List ℕ)) (taken : List ℕ) (ended : Bool)
-        (sets entries : ℕ) → verdict (rule_of base) names taken ended ≡ Ok (Verdict.Yes sets entries) →
+    ensures sets { (base : Base) (names : List (List ℕ)) (taken : List ℕ)
+        (ended : Bool) (sets entries : ℕ) →
+        verdict (rule_of base) names taken ended ≡ Ok (Verdict.Yes sets entries) →
         AreAllSets (length names) 0 (told names taken ended) }
 {}
 
-/// The event of a message can be told: it is such as a message of a feed gives, and where the message can be written, so can
-/// the one in which an audit text tells the event.
+/// The event of a message can be told: it is such as a message of a feed gives, and where the
+/// message can be written, so can the one in which an audit text tells the event.
 pub fn events_can_be_told()
     ensures holds { (m : Message) (e : Event) → event_of m ≡ Ok e → HoldsEvent e }
-    ensures writes { (m : Message) (e : Event) → CanWrite m → event_of m ≡ Ok e → CanWrite (message_of (set_of m) e) }
+    ensures writes { (m : Message) (e : Event) → CanWrite m → event_of m ≡ Ok e
+        → CanWrite (message_of (set_of m) e) }
 {}

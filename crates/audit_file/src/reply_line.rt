@@ -1,8 +1,9 @@
 //! The line of a reply, behind its mark.
 ghost use Rattle.std.specs.Prelude.{◌≡◌, ◌++◌, flat_map, codes, IfOk, OnOk};
-ghost use Rattle.audit_file.specs.Replies.{class_amounts, all_class_amounts, product_amounts, sum_amounts, margin_amounts, amount_field, told_reply};
+ghost use Rattle.audit_file.specs.Replies.{class_amounts, all_class_amounts, product_amounts};
+ghost use Rattle.audit_file.specs.Replies.{sum_amounts, margin_amounts, amount_field, told_reply};
 
-use feed_events::set_core::bucket_cache::simm_rules::{Breakdown, ClassMargins};
+use feed_events::set_core::bucket_cache::simm_rules::{Breakdown, ByClass};
 use feed_events::set_core::{Reply, push_reply};
 use mh_io::mh_units::{Cents, Text, push_cents};
 use std::alloc::{AllocError, Global};
@@ -15,7 +16,7 @@ fn push_amount(text: &mut Text, amount: Cents) -> Result<(), AllocError>
     push_cents(text, amount)
 }
 
-fn push_classes(text: &mut Text, classes: &ClassMargins) -> Result<(), AllocError>
+fn push_classes(text: &mut Text, classes: &ByClass<Cents>) -> Result<(), AllocError>
     ensures { OnOk result (text.new ≡ text.old ++ flat_map amount_field
         (class_amounts classes.now)) }
 {
@@ -31,20 +32,20 @@ fn push_all_classes(text: &mut Text, margin: &Breakdown) -> Result<(), AllocErro
     ensures { OnOk result (text.new ≡ text.old ++ flat_map amount_field
         (all_class_amounts margin.now)) }
 {
-    push_classes(text, &margin.rates_fx.classes)?;
-    push_classes(text, &margin.credit.classes)?;
-    push_classes(text, &margin.equity.classes)?;
-    push_classes(text, &margin.commodity.classes)
+    push_classes(text, &margin.products.rates_fx.classes)?;
+    push_classes(text, &margin.products.credit.classes)?;
+    push_classes(text, &margin.products.equity.classes)?;
+    push_classes(text, &margin.products.commodity.classes)
 }
 
 fn push_products(text: &mut Text, margin: &Breakdown) -> Result<(), AllocError>
     ensures { OnOk result (text.new ≡ text.old ++ flat_map amount_field
         (product_amounts margin.now)) }
 {
-    push_amount(text, margin.rates_fx.margin)?;
-    push_amount(text, margin.credit.margin)?;
-    push_amount(text, margin.equity.margin)?;
-    push_amount(text, margin.commodity.margin)
+    push_amount(text, margin.products.rates_fx.margin)?;
+    push_amount(text, margin.products.credit.margin)?;
+    push_amount(text, margin.products.equity.margin)?;
+    push_amount(text, margin.products.commodity.margin)
 }
 
 fn push_sums(text: &mut Text, margin: &Breakdown) -> Result<(), AllocError>

@@ -2,7 +2,9 @@
 ghost use Rattle.std.specs.Prelude.{◌≡◌, ℕ, List, ◌+◌, ◌<◌, ◌^◌, ◌≤◌, length, IfOk};
 ghost use Rattle.feed_reader.specs.declared.message.Message.{Message as MessageValue};
 ghost use Rattle.audit_file.specs.Rules.{Log, Ruling};
-ghost use Rattle.audit_file.specs.Steps.{Steps, IsSound, judged, at_set, at_caller, by_ruling, is_here, by_meaning, at_event, in_block, at_reply, behind_entry, step, at_end};
+ghost use Rattle.audit_file.specs.Steps.{Steps, IsSound, judged, at_set, at_caller};
+ghost use Rattle.audit_file.specs.Steps.{by_ruling, is_here, by_meaning, at_event};
+ghost use Rattle.audit_file.specs.Steps.{in_block, at_reply, behind_entry, step, at_end};
 
 use crate::answer::{AuditFault, Halt, Verdict};
 use crate::fields::{caller_of, header_of, reply_of};

@@ -25,7 +25,8 @@ pub(crate) struct FeedsRun {
 ///
 /// # Errors
 ///
-/// A feed isn't there, or memory ran out before the feeds were run. Those that were found are handed back.
+/// A feed isn't there, or memory ran out before the feeds were run. Those that were found are
+/// handed back.
 pub(crate) fn run_feed_files<'a, R: Threads + Wait + Sync, F: Folder, G: Gate>(
     rt: &R,
     alloc: Global,
@@ -38,7 +39,8 @@ pub(crate) fn run_feed_files<'a, R: Threads + Wait + Sync, F: Folder, G: Gate>(
     requires empty { All (λ s. s.journal ≡ []) sets.items }
     requires feeds { (1 ≤ length names.now) × (length names.now ≤ 32) }
     ensures counts { KeepsCounts (F.seen folder.old) (F.seen folder.new) }
-    ensures ends { FeedsEnd (F.seen folder.old) (F.seen folder.new) (map string_bytes names.now) sets.items result }
+    ensures ends { FeedsEnd (F.seen folder.old) (F.seen folder.new)
+        (map string_bytes names.now) sets.items result }
 {
     let sources = find_feeds(alloc, folder, names)?;
     match run_on_sets(rt, alloc, sets, sources, gate) {

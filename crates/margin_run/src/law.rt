@@ -13,8 +13,8 @@ use feed_writer::given_messages_can_be_written;
 pub(crate) fn runs_can_be_verified()
     ensures { (params_name terms_name : List ℕ) (feed_names : List (List ℕ)) (old new : FolderSeen)
         (sets : List Set) (reports : List FeedReport)
-        (run : HasRun params_name terms_name feed_names old new sets reports) → length feed_names ≤ 1024 →
-        CanBeVerified run.p run.agreements sets }
+        (run : HasRun params_name terms_name feed_names old new sets reports) →
+        length feed_names ≤ 1024 → CanBeVerified run.p run.agreements sets }
 {
     given_messages_can_be_written();
     events_can_be_told();

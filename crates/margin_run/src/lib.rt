@@ -1,5 +1,6 @@
-//! A run of feeds on the netting sets of a terms file: the files are read, the feeds run at the same time, the journals and
-//! what became of the feeds are printed, or the audit texts of the sets, and desks are told the calls of what was collected; or one fault line is printed.
+//! A run of feeds on the netting sets of a terms file: the files are read, the feeds run at the
+//! same time, the journals and what became of the feeds are printed, or the audit texts of the
+//! sets, and desks are told the calls of what was collected; or one fault line is printed.
 #![tactic(auto)]
 
 mod account;

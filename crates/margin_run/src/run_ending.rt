@@ -1,4 +1,5 @@
-//! How a run ends that reached its feeds: it is printed, the desks are told, and then it has a status.
+//! How a run ends that reached its feeds: it is printed, the desks are told, and then it has
+//! a status.
 ghost use Rattle.std.specs.Prelude.{◌≡◌, ◌<◌, ◌≤◌, ◌^◌, map, length};
 ghost use Rattle.std.specs.Vec.{vec_len};
 ghost use Rattle.margin_run.specs.Desks.{desks_of};
@@ -43,7 +44,8 @@ fn status_of_desks(published: Published) -> Status
     }
 }
 
-/// The status of a run that was printed and whose desks were told: the feeds' comes first, then the sink's, then the desks'.
+/// The status of a run that was printed and whose desks were told: the feeds' comes first, then
+/// the sink's, then the desks'.
 fn status_at_end(end: FeedEnd, printed: Printed, published: Published) -> Status
     ensures { result ≡ status_at_end end printed published }
 {
@@ -54,8 +56,9 @@ fn status_at_end(end: FeedEnd, printed: Printed, published: Published) -> Status
     }
 }
 
-/// Prints a run by its account, tells each desk the calls that it made, and answers its status. Where the sink fails the desks are told all
-/// the same; where there is no memory for the text or the notices none is.
+/// Prints a run by its account, tells each desk the calls that it made, and answers its status.
+/// Where the sink fails the desks are told all the same; where there is no memory for the text or
+/// the notices none is.
 pub(crate) fn end_run<R: Threads + Sync, K: Sink>(
     rt: &R,
     alloc: Global,
@@ -70,8 +73,9 @@ pub(crate) fn end_run<R: Threads + Sync, K: Sink>(
     requires few_sets { length run.now.sets.items ≤ 16 }
     requires few_feeds { length run.now.reports.items ≤ 32 }
     ensures count { (K.seen out.old).faults ≤ (K.seen out.new).faults }
-    ensures leaves { RunLeaves account run.now.sets.items run.now.reports.items (K.seen out.old) (K.seen out.new)
-        (desks_of (λ desk. (Desk-box desk).seen desk.value) desks.old.items desks.new.items retired.old.items retired.new.items) result }
+    ensures leaves { RunLeaves account run.now.sets.items run.now.reports.items (K.seen out.old)
+        (K.seen out.new) (desks_of (λ desk. (Desk-box desk).seen desk.value) desks.old.items
+        desks.new.items retired.old.items retired.new.items) result }
 {
     let Ok(printed) = print_run(rt, alloc, account, out, run) else {
         return Status::Memory;

@@ -44,7 +44,8 @@ pub(crate) fn run_files<'a, R: Threads + Wait + Sync, F: Folder, G: Gate>(
 ) -> Result<Outcome, Fault<'a>>
     requires { (1 ≤ length files.feeds.now) × (length files.feeds.now ≤ 32) }
     ensures counts { KeepsCounts (F.seen folder.old) (F.seen folder.new) }
-    ensures ends { RunFilesEnd files.entry.params.now files.entry.terms.now (map string_bytes files.entry.feeds.now) (F.seen folder.old) (F.seen folder.new) result }
+    ensures ends { RunFilesEnd files.entry.params.now files.entry.terms.now
+        (map string_bytes files.entry.feeds.now) (F.seen folder.old) (F.seen folder.new) result }
 {
     let Inputs { params, terms } = read_inputs(alloc, folder, files.params, files.terms)?;
     let sets = make_sets(alloc, &params, &terms);

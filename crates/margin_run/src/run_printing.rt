@@ -1,9 +1,11 @@
 //! The text of a run, by its account.
-ghost use Rattle.std.specs.Prelude.{◌≡◌, ◌<◌, ◌≤◌, ◌++◌, length, map, slice_index_or, Ok, IfOk, OnOk, OnErr};
+ghost use Rattle.std.specs.Prelude.{◌≡◌, ◌<◌, ◌≤◌, ◌++◌, length, map, slice_index_or};
+ghost use Rattle.std.specs.Prelude.{Ok, IfOk, OnOk, OnErr};
 ghost use Rattle.std.specs.List.{flat_map};
 ghost use Rattle.feed_gate.specs.SetCore.Set.{Set};
 ghost use Rattle.feed_files.specs.CommandFiles.Texts.{TextGoes};
-ghost use Rattle.margin_run.specs.Accounts.{feeds_text, audit_of, set_text, reports_text, account_text};
+ghost use Rattle.margin_run.specs.Accounts.{feeds_text, audit_of, set_text};
+ghost use Rattle.margin_run.specs.Accounts.{reports_text, account_text};
 
 use crate::account::Account;
 use crate::run_files::Outcome;
@@ -50,7 +52,8 @@ fn take_out(alloc: Global, made: Vec<Result<Text, AllocError>>) -> Result<Vec<Te
     Ok(texts)
 }
 
-/// The texts of the sets, in their order, each made in a thread of its own where one can be started.
+/// The texts of the sets, in their order, each made in a thread of its own where one can
+/// be started.
 fn set_texts<R: Threads + Sync>(
     rt: &R,
     alloc: Global,
@@ -65,7 +68,8 @@ fn set_texts<R: Threads + Sync>(
         sets.len(),
         &|index| -> Result<Text, AllocError>
             requires { index < length sets.now }
-            ensures { IfOk result (λ text. (s : Set) → text ≡ set_text account (slice_index_or sets.entry.now index s)) }
+            ensures { IfOk result (λ text.
+                (s : Set) → text ≡ set_text account (slice_index_or sets.entry.now index s)) }
         { set_text(alloc, account, &sets[index]) },
     )?;
     take_out(alloc, made)
@@ -78,7 +82,8 @@ fn push_reports(
     reports: &[FeedReport],
 ) -> Result<(), AllocError>
     requires { length reports.now ≤ 32 }
-    ensures { OnOk result (text.new ≡ text.old ++ feeds_text 0 (map (λ t. t.collect.name) terms.now) reports.now) }
+    ensures { OnOk result
+        (text.new ≡ text.old ++ feeds_text 0 (map (λ t. t.collect.name) terms.now) reports.now) }
 {
     let mut feed = 0;
     for report in reports {
@@ -96,7 +101,8 @@ fn reports_text(
     reports: &[FeedReport],
 ) -> Result<Text, AllocError>
     requires { length reports.now ≤ 32 }
-    ensures { IfOk result (λ text. text ≡ reports_text account (map (λ t. t.collect.name) terms.now) reports.now) }
+    ensures { IfOk result (λ text.
+        text ≡ reports_text account (map (λ t. t.collect.name) terms.now) reports.now) }
 {
     let mut text = Text::new(alloc);
     if let Account::Journals = account {
@@ -114,7 +120,8 @@ fn outcome_texts<R: Threads + Sync>(
 ) -> Result<Vec<Text>, AllocError>
     requires terms { run.now.terms ≡ map (λ s. s.terms) run.now.sets.items }
     requires few { length run.now.reports.items ≤ 32 }
-    ensures { IfOk result (λ texts. flat_map (λ t. t) texts.items ≡ account_text account run.now.sets.items run.now.reports.items) }
+    ensures { IfOk result (λ texts. flat_map (λ t. t) texts.items
+        ≡ account_text account run.now.sets.items run.now.reports.items) }
 {
     let mut texts = set_texts(rt, alloc, account, &run.sets)?;
     let reports = reports_text(alloc, account, run.terms.sets(), &run.reports)?;
@@ -137,7 +144,8 @@ pub(crate) fn print_run<R: Threads + Sync, K: Sink>(
     requires terms { run.now.terms ≡ map (λ s. s.terms) run.now.sets.items }
     requires few { length run.now.reports.items ≤ 32 }
     ensures count { (K.seen out.old).faults ≤ (K.seen out.new).faults }
-    ensures printed { IfOk result (TextGoes (account_text account run.now.sets.items run.now.reports.items) (K.seen out.old) (K.seen out.new)) }
+    ensures printed { IfOk result (TextGoes (account_text account run.now.sets.items
+        run.now.reports.items) (K.seen out.old) (K.seen out.new)) }
     ensures stands { OnErr result ((K.seen out.new).holds ≡ (K.seen out.old).holds) }
 {
     let texts = outcome_texts(rt, alloc, account, run)?;

@@ -17,7 +17,8 @@ fn push_notice(
     set: &Name,
     entry: &Entry,
 ) -> Result<(), AllocError>
-    ensures { OnOk result (notices.new.items ≡ notices.old.items ++ notices_by set.now entry.now.event entry.now.reply) }
+    ensures { OnOk result (notices.new.items
+        ≡ notices.old.items ++ notices_by set.now entry.now.event entry.now.reply) }
 {
     let Event::OnSide { side, .. } = &entry.event else {
         return Ok(());
@@ -75,8 +76,9 @@ pub(crate) fn tell_desks(
 ) -> Result<Published, AllocError>
     requires few_desks { vec_len desks.old < 2 ^ 32 }
     requires few_sets { length sets.now ≤ 16 }
-    ensures told { IfOk result (λ published. (outcomes : List (Outcome _))
-        × Publishes (λ desk. seen desk) (notices sets.now) desks.old.items desks.new.items retired.old.items retired.new.items published outcomes) }
+    ensures told { IfOk result (λ published.
+        (outcomes : List (Outcome _)) × Publishes (λ desk. seen desk) (notices sets.now)
+        desks.old.items desks.new.items retired.old.items retired.new.items published outcomes) }
     ensures desks_stand { OnErr result (desks.new.items ≡ desks.old.items) }
     ensures retired_stand { OnErr result (retired.new.items ≡ retired.old.items) }
 {

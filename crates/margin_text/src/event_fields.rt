@@ -15,7 +15,8 @@ use std::alloc::AllocError;
 
 /// Adds the fields of a submit.
 fn push_submit(text: &mut Text, trades: usize, rows: usize) -> Result<(), AllocError>
-    ensures { OnOk result (text.new ≡ text.old ++ (field (codes "SUBMIT") ++ field (decimal trades) ++ field (decimal rows))) }
+    ensures { OnOk result (text.new
+        ≡ text.old ++ (field (codes "SUBMIT") ++ field (decimal trades) ++ field (decimal rows))) }
 {
     push_field(text, b"SUBMIT")?;
     push_number(text, trades)?;
@@ -34,7 +35,8 @@ fn push_names(text: &mut Text, names: &[Name]) -> Result<(), AllocError>
 
 /// Adds the fields of a withdrawal.
 fn push_withdrawal(text: &mut Text, names: &[Name]) -> Result<(), AllocError>
-    ensures { OnOk result (text.new ≡ text.old ++ (field (codes "WITHDRAW") ++ field (decimal (length names.now)) ++ flat_map field names.now)) }
+    ensures { OnOk result (text.new ≡ text.old ++ (field (codes "WITHDRAW")
+        ++ field (decimal (length names.now)) ++ flat_map field names.now)) }
 {
     push_field(text, b"WITHDRAW")?;
     push_number(text, names.len())?;
@@ -43,7 +45,8 @@ fn push_withdrawal(text: &mut Text, names: &[Name]) -> Result<(), AllocError>
 
 /// Adds the fields of tables, whose text has so many bytes.
 fn push_tables(text: &mut Text, bytes: usize) -> Result<(), AllocError>
-    ensures { OnOk result (text.new ≡ text.old ++ (field (codes "TABLES") ++ field (decimal bytes))) }
+    ensures { OnOk result
+        (text.new ≡ text.old ++ (field (codes "TABLES") ++ field (decimal bytes))) }
 {
     push_field(text, b"TABLES")?;
     push_number(text, bytes)
@@ -75,7 +78,8 @@ fn push_put(
     value: i64,
     currency: LotCurrency,
 ) -> Result<(), AllocError>
-    ensures { OnOk result (text.new ≡ text.old ++ side_fields (events.PutLot lot.now class.now value currency)) }
+    ensures { OnOk result
+        (text.new ≡ text.old ++ side_fields (events.PutLot lot.now class.now value currency)) }
 {
     push_lot(text, b"PUT", lot)?;
     push_field(text, class.bytes())?;

@@ -20,7 +20,8 @@ use mh_units::Text;
 use params_file::ParamFault;
 use std::alloc::AllocError;
 
-/// Adds the line of a block that was refused with this number, and with the first fault of its records.
+/// Adds the line of a block that was refused with this number, and with the first fault of
+/// its records.
 fn push_refused_block(
     text: &mut Text,
     feed: u32,
@@ -28,7 +29,8 @@ fn push_refused_block(
     number: u8,
     fault: CrifFault,
 ) -> Result<(), AllocError>
-    ensures { OnOk result (text.new ≡ text.old ++ numbered_line (refused_fields feed line ++ field (decimal number)) (crif_fault_number fault) (λ code. crif_fields code fault)) }
+    ensures { OnOk result (text.new ≡ text.old ++ numbered_line (refused_fields feed line
+        ++ field (decimal number)) (crif_fault_number fault) (λ code. crif_fields code fault)) }
 {
     let Some(code) = fault.number() else {
         return Ok(());
@@ -38,7 +40,8 @@ fn push_refused_block(
     push_crif_fields(text, code, fault)
 }
 
-/// Adds the line of a block of tables that was refused with this number, and with the first fault of its grammar.
+/// Adds the line of a block of tables that was refused with this number, and with the first fault
+/// of its grammar.
 fn push_refused_tables(
     text: &mut Text,
     feed: u32,
@@ -46,7 +49,9 @@ fn push_refused_tables(
     number: u8,
     fault: &ParamFault,
 ) -> Result<(), AllocError>
-    ensures { OnOk result (text.new ≡ text.old ++ numbered_line (refused_fields feed line ++ field (decimal number)) (param_fault_number fault.now) (λ code. params_fields code fault.now)) }
+    ensures { OnOk result
+        (text.new ≡ text.old ++ numbered_line (refused_fields feed line ++ field (decimal number))
+        (param_fault_number fault.now) (λ code. params_fields code fault.now)) }
 {
     let Some(code) = fault.number() else {
         return Ok(());
@@ -58,7 +63,8 @@ fn push_refused_tables(
 
 /// Adds the field of the name of the set at a place, from 0.
 fn push_set_name(text: &mut Text, sets: &[BothTerms], place: u32) -> Result<(), AllocError>
-    ensures { OnOk result (text.new ≡ text.old ++ field (name_at (map (λ s. s.collect.name) sets.now) place)) }
+    ensures { OnOk result
+        (text.new ≡ text.old ++ field (name_at (map (λ s. s.collect.name) sets.now) place)) }
 {
     match sets.get(place as usize) {
         Some(set) => push_field(text, set.name().bytes()),
@@ -73,7 +79,8 @@ fn push_refused(
     sets: &[BothTerms],
     message: &RefusedMessage,
 ) -> Result<(), AllocError>
-    ensures { OnOk result (text.new ≡ text.old ++ refused_line feed (map (λ s. s.collect.name) sets.now) message.now) }
+    ensures { OnOk result (text.new
+        ≡ text.old ++ refused_line feed (map (λ s. s.collect.name) sets.now) message.now) }
 {
     let number = message.number();
     match message {
@@ -113,7 +120,8 @@ fn push_all_refused(
     sets: &[BothTerms],
     messages: &[RefusedMessage],
 ) -> Result<(), AllocError>
-    ensures { OnOk result (text.new ≡ text.old ++ flat_map (refused_line feed (map (λ s. s.collect.name) sets.now)) messages.now) }
+    ensures { OnOk result (text.new ≡ text.old
+        ++ flat_map (refused_line feed (map (λ s. s.collect.name) sets.now)) messages.now) }
 {
     for message in messages {
         push_refused(text, feed, sets, message)?;
@@ -138,9 +146,10 @@ fn push_feed_line(
     push_end(text, end)
 }
 
-/// Adds the printed report of a feed: a line for each message that made no call, in the feed's order, then one with the
-/// feed's number, how many of its messages stand in a journal, how many were refused, and how it ended. `sets` are the
-/// terms of the sets, in the order from which messages count them.
+/// Adds the printed report of a feed: a line for each message that made no call, in the feed's
+/// order, then one with the feed's number, how many of its messages stand in a journal, how many
+/// were refused, and how it ended. `sets` are the terms of the sets, in the order from which
+/// messages count them.
 ///
 /// # Errors
 ///
@@ -151,7 +160,8 @@ pub fn push_report(
     sets: &[BothTerms],
     report: &FeedReport,
 ) -> Result<(), AllocError>
-    ensures { OnOk result (text.new ≡ text.old ++ feed_text feed (map (λ s. s.collect.name) sets.now) report.now.done report.now.refused report.now.end) }
+    ensures { OnOk result (text.new ≡ text.old ++ feed_text feed
+        (map (λ s. s.collect.name) sets.now) report.now.done report.now.refused report.now.end) }
 {
     let refused = report.refused.as_slice();
     push_all_refused(text, feed, sets, refused)?;

@@ -21,8 +21,9 @@ fn push_entries(text: &mut Text, set: &SetState) -> Result<(), AllocError>
     Ok(())
 }
 
-/// Adds the printed journal of a netting set: its name and how many entries it has, then each entry with its number
-/// from 1, its caller, event and reply. Under an entry stand the trades and rows of a submit, or the parts of a margin.
+/// Adds the printed journal of a netting set: its name and how many entries it has, then each
+/// entry with its number from 1, its caller, event and reply. Under an entry stand the trades and
+/// rows of a submit, or the parts of a margin.
 ///
 /// # Errors
 ///

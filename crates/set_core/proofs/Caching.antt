@@ -1,8 +1,7 @@
 -- What a live margin has kept, after one event more.
-use Rattle.std.proofs.Common.{◌≡◌, ℕ, List, [], ◌∷◌, ◌++◌, Bool, true, false, ◌&&◌, not, is_some, Option, Some, None, Result, Ok, Err, IfOk, OnOk, OnErr, refl, sym, ap, ◌∙◌, subst, append_assoc, append-nil}
+use Rattle.std.proofs.Common.{◌≡◌, ℕ, List, [], ◌∷◌, ◌++◌, Bool, true, false, ◌&&◌, not, Option, Some, None, Result, Ok, Err, IfOk, OnOk, OnErr, refl, sym, ap, ◌∙◌, subst, append_assoc, append-nil}
 use Rattle.std.proofs.lemmas.Bool.{and_parts, false≢true, true≢false}
 use Rattle.std.specs.declared.alloc.AllocError.{AllocError}
-use Rattle.collateral_ledger.specs.SimmKinds.declared.kinds.Measure.{Measure}
 use Rattle.collateral_ledger.specs.SimmKinds.declared.margin_side.MarginSide.{MarginSide}
 use Rattle.collateral_ledger.specs.SimmKinds.declared.row.CrifRow.{CrifRow}
 use Rattle.collateral_ledger.specs.SimmKinds.declared.row.TradeRows.{TradeRows}
@@ -12,14 +11,13 @@ use Rattle.bucket_cache.specs.SimmRules.Params.{Params}
 use Rattle.collateral_ledger.specs.CsaTerms.Terms.{Agreements}
 use Rattle.bucket_cache.specs.FactorBook.Factors.{factors_of}
 use Rattle.bucket_cache.specs.FactorBook.Places.{factors_at}
-use Rattle.bucket_cache.specs.FactorBook.declared.at.BucketAt.{BucketAt}
+use Rattle.bucket_cache.specs.FactorBook.declared.address.Address.{Address}
 use Rattle.bucket_cache.specs.FactorBook.declared.place.Place.{Place}
-use Rattle.bucket_cache.specs.KeptBuckets.declared.value.KeptValue.{KeptValue}
-use Rattle.bucket_cache.specs.KeptBuckets.Cached.{is_measured, place_in}
+use Rattle.bucket_cache.specs.FactorBook.declared.value.PlaceValue.{PlaceValue}
 use Rattle.bucket_cache.specs.KeptBuckets.Touched.{Forgets, SameElsewhere}
 use Rattle.bucket_cache.specs.Cached.{touches, is_cached, IsCached}
 use Rattle.bucket_cache.specs.Live.{Live}
-use Rattle.bucket_cache.proofs.Standing.{elsewhere_cached, cached_untouched, part_none}
+use Rattle.bucket_cache.proofs.Standing.{elsewhere_cached, cached_untouched}
 use Rattle.collateral_ledger.specs.declared.fault.LedgerFault.{LedgerFault}
 use Rattle.collateral_ledger.specs.Holdings.{Holdings}
 use Rattle.held_cell.specs.declared.entry.Entry.{Entry}
@@ -42,7 +40,7 @@ use Rattle.set_core.proofs.Words.{Log}
 -- ---- one event
 
 pub stays_same : (old new : Live) → new ≡ old → StaysKept old new
-stays_same old new same = subst (StaysKept old) (sym same) (record { fresh = λ h. h; kept = λ at measure h. h; cached = λ at measure h. h })
+stays_same old new same = subst (StaysKept old) (sym same) (record { fresh = λ h. h; kept = λ place h. h; cached = λ place h. h })
 
 -- a question that is answered is neither accepted nor refused
 asked_is : (was touched there : Bool) (r : Reply) → is_settled r ≡ false → is_kept was touched there r ≡ there
@@ -62,10 +60,10 @@ if_asked (reply.NoCall excess margin booked) P h = h
 pub caches_all : (old new : Live) (e : Event) (r : Reply) → is_settled r ≡ false → traded new ≡ traded old → IsWorkedOut new → StaysKept old new → Caches old new e r
 caches_all old new e r asked same out stays = record {
   fresh = out.fresh ∙ sym (asked_is old.is_fresh (touches_margin e) true r asked);
-  cached = λ at measure.
-      out.cached at measure ∙ ap (λ (l : Traded). touches at measure (rows_of l.book)) same
-      ∙ sym (asked_is (is_cached old.kept.values at measure) (touched_by at measure old.book e) (touches at measure (rows_of old.book)) r asked);
-  kept = λ at measure was h known. out.kept at measure;
+  cached = λ place.
+      out.cached place ∙ ap (λ (l : Traded). touches place (rows_of l.book)) same
+      ∙ sym (asked_is (is_cached old.kept.values place) (touched_by place old.book e) (touches place (rows_of old.book)) r asked);
+  kept = λ place was h known. out.kept place;
   asked = if_asked r (StaysKept old new) stays;
 }
 
@@ -78,8 +76,8 @@ caches_refused old new e why same =
     let stays = stays_same old new same in
     record {
       fresh = ap (λ (l : Live). l.is_fresh) same;
-      cached = λ at measure. ap (λ (l : Live). is_cached l.kept.values at measure) same;
-      kept = λ at measure was h known. stays.kept at measure (h known);
+      cached = λ place. ap (λ (l : Live). is_cached l.kept.values place) same;
+      kept = λ place was h known. stays.kept place (h known);
       asked = tt;
     }
 
@@ -96,26 +94,26 @@ and_true true = refl
 and_true false = refl
 
 -- rows are moved
-pub caches_moved : (old new : Live) (e : Event) (rows : List CrifRow) → touches_margin e ≡ true → ((at : BucketAt) (measure : Measure) → touched_by at measure old.book e ≡ touches at measure rows)
+pub caches_moved : (old new : Live) (e : Event) (rows : List CrifRow) → touches_margin e ≡ true → ((place : Place) → touched_by place old.book e ≡ touches place rows)
     → new.is_fresh ≡ false → Forgets rows old.kept new.kept → SameElsewhere rows (factors_of (rows_of old.book)) (factors_of (rows_of new.book)) → Caches old new e reply.Accepted
 caches_moved old new e rows moves touched stale forgets same = record {
   fresh = stale ∙ sym (ap (λ b. old.is_fresh && not b) moves ∙ and_false old.is_fresh);
-  cached = λ at measure. cached_untouched rows old.kept new.kept forgets at measure ∙ ap (λ b. is_cached old.kept.values at measure && not b) (sym (touched at measure));
-  kept = λ at measure was h known.
-      let parts = and_parts was (not (touched_by at measure old.book e)) known in
-      elsewhere_cached old new rows forgets same at measure (sym (touched at measure) ∙ untouched (touched_by at measure old.book e) parts.1) (h parts.0);
+  cached = λ place. cached_untouched rows old.kept new.kept forgets place ∙ ap (λ b. is_cached old.kept.values place && not b) (sym (touched place));
+  kept = λ place was h known.
+      let parts = and_parts was (not (touched_by place old.book e)) known in
+      elsewhere_cached old new rows forgets same place (sym (touched place) ∙ untouched (touched_by place old.book e) parts.1) (h parts.0);
   asked = tt;
 }
 
-none_cached : (at : BucketAt) (measure : Measure) → is_cached [] at measure ≡ false
-none_cached at measure = ap (λ o. is_measured at measure && is_some o) (part_none measure) ∙ and_false (is_measured at measure)
+none_cached : (place : Place) → is_cached [] place ≡ false
+none_cached place = refl
 
 -- tables are replaced
 pub caches_none : (old new : Live) (text : ParamText) → new.is_fresh ≡ false → new.kept.values ≡ [] → Caches old new (event.Tables text) reply.Accepted
 caches_none old new text stale none = record {
   fresh = stale ∙ sym (and_false old.is_fresh);
-  cached = λ at measure. ap (λ (values : List (Place × KeptValue)). is_cached values at measure) none ∙ none_cached at measure ∙ sym (and_false (is_cached old.kept.values at measure));
-  kept = λ at measure was h known. absurd (false≢true (sym (and_false was) ∙ known));
+  cached = λ place. ap (λ (values : List (Address × PlaceValue)). is_cached values place) none ∙ none_cached place ∙ sym (and_false (is_cached old.kept.values place));
+  kept = λ place was h known. absurd (false≢true (sym (and_false was) ∙ known));
   asked = tt;
 }
 
@@ -157,8 +155,8 @@ caches_beside on old new live e (Ok r) settled is =
     let so : is_settled r ≡ true = ap is_settled (is on (traded live)).value ∙ settled in
     record {
       fresh = left live.is_fresh false true r so refl;
-      cached = λ at measure. left (is_cached live.kept.values at measure) false (touches at measure (rows_of live.book)) r so refl;
-      kept = λ at measure. carries (IsCached at measure) false live r so;
+      cached = λ place. left (is_cached live.kept.values place) false (touches place (rows_of live.book)) r so refl;
+      kept = λ place. carries (IsCached place) false live r so;
       asked = unless_asked r (StaysKept live live) so;
     }
 
@@ -201,19 +199,19 @@ cached_next old new caller log e r same cached caches = record {
   fresh = λ known.
       caches.fresh
       ∙ known_from (is_margin_known log) old.is_fresh (touches_margin e) r cached.fresh (sym (known_push (λ trades event. touches_margin event) true [] log (entry caller e r)) ∙ known);
-  kept = λ at measure known.
-      caches.kept at measure (is_value_known at measure log) (cached.kept at measure)
-      (ap (λ trades. is_known (is_value_known at measure log) (touched_by at measure trades e) r) same
-      ∙ sym (known_push (touched_by at measure) true [] log (entry caller e r)) ∙ known);
+  kept = λ place known.
+      caches.kept place (is_value_known place log) (cached.kept place)
+      (ap (λ trades. is_known (is_value_known place log) (touched_by place trades e) r) same
+      ∙ sym (known_push (touched_by place) true [] log (entry caller e r)) ∙ known);
 }
 
 pub cached_still : (old new : Live) (log : Log) → AreCached old log → StaysKept old new → AreCached new log
-cached_still old new log cached stays = record { fresh = λ known. stays.fresh (cached.fresh known); kept = λ at measure known. stays.kept at measure (cached.kept at measure known) }
+cached_still old new log cached stays = record { fresh = λ known. stays.fresh (cached.fresh known); kept = λ place known. stays.kept place (cached.kept place known) }
 
 pub cached_none : (live : Live) → live.book ≡ [] → live.is_fresh ≡ true → AreCached live []
 cached_none live none fresh = record {
   fresh = λ known. fresh;
-  kept = λ at measure known measured some. absurd (some (ap (λ (trades : List TradeRows). factors_at (place_in at measure) (factors_of (rows_of trades))) none));
+  kept = λ place known some. absurd (some (ap (λ (trades : List TradeRows). factors_at place (factors_of (rows_of trades))) none));
 }
 
 -- ---- a set

@@ -17,4 +17,5 @@ pub mod Applies
 pub mod Caching
 pub mod BookReplies
 pub mod Steps
+pub mod JournalEntries
 pub use Rattle.held_cell.proofs as HeldCell

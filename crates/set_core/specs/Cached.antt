@@ -1,10 +1,9 @@
 -- What a live margin has kept after a journal: all that was worked out at the last question that was answered, but where rows
 -- moved since; and nothing where tables came since.
 use Rattle.std.specs.Prelude.{◌≡◌, List, [], ◌∷◌, ◌++◌, Bool, true, false, ◌&&◌, not}
-use Rattle.collateral_ledger.specs.SimmKinds.declared.kinds.Measure.{Measure}
 use Rattle.collateral_ledger.specs.SimmKinds.declared.row.TradeRows.{TradeRows}
 use Rattle.collateral_ledger.specs.SimmKinds.Batch.{rows_of}
-use Rattle.bucket_cache.specs.FactorBook.declared.at.BucketAt.{BucketAt}
+use Rattle.bucket_cache.specs.FactorBook.declared.place.Place.{Place}
 use Rattle.bucket_cache.specs.Live.{Live, named, rows_moved}
 use Rattle.bucket_cache.specs.Cached.{touches, IsCached}
 use Rattle.held_cell.specs.declared.entry.Entry.{Entry}
@@ -14,13 +13,13 @@ use Rattle.set_core.specs.declared.reply.Reply.{Reply}
 use Rattle.set_core.specs.declared.reply.Reply.TheVariants as reply
 use Rattle.set_core.specs.Book.{book}
 
--- whether an event touches the value of a bucket in a measure, where it is accepted: a row lies there that it adds to a book, replaces
+-- whether an event touches the value of a place, where it is accepted: a row lies there that it adds to a book, replaces
 -- or removes, or it brings tables
-abbrev pub touched_by : BucketAt → Measure → List TradeRows → Event → Bool
-touched_by at measure trades (event.Submit batch) = touches at measure (rows_moved batch trades)
-touched_by at measure trades (event.Withdraw names) = touches at measure (rows_of (named names trades))
-touched_by at measure trades (event.Tables text) = true
-touched_by at measure trades (event.OnSide on e) = false
+abbrev pub touched_by : Place → List TradeRows → Event → Bool
+touched_by place trades (event.Submit batch) = touches place (rows_moved batch trades)
+touched_by place trades (event.Withdraw names) = touches place (rows_of (named names trades))
+touched_by place trades (event.Tables text) = true
+touched_by place trades (event.OnSide on e) = false
 
 -- whether it changes what the margin is of: trades, or the tables
 abbrev pub touches_margin : Event → Bool
@@ -51,11 +50,11 @@ known_after touched was before (e ∷ after) =
 abbrev pub is_margin_known : List (Entry Event Reply) → Bool
 is_margin_known log = known_after (λ trades event. touches_margin event) true [] log
 
--- the value of a bucket in a measure is known: since then no accepted event touched it
-abbrev pub is_value_known : BucketAt → Measure → List (Entry Event Reply) → Bool
-is_value_known at measure log = known_after (touched_by at measure) true [] log
+-- the value of a place is known: since then no accepted event touched it
+abbrev pub is_value_known : Place → List (Entry Event Reply) → Bool
+is_value_known place log = known_after (touched_by place) true [] log
 
 -- what is known after the journal is kept
 pub record AreCached (live : Live) (log : List (Entry Event Reply)) : Type 0 where
   pub fresh : is_margin_known log ≡ true → live.is_fresh ≡ true
-  pub kept : (at : BucketAt) (measure : Measure) → is_value_known at measure log ≡ true → IsCached at measure live
+  pub kept : (place : Place) → is_value_known place log ≡ true → IsCached place live

@@ -6,8 +6,7 @@ use Rattle.collateral_ledger.specs.SimmKinds.Batch.{rows_of}
 use Rattle.bucket_cache.specs.SimmRules.Params.{Params}
 use Rattle.bucket_cache.specs.SimmRules.Range.{range}
 use Rattle.bucket_cache.specs.SimmRules.Simm.{simm}
-use Rattle.collateral_ledger.specs.SimmKinds.declared.kinds.Measure.{Measure}
-use Rattle.bucket_cache.specs.FactorBook.declared.at.BucketAt.{BucketAt}
+use Rattle.bucket_cache.specs.FactorBook.declared.place.Place.{Place}
 use Rattle.bucket_cache.specs.declared.fault.BookFault.{BookFault}
 use Rattle.bucket_cache.specs.declared.fault.BookFault.TheVariants as book_fault
 use Rattle.bucket_cache.specs.Cached.{touches, is_cached, IsCached}
@@ -85,14 +84,14 @@ pub record DoesOn (on : MarginSide) (old new : Traded) (had has : Holdings) (e :
 -- the margin is known, and the value of each bucket is kept in which a row lies, and of no other
 pub record IsWorkedOut (live : Live) : Type 0 where
   pub fresh : live.is_fresh ≡ true
-  pub kept : (at : BucketAt) (measure : Measure) → IsCached at measure live
-  pub cached : (at : BucketAt) (measure : Measure) → is_cached live.kept.values at measure ≡ touches at measure (rows_of live.book)
+  pub kept : (place : Place) → IsCached place live
+  pub cached : (place : Place) → is_cached live.kept.values place ≡ touches place (rows_of live.book)
 
 -- what was known is known
 pub record StaysKept (old new : Live) : Type 0 where
   pub fresh : old.is_fresh ≡ true → new.is_fresh ≡ true
-  pub kept : (at : BucketAt) (measure : Measure) → IsCached at measure old → IsCached at measure new
-  pub cached : (at : BucketAt) (measure : Measure) → is_cached old.kept.values at measure ≡ true → is_cached new.kept.values at measure ≡ true
+  pub kept : (place : Place) → IsCached place old → IsCached place new
+  pub cached : (place : Place) → is_cached old.kept.values place ≡ true → is_cached new.kept.values place ≡ true
 
 abbrev pub Carries : (Live → Type 0) → Bool → Live → Live → Reply → Type 0
 Carries Known touched old new r = (was : Bool) → (was ≡ true → Known old) → is_known was touched r ≡ true → Known new
@@ -106,7 +105,7 @@ IfAsked _ P = P
 -- just what is known after the event and its reply is kept; a question forgets nothing
 pub record Caches (old new : Live) (e : Event) (r : Reply) : Type 0 where
   pub fresh : new.is_fresh ≡ is_known old.is_fresh (touches_margin e) r
-  pub cached : (at : BucketAt) (measure : Measure) → is_cached new.kept.values at measure
-      ≡ is_kept (is_cached old.kept.values at measure) (touched_by at measure old.book e) (touches at measure (rows_of old.book)) r
-  pub kept : (at : BucketAt) (measure : Measure) → Carries (IsCached at measure) (touched_by at measure old.book e) old new r
+  pub cached : (place : Place) → is_cached new.kept.values place
+      ≡ is_kept (is_cached old.kept.values place) (touched_by place old.book e) (touches place (rows_of old.book)) r
+  pub kept : (place : Place) → Carries (IsCached place) (touched_by place old.book e) old new r
   pub asked : IfAsked r (StaysKept old new)

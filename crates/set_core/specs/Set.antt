@@ -1,11 +1,10 @@
 -- A netting set as it is seen: what it works on, its journal, and what is kept of its margin.
 use Rattle.std.specs.Prelude.{◌≡◌, ℕ, ◌-◌, ◌≤◌, List, [], ◌∷◌, ◌++◌, length, Bool, true, false, Option, None, zero, suc, slice_get}
-use Rattle.collateral_ledger.specs.SimmKinds.declared.kinds.Measure.{Measure}
 use Rattle.collateral_ledger.specs.SimmKinds.Batch.{rows_of}
 use Rattle.bucket_cache.specs.SimmRules.Params.{Params}
-use Rattle.bucket_cache.specs.FactorBook.declared.at.BucketAt.{BucketAt}
+use Rattle.bucket_cache.specs.FactorBook.declared.address.Address.{Address}
 use Rattle.bucket_cache.specs.FactorBook.declared.place.Place.{Place}
-use Rattle.bucket_cache.specs.KeptBuckets.declared.value.KeptValue.{KeptValue}
+use Rattle.bucket_cache.specs.FactorBook.declared.value.PlaceValue.{PlaceValue}
 use Rattle.bucket_cache.specs.Cached.{touches, is_cached}
 use Rattle.collateral_ledger.specs.CsaTerms.Terms.{Agreements}
 use Rattle.held_cell.specs.declared.entry.Entry.{Entry}
@@ -26,7 +25,7 @@ pub record Set : Type 0 where
   pub terms : Agreements
   pub journal : List (Entry Event Reply)
   pub is_fresh : Bool
-  pub kept : List (Place × KeptValue)
+  pub kept : List (Address × PlaceValue)
   pub spare : ℕ
 
 -- a set before its first call: the margin of no trades is known, no value of a bucket is kept, and no room was put by
@@ -39,12 +38,12 @@ base_of s = (s.params, s.terms)
 
 -- Of which buckets the value is kept after an event that was answered: after an accepted one exactly of those that it was kept of and
 -- that the event does not touch; after a refused one of the same; after a question of those that a row of the book lies in.
-abbrev pub cached_after : Set → Event → Reply → BucketAt → Measure → Bool
-cached_after s event reply at measure =
-    is_kept (is_cached s.kept at measure) (touched_by at measure (book s.journal) event) (touches at measure (rows_of (book s.journal))) reply
+abbrev pub cached_after : Set → Event → Reply → Place → Bool
+cached_after s event reply place =
+    is_kept (is_cached s.kept place) (touched_by place (book s.journal) event) (touches place (rows_of (book s.journal))) reply
 
 -- the set after an event that was answered, by what is kept of its buckets then; its entry takes of the room that was put by
-abbrev pub with_entry : Set → ℕ → Event → Reply → List (Place × KeptValue) → Set
+abbrev pub with_entry : Set → ℕ → Event → Reply → List (Address × PlaceValue) → Set
 with_entry s caller event reply kept = record s {
   journal = s.journal ++ entry caller event reply ∷ [];
   is_fresh = is_known s.is_fresh (touches_margin event) reply;
@@ -57,13 +56,13 @@ pub record IsAnswered (old new : Set) (caller : ℕ) (event : Event) (reply : Re
   pub room : is_full old.journal event ≡ false
   pub value : reply ≡ answer old.params old.terms old.journal event
   pub after : new ≡ with_entry old caller event reply new.kept
-  pub cached : (at : BucketAt) (measure : Measure) → is_cached new.kept at measure ≡ cached_after old event reply at measure
+  pub cached : (place : Place) → is_cached new.kept place ≡ cached_after old event reply place
 
 -- What was kept of its margin is kept, and maybe more; all else stands.
 pub record KeepsMore (old new : Set) : Type 0 where
   pub stands : new ≡ record old { is_fresh = new.is_fresh; kept = new.kept }
   pub fresh : old.is_fresh ≡ true → new.is_fresh ≡ true
-  pub cached : (at : BucketAt) (measure : Measure) → is_cached old.kept at measure ≡ true → is_cached new.kept at measure ≡ true
+  pub cached : (place : Place) → is_cached old.kept place ≡ true → is_cached new.kept place ≡ true
 
 -- What an event leaves that is not answered: a full journal all as it was, and want of memory at least as much of the margin.
 abbrev pub Leaves : Set → Set → Halt Event → Type 0

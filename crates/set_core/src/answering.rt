@@ -1,6 +1,5 @@
 //! What a live margin and the ledgers make of an event, each kind by a function of its own.
 ghost use Rattle.std.specs.Prelude.{◌≡◌, ◌+◌, ◌<◌, ◌≤◌, true, false, IfOk, IsErr, IsOk, OnErr};
-ghost use Rattle.collateral_ledger.specs.SimmKinds.Batch.{rows_of};
 ghost use Rattle.collateral_ledger.specs.SimmKinds.declared.margin_side.MarginSide.{MarginSide};
 ghost use Rattle.set_core.specs.Events.{if_side};
 ghost use Rattle.set_core.specs.Ledger.{ledger_on};
@@ -32,14 +31,16 @@ pub(crate) fn answer_twice(
 ) -> Result<(Reply, Reply), AllocError>
     requires { (side : MarginSide) → (ledger_on side ledgers.old).added ≤ 65535 }
     ensures same { IfOk result (λ both. both.1 ≡ both.0) }
-    ensures does { IfOk result (λ both. Does (traded live.old) (traded live.new) ledgers.old ledgers.new event.now both.0) }
+    ensures does { IfOk result (λ both.
+        Does (traded live.old) (traded live.new) ledgers.old ledgers.new event.now both.0) }
     ensures caches { IfOk result (λ both. Caches live.old live.new event.now both.0) }
     ensures trades { OnErr result (traded live.new ≡ traded live.old) }
     ensures stays { OnErr result (StaysKept live.old live.new) }
     ensures collateral { OnErr result (ledgers.new ≡ ledgers.old) }
 
     // a margin takes room that was put by where there is no memory for it
-    ensures room { 1 < put_by.old → if_side (is_at_hand live.old.is_fresh) false event.now ≡ true → IsOk result }
+    ensures room { 1 < put_by.old
+        → if_side (is_at_hand live.old.is_fresh) false event.now ≡ true → IsOk result }
     ensures taken { put_by.old ≤ put_by.new + 2 }
     ensures none_taken { OnErr result (1 < put_by.old → put_by.new ≡ put_by.old) }
 {
@@ -48,8 +49,8 @@ pub(crate) fn answer_twice(
     Ok((reply, kept))
 }
 
-/// Answers an event, and changes the live margin and the ledger of its side as its reply says. For want of memory the
-/// trades and the ledgers stand, and what is kept of the margin.
+/// Answers an event, and changes the live margin and the ledger of its side as its reply says. For
+/// want of memory the trades and the ledgers stand, and what is kept of the margin.
 fn answer(
     alloc: Global,
     live: &mut LiveMargin,
@@ -58,13 +59,15 @@ fn answer(
     event: &Event,
 ) -> Result<Reply, AllocError>
     requires { (side : MarginSide) → (ledger_on side ledgers.old).added ≤ 65535 }
-    ensures does { IfOk result (λ reply. Does (traded live.old) (traded live.new) ledgers.old ledgers.new event.now reply) }
+    ensures does { IfOk result (λ reply.
+        Does (traded live.old) (traded live.new) ledgers.old ledgers.new event.now reply) }
     ensures caches { IfOk result (Caches live.old live.new event.now) }
     ensures trades { OnErr result (traded live.new ≡ traded live.old) }
     ensures stays { OnErr result (StaysKept live.old live.new) }
     ensures collateral { OnErr result (ledgers.new ≡ ledgers.old) }
 
-    ensures room { 0 < put_by.old → if_side (is_at_hand live.old.is_fresh) false event.now ≡ true → IsOk result }
+    ensures room { 0 < put_by.old
+        → if_side (is_at_hand live.old.is_fresh) false event.now ≡ true → IsOk result }
     ensures left { LeavesRoom 1 put_by.old put_by.new result }
 {
     match event {
@@ -87,7 +90,8 @@ fn answer_side(
     event: &SideEvent,
 ) -> Result<Reply, AllocError>
     requires { ledger.old.added ≤ 65535 }
-    ensures does { IfOk result (λ reply. DoesOn side (traded live.old) (traded live.new) ledger.old ledger.new event.now reply) }
+    ensures does { IfOk result (λ reply.
+        DoesOn side (traded live.old) (traded live.new) ledger.old ledger.new event.now reply) }
     ensures caches { IfOk result (Caches live.old live.new (events.OnSide side event.now)) }
     ensures trades { OnErr result (traded live.new ≡ traded live.old) }
     ensures stays { OnErr result (StaysKept live.old live.new) }
@@ -115,7 +119,8 @@ fn answer_side(
 }
 
 fn submit(alloc: Global, live: &mut LiveMargin, batch: &Batch) -> Result<Reply, AllocError>
-    ensures does { IfOk result (λ reply. (h : Ledgers) → Does (traded live.old) (traded live.new) h h (events.Submit batch.now) reply) }
+    ensures does { IfOk result (λ reply. (h : Ledgers)
+        → Does (traded live.old) (traded live.new) h h (events.Submit batch.now) reply) }
     ensures caches { IfOk result (Caches live.old live.new (events.Submit batch.now)) }
     ensures unchanged { OnErr result (live.new ≡ live.old) }
 {
@@ -124,7 +129,8 @@ fn submit(alloc: Global, live: &mut LiveMargin, batch: &Batch) -> Result<Reply, 
 }
 
 fn withdraw(alloc: Global, live: &mut LiveMargin, names: &[Name]) -> Result<Reply, AllocError>
-    ensures does { IfOk result (λ reply. (h : Ledgers) → Does (traded live.old) (traded live.new) h h (events.Withdraw names.now) reply) }
+    ensures does { IfOk result (λ reply. (h : Ledgers)
+        → Does (traded live.old) (traded live.new) h h (events.Withdraw names.now) reply) }
     ensures caches { IfOk result (Caches live.old live.new (events.Withdraw names.now)) }
     ensures unchanged { OnErr result (live.new ≡ live.old) }
 {
@@ -142,7 +148,8 @@ fn replace_tables(
     live: &mut LiveMargin,
     text: &ParamText,
 ) -> Result<Reply, AllocError>
-    ensures does { IfOk result (λ reply. (h : Ledgers) → Does (traded live.old) (traded live.new) h h (events.Tables text.now) reply) }
+    ensures does { IfOk result (λ reply. (h : Ledgers)
+        → Does (traded live.old) (traded live.new) h h (events.Tables text.now) reply) }
     ensures caches { IfOk result (Caches live.old live.new (events.Tables text.now)) }
     ensures unchanged { OnErr result (live.new ≡ live.old) }
 {

@@ -13,15 +13,17 @@ use std::alloc::{AllocError, Global};
 use std::marker::Brand;
 use std::sync::ledger::{Blank, Ledger};
 
-/// The margin of the current trades on a side, with all of its parts: its total is from 0 to below 10^21 cents. It is known then,
-/// on the other side too, and all values of buckets are kept. What was kept is kept, for want of memory, the only error, too; the
-/// trades stand. A margin that is known takes no memory.
+/// The margin of the current trades on a side, with all of its parts: its total is from 0 to below
+/// 10^21 cents. It is known then, on the other side too, and all values of buckets are kept. What
+/// was kept is kept, for want of memory, the only error, too; the trades stand. A margin that is
+/// known takes no memory.
 pub(crate) fn ask_margin(
     alloc: Global,
     live: &mut LiveMargin,
     side: MarginSide,
 ) -> Result<Breakdown, AllocError>
-    ensures value { IfOk result (λ b. b ≡ simm live.old.params (side_rows side (rows_of live.old.book))) }
+    ensures value { IfOk result (λ b.
+        b ≡ simm live.old.params (side_rows side (rows_of live.old.book))) }
     ensures total_from { IfOk result (λ b. pos 0 ≤ℤ b.total.0) }
     ensures total_below { IfOk result (λ b. b.total.0 <ℤ pos (10 ^ 21)) }
     ensures trades { traded live.new ≡ traded live.old }
@@ -42,7 +44,8 @@ fn ask_counted<L: Ledger>(
     requires name { blank.name ≡ L.name }
     requires parts { blank.parts ≡ L.parts }
     requires some { 0 < blank.parts }
-    ensures value { IfOk result (λ b. b ≡ simm live.old.params (side_rows side (rows_of live.old.book))) }
+    ensures value { IfOk result (λ b.
+        b ≡ simm live.old.params (side_rows side (rows_of live.old.book))) }
     ensures total_from { IfOk result (λ b. pos 0 ≤ℤ b.total.0) }
     ensures total_below { IfOk result (λ b. b.total.0 <ℤ pos (10 ^ 21)) }
     ensures trades { traded live.new ≡ traded live.old }

@@ -1,5 +1,6 @@
 //! A demand for collateral: the call that is made of it.
-ghost use Rattle.std.specs.Prelude.{◌≡◌, ◌+◌, ◌≤◌, ◌^◌, None, Some, if◌then◌else◌, IfOk, OnErr, pos, ◌≤ℤ◌, unsigned_abs};
+ghost use Rattle.std.specs.Prelude.{◌≡◌, ◌+◌, ◌≤◌, ◌^◌, None, Some, if◌then◌else◌};
+ghost use Rattle.std.specs.Prelude.{IfOk, OnErr, pos, ◌≤ℤ◌, unsigned_abs};
 ghost use Rattle.collateral_ledger.specs.CsaTerms.Calendar.{due_day};
 ghost use Rattle.csa_calls.specs.CallRule.{AmountUpTo};
 ghost use Rattle.set_core.specs.Answer.{is_calling_day, is_calling_range, called_for, noted};
@@ -19,7 +20,8 @@ use collateral_ledger::simm_kinds::MarginSide;
 use csa_calls::{CallAmount, call_amount, excess};
 use std::alloc::{AllocError, Global};
 
-/// What a demand finds: the day on which a call of it is due, the margin, and what is booked, in cents.
+/// What a demand finds: the day on which a call of it is due, the margin, and what is booked,
+/// in cents.
 #[derive(Clone, Copy)]
 struct Demand {
     due: i32,
@@ -30,7 +32,8 @@ struct Demand {
 /// The greatest margin on which a call is made, and the greatest size of what is booked, in cents.
 const MOST_CALLING: u128 = 400_000_000_000_000_000;
 
-/// Answers a demand of a side at a moment, by its ledger. For want of memory the trades and the ledger stand, and what is kept of the margin.
+/// Answers a demand of a side at a moment, by its ledger. For want of memory the trades and the
+/// ledger stand, and what is kept of the margin.
 pub(crate) fn ask_call(
     alloc: Global,
     live: &mut LiveMargin,
@@ -39,8 +42,10 @@ pub(crate) fn ask_call(
     moment: Moment,
 ) -> Result<Reply, AllocError>
     requires { ledger.old.added ≤ 65535 }
-    ensures does { IfOk result (λ reply. DoesOn side (traded live.old) (traded live.new) ledger.old ledger.new (asked.AskCall moment) reply) }
-    ensures caches { IfOk result (Caches live.old live.new (events.OnSide side (asked.AskCall moment))) }
+    ensures does { IfOk result (λ reply. DoesOn side (traded live.old)
+        (traded live.new) ledger.old ledger.new (asked.AskCall moment) reply) }
+    ensures caches { IfOk result
+        (Caches live.old live.new (events.OnSide side (asked.AskCall moment))) }
     ensures trades { OnErr result (traded live.new ≡ traded live.old) }
     ensures stays { OnErr result (StaysKept live.old live.new) }
     ensures collateral { OnErr result (ledger.new ≡ ledger.old) }
@@ -60,7 +65,8 @@ pub(crate) fn ask_call(
 
 /// The day on which a call at the moment is due; None where the moment's year isn't 1 to 9000.
 fn due(moment: Moment, terms: &SetTerms) -> Option<i32>
-    ensures { result ≡ (if is_calling_day moment.day then Some (due_day moment terms.now) else None) }
+    ensures { result
+        ≡ (if is_calling_day moment.day then Some (due_day moment terms.now) else None) }
 {
     due_day(moment, terms).ok()
 }
@@ -71,7 +77,8 @@ fn call_on(ledger: &mut Ledger, demand: Demand) -> Result<Reply, AllocError>
     requires margin_from { pos 0 ≤ℤ demand.margin }
     requires margin_to { demand.margin ≤ℤ pos (10 ^ 21) }
     requires booked_in_range { unsigned_abs demand.booked ≤ 10 ^ 23 }
-    ensures value { IfOk result (λ reply. reply ≡ noted ledger.old.added demand.due demand.margin demand.booked (called_for demand.margin demand.booked ledger.old.terms)) }
+    ensures value { IfOk result (λ reply. reply ≡ noted ledger.old.added demand.due demand.margin
+        demand.booked (called_for demand.margin demand.booked ledger.old.terms)) }
     ensures after { IfOk result (λ reply. ledger.new ≡ with_call ledger.old reply) }
     ensures unchanged { OnErr result (ledger.new ≡ ledger.old) }
 {

@@ -19,7 +19,8 @@ pub(crate) fn put(
     value: i64,
     currency: LotCurrency,
 ) -> Result<Reply, AllocError>
-    ensures does { IfOk result (λ reply. (side : MarginSide) (l : Traded) → DoesOn side l l ledger.old ledger.new (events.PutLot lot.now class.now value currency) reply) }
+    ensures does { IfOk result (λ reply. (side : MarginSide) (l : Traded) → DoesOn side l l
+        ledger.old ledger.new (events.PutLot lot.now class.now value currency) reply) }
     ensures unchanged { OnErr result (ledger.new ≡ ledger.old) }
 {
     let change = ledger.put_lot(alloc, lot, class, value, currency);
@@ -27,7 +28,8 @@ pub(crate) fn put(
 }
 
 pub(crate) fn take(ledger: &mut Ledger, lot: &Name) -> Result<Reply, AllocError>
-    ensures does { IfOk result (λ reply. (side : MarginSide) (l : Traded) → DoesOn side l l ledger.old ledger.new (events.TakeLot lot.now) reply) }
+    ensures does { IfOk result (λ reply. (side : MarginSide) (l : Traded)
+        → DoesOn side l l ledger.old ledger.new (events.TakeLot lot.now) reply) }
     ensures at_once { IsOk result }
 {
     let change = ledger.take_lot(lot);
@@ -35,7 +37,8 @@ pub(crate) fn take(ledger: &mut Ledger, lot: &Name) -> Result<Reply, AllocError>
 }
 
 pub(crate) fn mark(ledger: &mut Ledger, lot: &Name, value: i64) -> Result<Reply, AllocError>
-    ensures does { IfOk result (λ reply. (side : MarginSide) (l : Traded) → DoesOn side l l ledger.old ledger.new (events.MarkLot lot.now value) reply) }
+    ensures does { IfOk result (λ reply. (side : MarginSide) (l : Traded)
+        → DoesOn side l l ledger.old ledger.new (events.MarkLot lot.now value) reply) }
     ensures at_once { IsOk result }
 {
     let change = ledger.mark_lot(lot, value);
@@ -43,7 +46,8 @@ pub(crate) fn mark(ledger: &mut Ledger, lot: &Name, value: i64) -> Result<Reply,
 }
 
 pub(crate) fn close(ledger: &mut Ledger, number: u32) -> Result<Reply, AllocError>
-    ensures does { IfOk result (λ reply. (side : MarginSide) (l : Traded) → DoesOn side l l ledger.old ledger.new (events.CloseCall number) reply) }
+    ensures does { IfOk result (λ reply. (side : MarginSide) (l : Traded)
+        → DoesOn side l l ledger.old ledger.new (events.CloseCall number) reply) }
     ensures at_once { IsOk result }
 {
     let change = ledger.close_call(number);

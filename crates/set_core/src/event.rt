@@ -13,7 +13,8 @@ const TABLES_ROWS: usize = 10_000;
 /// What a caller asks of a netting set.
 #[derive(Drop)]
 pub enum Event {
-    /// Gives each trade that the batch names just the rows that it has there. A known trade keeps its place.
+    /// Gives each trade that the batch names just the rows that it has there. A known trade keeps
+    /// its place.
     Submit(Batch),
     /// Takes out each trade that is named.
     Withdraw(Listed<Name>),
@@ -33,7 +34,8 @@ impl Event {
         }
     }
 
-    /// How many rows the journal counts for it: those of a submit, 10,000 for tables, and none for every other event. It takes no memory.
+    /// How many rows the journal counts for it: those of a submit, 10,000 for tables, and none for
+    /// every other event. It takes no memory.
     pub fn row_count(&self) -> usize
         ensures { result ≡ event_rows self.now }
     {

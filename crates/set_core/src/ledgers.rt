@@ -9,7 +9,8 @@ use collateral_ledger::csa_terms::BothTerms;
 use collateral_ledger::simm_kinds::MarginSide;
 use std::alloc::Global;
 
-/// What a netting set holds as collateral, and its calls: each side of the margin has lots, calls and terms of its own.
+/// What a netting set holds as collateral, and its calls: each side of the margin has lots, calls
+/// and terms of its own.
 #[derive(Drop)]
 pub(crate) struct Ledgers {
     pub collect: Ledger,

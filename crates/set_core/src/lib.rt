@@ -1,6 +1,7 @@
-//! A netting set: trades are submitted, replaced and withdrawn, its tables are replaced, lots of collateral are put, taken and marked,
-//! its margin is asked and collateral is called for, on each of the two sides of the margin, and a journal holds each event with its
-//! answer. Each answer is the written rule, from scratch, over the journal's earlier accepted entries.
+//! A netting set: trades are submitted, replaced and withdrawn, its tables are replaced, lots of
+//! collateral are put, taken and marked, its margin is asked and collateral is called for, on each
+//! of the two sides of the margin, and a journal holds each event with its answer. Each answer is
+//! the written rule, from scratch, over the journal's earlier accepted entries.
 #![tactic(auto)]
 
 mod answering;

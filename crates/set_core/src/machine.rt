@@ -1,5 +1,5 @@
-//! A netting set as a machine that its callers share: it works on the tables that it opened with and the terms of both sides, and its journal weighs
-//! its rows.
+//! A netting set as a machine that its callers share: it works on the tables that it opened with
+//! and the terms of both sides, and its journal weighs its rows.
 ghost use Rattle.std.proofs.Common.{lit≤};
 ghost use Rattle.held_cell.proofs.Empty.{no_entry};
 ghost use Rattle.set_core.specs.Room.{journal_rows, IsFull};
@@ -37,5 +37,9 @@ impl Machine for SetState {
         answer
     }
 
-    ghost starts = { λ base. record { few = lit≤ tt; light = lit≤ tt; legal = λ before after e h. absurd (no_entry before after e h) } };
+    ghost starts = { λ base. record {
+      few = lit≤ tt;
+      light = lit≤ tt;
+      legal = λ before after e h. absurd (no_entry before after e h);
+    } };
 }

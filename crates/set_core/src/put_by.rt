@@ -1,7 +1,7 @@
 //! Room for the parts of margins that is there before it is wanted.
 ghost use Rattle.std.specs.Prelude.{◌≡◌, ◌+◌, ◌≤◌, OnOk, MatchOption};
 
-use bucket_cache::simm_rules::{Breakdown, ClassMargins, ProductMargin};
+use bucket_cache::simm_rules::{Breakdown, ByClass, ByProduct, ProductMargin};
 use collateral_ledger::mh_units::Cents;
 use std::alloc::{AllocError, Global};
 use std::marker::Model;
@@ -10,7 +10,7 @@ const NOTHING: Cents = Cents(0);
 
 const NO_PRODUCT: ProductMargin = ProductMargin {
     margin: NOTHING,
-    classes: ClassMargins {
+    classes: ByClass {
         ir: NOTHING,
         credit_q: NOTHING,
         credit_nonq: NOTHING,
@@ -22,10 +22,12 @@ const NO_PRODUCT: ProductMargin = ProductMargin {
 
 /// What stands in room that no margin has yet.
 const BLANK: Breakdown = Breakdown {
-    rates_fx: NO_PRODUCT,
-    credit: NO_PRODUCT,
-    equity: NO_PRODUCT,
-    commodity: NO_PRODUCT,
+    products: ByProduct {
+        rates_fx: NO_PRODUCT,
+        credit: NO_PRODUCT,
+        equity: NO_PRODUCT,
+        commodity: NO_PRODUCT,
+    },
     fixed: NOTHING,
     notional: NOTHING,
     multiplier: NOTHING,
@@ -56,7 +58,8 @@ impl PutBy {
         }
     }
 
-    /// Makes room for so many at least. For want of memory, the only error, there is no less than before.
+    /// Makes room for so many at least. For want of memory, the only error, there is no less
+    /// than before.
     pub fn grow(&mut self, alloc: Global, count: usize) -> Result<(), AllocError>
         ensures no_less { self.old ≤ self.new }
         ensures enough { OnOk result (count ≤ self.new) }
@@ -71,7 +74,8 @@ impl PutBy {
 
     /// Puts parts into room that there is; `None` where there is none. It takes no memory.
     pub fn take(&mut self, parts: Breakdown) -> Option<Box<Breakdown, Global>>
-        ensures { MatchOption result ((self.old ≡ 0) × (self.new ≡ 0)) (λ own. (own.value ≡ parts) × (self.new + 1 ≡ self.old)) }
+        ensures { MatchOption result ((self.old ≡ 0) × (self.new ≡ 0))
+            (λ own. (own.value ≡ parts) × (self.new + 1 ≡ self.old)) }
     {
         let mut own = self.boxes.pop()?;
         let _blank = Box::replace(&mut own, parts);

@@ -8,11 +8,12 @@ use bucket_cache::simm_rules::RangeFault;
 pub enum Refusal {
     /// A withdrawal names a trade that isn't current; the place of the first such name, from 1.
     UnknownTrade { place: u64 },
-    /// The tables don't list the bucket of a row of the batch, or of the book where the tables are new; the first such row's trade
-    /// by its place there, and the row by its place in the trade, both from 1.
+    /// The tables don't list the bucket of a row of the batch, or of the book where the tables are
+    /// new; the first such row's trade by its place there, and the row by its place in the trade,
+    /// both from 1.
     BucketUnknown { trade: u32, row: u32 },
-    /// All rows are admitted, and the book with this batch, or by these tables, would be out of range; the first quantity that is
-    /// above its limit.
+    /// All rows are admitted, and the book with this batch, or by these tables, would be out of
+    /// range; the first quantity that is above its limit.
     Range(RangeFault),
     /// A lot of this name is there.
     LotKnown,

@@ -18,8 +18,8 @@ pub enum Reply {
     Margin(SharedMargin),
     /// A call was made, and is outstanding.
     Called(CallNote),
-    /// No call was made: the excess of the margin above the threshold over what is booked, the margin, and what is booked,
-    /// in cents.
+    /// No call was made: the excess of the margin above the threshold over what is booked, the
+    /// margin, and what is booked, in cents.
     NoCall {
         excess: i128,
         margin: i128,

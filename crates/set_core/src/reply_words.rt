@@ -1,7 +1,8 @@
 ghost use Rattle.std.specs.Prelude.{◌≡◌, ◌++◌, codes, IfOk, OnOk};
 ghost use Rattle.collateral_ledger.specs.CsaTerms.Moments.{day_text};
 ghost use Rattle.collateral_ledger.specs.MhUnits.Money.{money_text};
-ghost use Rattle.set_core.specs.Text.{refusal_text, flow_text, basis_text, call_text, note_text, reply_text};
+ghost use Rattle.set_core.specs.Text.{refusal_text, flow_text, basis_text};
+ghost use Rattle.set_core.specs.Text.{call_text, note_text, reply_text};
 
 use crate::{CallNote, Refusal, Reply};
 use collateral_ledger::csa_terms::{Flow, push_day};
@@ -9,7 +10,8 @@ use collateral_ledger::mh_units::{Cents, Text, push_cents};
 use itoa::{Buffer, Integer};
 use std::alloc::{AllocError, Global};
 
-/// The printed text of a reply, its fields parted by tabs, without the end of the line. Of a margin it is the total.
+/// The printed text of a reply, its fields parted by tabs, without the end of the line. Of a
+/// margin it is the total.
 ///
 /// # Errors
 ///

@@ -1,7 +1,7 @@
-ghost use Rattle.std.specs.Prelude.{◌≡◌, ◌<◌, true, false, length, max, None, Some, IfOk, IfErr, OnOk, OnErr};
+ghost use Rattle.std.specs.Prelude.{◌≡◌, ◌<◌, true, false, length, max};
+ghost use Rattle.std.specs.Prelude.{None, Some, IfOk, IfErr, OnOk, OnErr};
 ghost use Rattle.std.specs.Option.{option_copied};
-ghost use Rattle.collateral_ledger.specs.SimmKinds.declared.kinds.Measure.{Measure};
-ghost use Rattle.bucket_cache.specs.FactorBook.declared.at.BucketAt.{BucketAt};
+ghost use Rattle.bucket_cache.specs.FactorBook.declared.place.Place.{Place};
 ghost use Rattle.bucket_cache.specs.Cached.{IsCached};
 ghost use Rattle.collateral_ledger.specs.CsaTerms.Terms.{IsOneSet};
 ghost use Rattle.set_core.specs.Book.{book};
@@ -24,10 +24,11 @@ use collateral_ledger::simm_kinds::{MarginSide, Name};
 use std::alloc::{AllocError, Global};
 use std::marker::Model;
 
-/// A netting set: what it works on, its current trades, the lots and outstanding calls of both sides of the margin, and the journal of its
-/// calls. Contracts see the tables that it opened with, the terms of both sides, the journal, for how many entries more room was put by,
-/// and of what is kept of its margin whether it is known and the values of buckets; all else is the written rule over the journal.
-/// It keeps the allocator that it was made with.
+/// A netting set: what it works on, its current trades, the lots and outstanding calls of both
+/// sides of the margin, and the journal of its calls. Contracts see the tables that it opened
+/// with, the terms of both sides, the journal, for how many entries more room was put by, and of
+/// what is kept of its margin whether it is known and the values of buckets; all else is the
+/// written rule over the journal. It keeps the allocator that it was made with.
 #[derive(Drop)]
 pub struct SetState {
     alloc: Global,
@@ -62,7 +63,8 @@ impl Model for SetState {
       spare = s.spare;
     } };
 
-    ghost invariant = { λ s. IsKept s.params (traded s.live) s.ledgers s.rows s.journal.items × AreCached s.live s.journal.items
+    ghost invariant = { λ s. IsKept s.params (traded s.live) s.ledgers s.rows s.journal.items
+        × AreCached s.live s.journal.items
         × HasRoom s.spare s.put_by (vec_len s.journal) (vec_capacity s.journal) };
 }
 
@@ -73,7 +75,8 @@ const MOST_ENTRIES: usize = 65_535;
 const MOST_ROWS: usize = 500_000;
 
 impl SetState {
-    /// A set without trades, with an empty journal. No value of a bucket is kept, and its margin is known.
+    /// A set without trades, with an empty journal. No value of a bucket is kept, and its margin
+    /// is known.
     ///
     /// # Errors
     ///
@@ -96,22 +99,25 @@ impl SetState {
         })
     }
 
-    /// Answers an event by the written rule over the journal so far, and adds it to the journal with its reply. An event
-    /// that is refused changes nothing else. Of the values of buckets that are kept an accepted batch or withdrawal forgets
-    /// just those of the buckets in which a row lies that it adds, replaces or removes, and tables that are accepted forget all;
-    /// after a question that is answered the value of each bucket is kept in which a row lies.
+    /// Answers an event by the written rule over the journal so far, and adds it to the journal
+    /// with its reply. An event that is refused changes nothing else. Of the values of buckets
+    /// that are kept an accepted batch or withdrawal forgets just those of the buckets in which a
+    /// row lies that it adds, replaces or removes, and tables that are accepted forget all; after
+    /// a question that is answered the value of each bucket is kept in which a row lies.
     ///
     /// # Errors
     ///
-    /// `Full` exactly where the journal has 65,535 entries, or its rows and the event's are more than 500,000; it shows the
-    /// journal's entries and, as its weight, its rows. This is tested first, and takes no memory. `Memory` for want of memory
-    /// where the journal had room. Then the set stands, and the event comes back; of its margin more may be kept than
-    /// before, after `Memory` alone.
+    /// `Full` exactly where the journal has 65,535 entries, or its rows and the event's are more
+    /// than 500,000; it shows the journal's entries and, as its weight, its rows. This is tested
+    /// first, and takes no memory. `Memory` for want of memory where the journal had room. Then
+    /// the set stands, and the event comes back; of its margin more may be kept than before, after
+    /// `Memory` alone.
     pub fn apply(&mut self, caller: u32, event: Event) -> Result<Reply, Halt<Event>>
         ensures answered { IfOk result (IsAnswered self.old self.new caller event) }
         ensures halt { IfErr result (Explains journal_rows IsFull self.old.journal event) }
         ensures unchanged { IfErr result (Leaves self.old self.new) }
-        ensures reserved { 0 < self.old.spare → is_reserved self.old.journal event ≡ true → IfErr result (λ halt. is_want halt ≡ false) }
+        ensures reserved { 0 < self.old.spare → is_reserved self.old.journal event ≡ true
+            → IfErr result (λ halt. is_want halt ≡ false) }
     {
         event.facts();
         let rows = event.row_count();
@@ -145,15 +151,17 @@ impl SetState {
         Ok(reply)
     }
 
-    /// Puts room by for this many entries at least. While there is any, of which each event that is answered takes one entry's, no
-    /// event is answered want of memory that takes or marks a lot, closes a call, or asks the margin where no accepted event changed
-    /// trades or tables since it was last answered, or since the set was made.
+    /// Puts room by for this many entries at least. While there is any, of which each event that
+    /// is answered takes one entry's, no event is answered want of memory that takes or marks a
+    /// lot, closes a call, or asks the margin where no accepted event changed trades or tables
+    /// since it was last answered, or since the set was made.
     ///
     /// # Errors
     ///
     /// For want of memory alone. Then the set stands.
     pub fn reserve_entries(&mut self, count: u32) -> Result<(), AllocError>
-        ensures room { OnOk result (self.new ≡ record self.old { spare = max self.old.spare count }) }
+        ensures room { OnOk result
+            (self.new ≡ record self.old { spare = max self.old.spare count }) }
         ensures unchanged { OnErr result (self.new ≡ self.old) }
     {
         self.journal.reserve(count as usize)?;
@@ -162,7 +170,8 @@ impl SetState {
         Ok(())
     }
 
-    /// What each set keeps: its journal is legal, and within its limits, and the terms of both sides are of one set. It does nothing.
+    /// What each set keeps: its journal is legal, and within its limits, and the terms of both
+    /// sides are of one set. It does nothing.
     pub fn facts(&self)
         ensures set { IsSet self.now.params self.now.terms self.now.journal }
         ensures terms { IsOneSet self.now.terms.collect self.now.terms.post }
@@ -177,7 +186,8 @@ impl SetState {
         self.journal.len() as u32
     }
 
-    /// How many rows the submits of the journal have, refused ones too, with 10,000 for each time that tables were brought.
+    /// How many rows the submits of the journal have, refused ones too, with 10,000 for each time
+    /// that tables were brought.
     pub fn rows(&self) -> u32
         ensures { result ≡ journal_rows self.now.journal }
     {
@@ -199,16 +209,19 @@ impl SetState {
         self.journal.get(index as usize)
     }
 
-    /// Lends the live margin, whose tables and book are those of the journal, with just what the set keeps of it. What was worked out at the last question that was answered
-    /// is kept, but the values of the buckets in which a row lies that an accepted event moved since, and all where tables were accepted
-    /// since; a refused event leaves them. The margin is known where no accepted event changed trades or tables since.
+    /// Lends the live margin, whose tables and book are those of the journal, with just what the
+    /// set keeps of it. What was worked out at the last question that was answered is kept, but
+    /// the values of the buckets in which a row lies that an accepted event moved since, and all
+    /// where tables were accepted since; a refused event leaves them. The margin is known where no
+    /// accepted event changed trades or tables since.
     pub fn live(&self) -> &LiveMargin
         ensures params { result.now.params ≡ tables self.now.params self.now.journal }
         ensures book { result.now.book ≡ book self.now.journal }
         ensures is_fresh { result.now.is_fresh ≡ self.now.is_fresh }
         ensures values { result.now.kept.values ≡ self.now.kept }
         ensures fresh { is_margin_known self.now.journal ≡ true → result.now.is_fresh ≡ true }
-        ensures kept { (at : BucketAt) (measure : Measure) → is_value_known at measure self.now.journal ≡ true → IsCached at measure result.now }
+        ensures kept { (place : Place) → is_value_known place self.now.journal ≡ true
+            → IsCached place result.now }
     {
         &self.live
     }

@@ -16,8 +16,8 @@ enum Home {
     Own(Box<Breakdown, Global>),
 }
 
-/// A margin with its parts, 512 bytes, which stand once for all that hold it, or where there was no memory for that, in room
-/// that was put by. Contracts see the parts.
+/// A margin with its parts, 512 bytes, which stand once for all that hold it, or where there was
+/// no memory for that, in room that was put by. Contracts see the parts.
 #[derive(Drop)]
 pub struct SharedMargin {
     home: Home,
@@ -54,8 +54,8 @@ impl SharedMargin {
         }
     }
 
-    /// The same margin for one more holder. Parts that are shared take no memory up to 2^63 holders; all others stand in room that
-    /// was put by.
+    /// The same margin for one more holder. Parts that are shared take no memory up to 2^63
+    /// holders; all others stand in room that was put by.
     ///
     /// # Errors
     ///

@@ -1,5 +1,6 @@
 use Rattle.std.proofs.Common.{◌∙◌, arith}
-use Rattle.audit_file.proofs.EntriesTold.{entry_step, entry_there}
+use Rattle.feed_events.proofs.SetCore.JournalEntries.{entry_there}
+use Rattle.audit_file.proofs.EntriesTold.{entry_step}
 use Rattle.audit_file.proofs.audit_text.push_entries.Goals as goal
 use Rattle.audit_file.proofs.audit_text.push_entries.Goals.{in-Some+in_ok-push_entry, in_default}
 

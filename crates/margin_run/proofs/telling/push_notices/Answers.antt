@@ -1,6 +1,7 @@
 use Rattle.std.proofs.Common.{◌≡◌, ◌++◌, ap, ◌∙◌, arith}
 use Rattle.margin_run.specs.Notices.{notices_by}
-use Rattle.margin_run.proofs.NoticeLemmas.{few_notices, notices_more, entry_there}
+use Rattle.feed_gate.proofs.SetCore.JournalEntries.{entry_there}
+use Rattle.margin_run.proofs.NoticeLemmas.{few_notices, notices_more}
 use Rattle.margin_run.proofs.telling.push_notices.Goals as goal
 use Rattle.margin_run.proofs.telling.push_notices.Goals.{in-Some+in_ok-push_notice, in_default}
 

@@ -1,5 +1,6 @@
 use Rattle.std.proofs.Common.{◌∙◌, arith}
-use Rattle.margin_text.proofs.EntryLemmas.{entry_step, entry_there}
+use Rattle.feed_gate.proofs.SetCore.JournalEntries.{entry_there}
+use Rattle.margin_text.proofs.EntryLemmas.{entry_step}
 use Rattle.margin_text.proofs.set_journal.push_entries.Goals as goal
 use Rattle.margin_text.proofs.set_journal.push_entries.Goals.{in-Some+in_ok-push_entry, in_default}
 

@@ -27,7 +27,7 @@ returns-clause-caches c =
     IfOk-weaker c.book_reply.result _ _
     (change_caches c.args.live.now c.submit-change.new.self (events.Submit c.args.batch.now) c.submit-change.result
     (three_so c.submit-change.result _ _ _ _ c.submit-change.ensures.stale c.submit-change.ensures.kept c.submit-change.ensures.elsewhere
-    (caches_moved c.args.live.now c.submit-change.new.self (events.Submit c.args.batch.now) (rows_moved c.args.batch.now c.args.live.now.book) refl (λ at measure. refl)))
+    (caches_moved c.args.live.now c.submit-change.new.self (events.Submit c.args.batch.now) (rows_moved c.args.batch.now c.args.live.now.book) refl (λ place. refl)))
     c.submit-change.ensures.unchanged)
     c.book_reply.ensures.replies
 

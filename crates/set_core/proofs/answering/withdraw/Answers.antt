@@ -24,5 +24,5 @@ returns-in-Err-UnknownTrade-clause-does c = λ h. record {
 
 pub returns-in-Ok-clause-caches : goal.returns-in-Ok-clause-caches
 returns-in-Ok-clause-caches c =
-    caches_moved c.args.live.now c.withdraw.new.self (events.Withdraw c.args.names.now) (rows_of (named c.args.names.now c.args.live.now.book)) refl (λ at measure. refl)
+    caches_moved c.args.live.now c.withdraw.new.self (events.Withdraw c.args.names.now) (rows_of (named c.args.names.now c.args.live.now.book)) refl (λ place. refl)
     c.in-Ok.ensures.stale c.in-Ok.ensures.kept c.in-Ok.ensures.elsewhere

@@ -18,6 +18,6 @@ returns-clause-all g c =
 pub returns-clause-stays : goal.returns-clause-stays
 returns-clause-stays g c = record {
   fresh = λ known. either_so c.margin.result _ _ (c.margin.new.self.is_fresh ≡ true) c.margin.ensures.fresh c.margin.ensures.still_stale (λ h. h) (λ same. same ∙ known);
-  kept = λ at measure. renewed_cached c.args.live.now c.margin.new.self _ _ c.margin.ensures.book c.margin.ensures.renewed at measure;
-  cached = λ at measure. renewed_still c.args.live.now c.margin.new.self _ _ c.margin.ensures.renewed at measure;
+  kept = λ place. renewed_cached c.args.live.now c.margin.new.self _ _ c.margin.ensures.book c.margin.ensures.renewed place;
+  cached = λ place. renewed_still c.args.live.now c.margin.new.self _ _ c.margin.ensures.renewed place;
 }

@@ -1,4 +1,4 @@
-use Rattle.std.proofs.Common.{rules, arith, ◌≡◌, refl, sym, ap, ◌∙◌, subst, ◌+◌, ◌-◌, List, ◌++◌, ◌∷◌, [], false}
+use Rattle.std.proofs.Common.{rules, arith, ◌≡◌, ℕ, zero, suc, refl, sym, ap, ◌∙◌, subst, ◌+◌, ◌-◌, ◌*◌, ◌≤◌, ◌<◌, List, ◌++◌, ◌∷◌, [], false}
 use Rattle.held_cell.specs.Entries.{entry}
 use Rattle.set_core.specs.Kept.{IsKept}
 use Rattle.collateral_ledger.specs.SimmKinds.declared.row.TradeRows.{TradeRows}
@@ -6,15 +6,34 @@ use Rattle.collateral_ledger.specs.SimmKinds.Batch.{rows_of}
 use Rattle.bucket_cache.specs.Cached.{touches, is_cached}
 use Rattle.set_core.specs.Cached.{touched_by, is_kept, AreCached}
 use Rattle.set_core.specs.Ledger.{terms_of}
-use Rattle.set_core.specs.Live.{traded}
+use Rattle.set_core.specs.declared.ledgers.Ledgers.{Ledgers}
+use Rattle.set_core.specs.Live.{Traded, traded}
 use Rattle.set_core.specs.Room.{is_full}
 use Rattle.set_core.specs.Set.{Set, IsAnswered}
 use Rattle.set_core.proofs.Applies.{Applied, applied, few_calls}
-use Rattle.set_core.proofs.Caching.{stays_same, cached_next, seen, keeps_more}
+use Rattle.set_core.proofs.Caching.{stays_same, cached_next, cached_still, seen, keeps_more}
 use Rattle.set_core.proofs.set_state.SetState.apply.Goals as goal
 
 pub answer_twice-answers-requires : goal.answer_twice-answers-requires
 answer_twice-answers-requires c = few_calls c.self.inside.params (traded c.self.inside.live) c.self.inside.ledgers c.self.inside.rows c.self.inside.journal.items c.self.invariant.0
+
+-- room that was put by for margins twice is all there
+still_twice : (spare had has : ℕ) → 2 * spare ≤ had → (1 < had → has ≡ had) → 2 * spare ≤ has
+still_twice zero had has twice none = omega arith
+still_twice (suc spare) had has twice none = let same = none (omega (arith, twice)) in omega (arith, twice, same)
+
+pub invariant_of-self-in_default : goal.invariant_of-self-in_default
+invariant_of-self-in_default c = (
+  subst (λ log. IsKept c.self.inside.params (traded c.answer_twice-answers.new.live) c.answer_twice-answers.new.ledgers c.self.inside.rows log) (sym c.reserve.ensures.items)
+      (subst (λ (l : Traded). IsKept c.self.inside.params l c.answer_twice-answers.new.ledgers c.self.inside.rows c.self.inside.journal.items) (sym c.in_default.ensures.trades)
+      (subst (λ (held : Ledgers). IsKept c.self.inside.params (traded c.self.inside.live) held c.self.inside.rows c.self.inside.journal.items) (sym c.in_default.ensures.collateral) c.self.invariant.0)),
+  subst (AreCached c.answer_twice-answers.new.live) (sym c.reserve.ensures.items)
+      (cached_still c.self.inside.live c.answer_twice-answers.new.live c.self.inside.journal.items c.self.invariant.1 c.in_default.ensures.stays),
+  record {
+    entries = omega (arith, c.reserve.ensures.len, c.reserve.ensures.capacity, c.self.invariant.2.entries);
+    margins_twice = still_twice c.self.inside.spare c.self.inside.put_by c.answer_twice-answers.new.put_by c.self.invariant.2.margins_twice c.in_default.ensures.none_taken;
+  },
+)
 
 had_room : (c : goal.After-push_reserved) → is_full c.self.inside.journal.items c.args.event ≡ false
 had_room c = search rules
@@ -54,9 +73,9 @@ answered c = record {
     kept = c.answer_twice-answers.new.live.kept.values;
     spare = left c i;
   };
-  cached = λ at measure.
-      c.in-Ok.ensures.caches.cached at measure
-      ∙ ap (λ (trades : List TradeRows). is_kept (is_cached c.self.inside.live.kept.values at measure) (touched_by at measure trades c.args.event) (touches at measure (rows_of trades)) c.in-Ok.reply)
+  cached = λ place.
+      c.in-Ok.ensures.caches.cached place
+      ∙ ap (λ (trades : List TradeRows). is_kept (is_cached c.self.inside.live.kept.values place) (touched_by place trades c.args.event) (touches place (rows_of trades)) c.in-Ok.reply)
       c.self.invariant.0.book;
 }
 
