@@ -3,7 +3,9 @@ ghost use Rattle.std.specs.List.{flat_map};
 ghost use Rattle.simm_rules.specs.Parts.{product_part};
 ghost use Rattle.simm_rules.specs.Simm.{products, classes};
 ghost use Rattle.fault_text.specs.Fields.{field, amount_line};
-ghost use Rattle.breakdown_text.specs.Margins.{class_margin_line, class_line, product_margin_line, product_lines, add_on_lines, part_lines, total_line, margin_text};
+ghost use Rattle.breakdown_text.specs.Margins.{class_margin_line, class_line};
+ghost use Rattle.breakdown_text.specs.Margins.{product_margin_line, product_lines, add_on_lines};
+ghost use Rattle.breakdown_text.specs.Margins.{part_lines, total_line, margin_text};
 
 use fault_text::{push_field, push_last_amount};
 use mh_units::Text;
@@ -97,7 +99,8 @@ pub fn push_product_margin(
 
 /// Adds the lines of all products.
 fn push_products(text: &mut Text, margin: &Breakdown) -> Result<(), AllocError>
-    ensures { OnOk result (text.new ≡ text.old ++ flat_map (λ product. product_lines product (product_part margin.now product)) products) }
+    ensures { OnOk result (text.new ≡ text.old ++ flat_map
+        (λ product. product_lines product (product_part margin.now product)) products) }
 {
     for product in &ProductClass::ALL {
         push_product(text, *product, margin.product(*product))?;
@@ -105,7 +108,8 @@ fn push_products(text: &mut Text, margin: &Breakdown) -> Result<(), AllocError>
     Ok(())
 }
 
-/// Adds the lines of a margin's parts that aren't 0: the products with their risk classes, then the additional margins.
+/// Adds the lines of a margin's parts that aren't 0: the products with their risk classes, then
+/// the additional margins.
 #[tactic(auto, unfolding(crate::specs::Margins::part_lines))]
 pub fn push_margin_parts(text: &mut Text, margin: &Breakdown) -> Result<(), AllocError>
     ensures { OnOk result (text.new ≡ text.old ++ part_lines margin.now) }
@@ -133,8 +137,8 @@ pub fn push_total(text: &mut Text, cents: i128) -> Result<(), AllocError>
     push_last_amount(text, cents)
 }
 
-/// The lines of a margin: the whole, and each of its parts that isn't 0: the products with their risk classes, then the
-/// add-ons. Amounts are in units of money with two digits.
+/// The lines of a margin: the whole, and each of its parts that isn't 0: the products with their
+/// risk classes, then the add-ons. Amounts are in units of money with two digits.
 ///
 /// # Errors
 ///

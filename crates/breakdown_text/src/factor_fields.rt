@@ -10,7 +10,8 @@ use mh_units::Text;
 use simm_kinds::{Bucket, BucketNumber, CreditTenor, Currency, CurrencyPair, Factor};
 use std::alloc::AllocError;
 
-/// Adds the fields of a factor: qualifier, bucket, tenor, sub-curve and second label, each followed by another.
+/// Adds the fields of a factor: qualifier, bucket, tenor, sub-curve and second label, each
+/// followed by another.
 pub fn push_factor(text: &mut Text, factor: &Factor) -> Result<(), AllocError>
     ensures { OnOk result (text.new ≡ text.old ++ factor_fields factor.now) }
 {
@@ -68,7 +69,8 @@ pub fn push_factor(text: &mut Text, factor: &Factor) -> Result<(), AllocError>
     }
 }
 
-/// Adds the five fields of a factor as they are: qualifier, bucket, tenor, sub-curve and second label.
+/// Adds the five fields of a factor as they are: qualifier, bucket, tenor, sub-curve and
+/// second label.
 pub fn push_factor_parts(
     text: &mut Text,
     qualifier: &[u8],
@@ -77,7 +79,8 @@ pub fn push_factor_parts(
     sub: &str,
     label: &[u8],
 ) -> Result<(), AllocError>
-    ensures { OnOk result (text.new ≡ text.old ++ parts qualifier.now bucket.now tenor.now sub.now label.now) }
+    ensures { OnOk result
+        (text.new ≡ text.old ++ parts qualifier.now bucket.now tenor.now sub.now label.now) }
 {
     push_field(text, qualifier)?;
     push_field(text, bucket)?;
@@ -86,7 +89,8 @@ pub fn push_factor_parts(
 
 // Tenor, sub-curve and second label.
 fn push_points(text: &mut Text, tenor: &str, sub: &str, label: &[u8]) -> Result<(), AllocError>
-    ensures { OnOk result (text.new ≡ text.old ++ field tenor.now ++ field sub.now ++ field label.now) }
+    ensures { OnOk result
+        (text.new ≡ text.old ++ field tenor.now ++ field sub.now ++ field label.now) }
 {
     push_field(text, tenor.as_bytes())?;
     push_field(text, sub.as_bytes())?;
@@ -94,7 +98,8 @@ fn push_points(text: &mut Text, tenor: &str, sub: &str, label: &[u8]) -> Result<
 }
 
 fn push_rate(text: &mut Text, currency: &Currency, tenor: &str, sub: &str) -> Result<(), AllocError>
-    ensures { OnOk result (text.new ≡ text.old ++ parts currency.now currency.now tenor.now sub.now []) }
+    ensures { OnOk result
+        (text.new ≡ text.old ++ parts currency.now currency.now tenor.now sub.now []) }
 {
     push_factor_parts(
         text,
@@ -122,7 +127,8 @@ fn push_credit(
     tenor: CreditTenor,
     label: &[u8],
 ) -> Result<(), AllocError>
-    ensures { OnOk result (text.new ≡ text.old ++ parts issuer.now (bucket_text bucket) (tenor_word (tenor_at tenor)) [] label.now) }
+    ensures { OnOk result (text.new ≡ text.old ++ parts issuer.now (bucket_text bucket)
+        (tenor_word (tenor_at tenor)) [] label.now) }
 {
     push_field(text, issuer)?;
     push_bucket(text, bucket)?;
@@ -135,7 +141,8 @@ fn push_equity(
     bucket: Bucket,
     tenor: &str,
 ) -> Result<(), AllocError>
-    ensures { OnOk result (text.new ≡ text.old ++ parts issuer.now (bucket_text bucket) tenor.now [] []) }
+    ensures { OnOk result
+        (text.new ≡ text.old ++ parts issuer.now (bucket_text bucket) tenor.now [] []) }
 {
     push_field(text, issuer)?;
     push_bucket(text, bucket)?;
@@ -157,7 +164,8 @@ fn push_commodity(
 
 // The six letters of a pair.
 fn push_pair(text: &mut Text, pair: CurrencyPair, tenor: &str) -> Result<(), AllocError>
-    ensures { OnOk result (text.new ≡ text.old ++ parts (pair.first ++ pair.second) [] tenor.now [] []) }
+    ensures { OnOk result
+        (text.new ≡ text.old ++ parts (pair.first ++ pair.second) [] tenor.now [] []) }
 {
     text.extend(pair.first().letters())?;
     push_field(text, pair.second().letters())?;

@@ -6,8 +6,9 @@ use crate::notice::Notice;
 
 /// Where calls are told of.
 ///
-/// A desk counts its faults, its wants of memory and the notices that it was told, each at most to 2^64 - 1. A count never falls,
-/// and stays at that value once it is there. A desk may tell the notices that it was told.
+/// A desk counts its faults, its wants of memory and the notices that it was told, each at most to
+/// 2^64 - 1. A count never falls, and stays at that value once it is there. A desk may tell the
+/// notices that it was told.
 pub trait Desk: Drop {
     ghost seen: { Self → DeskSeen };
 
@@ -15,7 +16,8 @@ pub trait Desk: Drop {
     ///
     /// # Errors
     ///
-    /// `Failed` only where the count of faults rose in this call, `Memory` only where the count of wants did.
+    /// `Failed` only where the count of faults rose in this call, `Memory` only where the count of
+    /// wants did.
     fn tell(&mut self, notice: &Notice) -> Result<(), DeskFault>
         ensures { Tells (seen self.old) (seen self.new) notice.now result };
 
@@ -23,7 +25,8 @@ pub trait Desk: Drop {
     fn tellings(&self) -> u64
         ensures { result ≡ (seen self.now).tellings };
 
-    /// Lends the notices that the desk was told, in order; None where it doesn't tell them. It takes no memory.
+    /// Lends the notices that the desk was told, in order; None where it doesn't tell them. It
+    /// takes no memory.
     fn told_list(&self) -> Option<&[Notice]>
         ensures { option_map (λ list. list.now) result ≡ (seen self.now).told };
 }

@@ -1,6 +1,8 @@
-ghost use Rattle.std.specs.Prelude.{◌≡◌, [], ◌∷◌, ◌++◌, Some, false, length, option_map, OnOk, OnErr};
+ghost use Rattle.std.specs.Prelude.{◌≡◌, [], ◌∷◌, ◌++◌, Some};
+ghost use Rattle.std.specs.Prelude.{false, length, option_map, OnOk, OnErr};
 ghost use Rattle.call_desk.specs.Desk.{Tells};
-ghost use Rattle.call_desk.specs.Memory.{uncalled, memory_seen, is_failing, has_failed, is_wanting, after_tell};
+ghost use Rattle.call_desk.specs.Memory.{uncalled, memory_seen, is_failing};
+ghost use Rattle.call_desk.specs.Memory.{has_failed, is_wanting, after_tell};
 
 use crate::desk::Desk;
 use crate::fault::DeskFault;
@@ -8,8 +10,8 @@ use crate::notice::Notice;
 use std::alloc::AllocError;
 use std::marker::Model;
 
-/// A desk over memory, for tests: it keeps the notices that it was told, and fails or finds no memory at the calls that it was
-/// told to.
+/// A desk over memory, for tests: it keeps the notices that it was told, and fails or finds no
+/// memory at the calls that it was told to.
 #[derive(Drop)]
 pub struct MemDesk {
     told: Vec<Notice>,
@@ -36,8 +38,9 @@ impl Model for MemDesk {
 }
 
 impl MemDesk {
-    /// A desk that was told nothing. `failing` holds the numbers of the calls that are to fail, `wanting` of those that are to
-    /// find no memory; the first call is number 1. It takes no memory.
+    /// A desk that was told nothing. `failing` holds the numbers of the calls that are to
+    /// fail, `wanting` of those that are to find no memory; the first call is number 1. It
+    /// takes no memory.
     pub fn new(failing: Vec<u64>, wanting: Vec<u64>) -> MemDesk
         ensures { result ≡ uncalled failing.items wanting.items }
     {
@@ -68,7 +71,8 @@ impl Desk for MemDesk {
 
     ghost seen = { memory_seen };
 
-    /// It fails exactly at the calls that are to fail. Of the others those that are to find no memory find none.
+    /// It fails exactly at the calls that are to fail. Of the others those that are to find no
+    /// memory find none.
     fn tell(&mut self, notice: &Notice) -> Result<(), DeskFault>
         ensures tells { Tells (memory_seen self.old) (memory_seen self.new) notice.now result }
         ensures fails { has_failed result ≡ is_failing self.old }

@@ -8,7 +8,8 @@ use simm_kinds::Name;
 use std::alloc::{AllocError, Global};
 
 /// A call that was made, as a desk is told of it.
-/// (ISDA 2016 Credit Support Annex for Initial Margin: demands for a Delivery Amount or a Return Amount.)
+/// (ISDA 2016 Credit Support Annex for Initial Margin: demands for a Delivery Amount or a
+/// Return Amount.)
 #[derive(Drop)]
 pub struct Notice {
     /// The netting set.
@@ -38,7 +39,8 @@ impl Notice {
     }
 }
 
-/// Adds the line of a notice to a text. The only error is want of memory; a front of it may have been added then.
+/// Adds the line of a notice to a text. The only error is want of memory; a front of it may have
+/// been added then.
 pub fn push_notice(text: &mut Text, notice: &Notice) -> Result<(), AllocError>
     ensures { OnOk result (text.new ≡ text.old ++ notice_text notice.now) }
 {

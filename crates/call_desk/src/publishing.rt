@@ -80,8 +80,8 @@ fn tell_all(desk: &mut Box<dyn Desk>, notices: &[Notice]) -> Told
     }
 }
 
-/// Tells each desk the notices in order, up to its first fault: a desk without a fault goes to the end of `staying`, the others
-/// to the end of `retired`. It takes no memory.
+/// Tells each desk the notices in order, up to its first fault: a desk without a fault goes to the
+/// end of `staying`, the others to the end of `retired`. It takes no memory.
 fn tell_each(
     desks: Vec<Box<dyn Desk>>,
     staying: &mut Vec<Box<dyn Desk>>,
@@ -93,7 +93,8 @@ fn tell_each(
     requires none { staying.old.items ≡ [] }
     requires room { vec_len desks ≤ vec_capacity staying.old }
     requires retired_room { vec_len retired.old + vec_len desks ≤ vec_capacity retired.old }
-    ensures { (outcomes : List (Outcome _)) × Publishes (λ desk. seen desk) notices.now desks.items staying.new.items retired.old.items retired.new.items result outcomes }
+    ensures { (outcomes : List (Outcome _)) × Publishes (λ desk. seen desk) notices.now desks.items
+        staying.new.items retired.old.items retired.new.items result outcomes }
 {
     let mut published = Published {
         told: 0,
@@ -111,9 +112,9 @@ fn tell_each(
     published
 }
 
-/// Tells each desk the notices in order. A desk that answers a fault is told nothing more and is moved to the end of `retired`;
-/// the others keep their order. The caller drops what is retired. Room for all desks is taken first, once among the retired and
-/// once for those that stay.
+/// Tells each desk the notices in order. A desk that answers a fault is told nothing more and is
+/// moved to the end of `retired`; the others keep their order. The caller drops what is retired.
+/// Room for all desks is taken first, once among the retired and once for those that stay.
 ///
 /// # Errors
 ///
@@ -125,8 +126,9 @@ pub fn publish(
 ) -> Result<Published, AllocError>
     requires few_desks { vec_len desks.old < 2 ^ 32 }
     requires few_notices { length notices.now < 2 ^ 32 }
-    ensures ok { IfOk result (λ published. (outcomes : List (Outcome _))
-        × Publishes (λ desk. seen desk) notices.now desks.old.items desks.new.items retired.old.items retired.new.items published outcomes) }
+    ensures ok { IfOk result (λ published.
+        (outcomes : List (Outcome _)) × Publishes (λ desk. seen desk) notices.now desks.old.items
+        desks.new.items retired.old.items retired.new.items published outcomes) }
     ensures desks_stand { OnErr result (desks.new.items ≡ desks.old.items) }
     ensures retired_stand { OnErr result (retired.new.items ≡ retired.old.items) }
 {

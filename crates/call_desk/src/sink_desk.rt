@@ -11,7 +11,8 @@ use mh_io::{Sink, put_all};
 use mh_units::Text;
 use std::alloc::Global;
 
-/// A desk that writes the line of each notice to a sink. It doesn't tell the notices that it was told.
+/// A desk that writes the line of each notice to a sink. It doesn't tell the notices that it
+/// was told.
 ///
 /// A fault of the sink is a fault of the desk; a front of the line may have gone out then.
 #[derive(Drop)]
@@ -51,10 +52,14 @@ impl<K: Sink + Drop> Desk for SinkDesk<K> {
     ghost seen = { λ d. counts_alone (K.seen d.sink).faults d.wants d.tellings };
 
     fn tell(&mut self, notice: &Notice) -> Result<(), DeskFault>
-        ensures tells { Tells (counts_alone (K.seen self.old.sink).faults self.old.wants self.old.tellings)
-            (counts_alone (K.seen self.new.sink).faults self.new.wants self.new.tellings) notice.now result }
-        ensures holds { OnOk result (Appends (K.seen self.old.sink).holds (K.seen self.new.sink).holds (notice_text notice.now)) }
-        ensures cut { result ≡ Err DeskFault.Failed → (put : ℕ) × BreaksOff (K.seen self.old.sink) (K.seen self.new.sink) (notice_text notice.now) put }
+        ensures tells { Tells
+            (counts_alone (K.seen self.old.sink).faults self.old.wants self.old.tellings)
+            (counts_alone (K.seen self.new.sink).faults self.new.wants self.new.tellings)
+            notice.now result }
+        ensures holds { OnOk result (Appends (K.seen self.old.sink).holds
+            (K.seen self.new.sink).holds (notice_text notice.now)) }
+        ensures cut { result ≡ Err DeskFault.Failed → (put : ℕ) × BreaksOff (K.seen self.old.sink)
+            (K.seen self.new.sink) (notice_text notice.now) put }
         ensures stands { result ≡ Err DeskFault.Memory → self.new.sink ≡ self.old.sink }
     {
         self.line.clear();

@@ -1,4 +1,5 @@
-ghost use Rattle.std.specs.Prelude.{◌≡◌, ◌∷◌, ◌++◌, ◌+◌, ◌*◌, ◌<◌, ◌≤◌, ◌^◌, [], length, map, IfOk, OnOk, OnErr, unsigned_abs};
+ghost use Rattle.std.specs.Prelude.{◌≡◌, ◌∷◌, ◌++◌, ◌+◌, ◌*◌, ◌<◌, ◌≤◌, ◌^◌, []};
+ghost use Rattle.std.specs.Prelude.{length, map, IfOk, OnOk, OnErr, unsigned_abs};
 ghost use Rattle.std.specs.Bool.{OnTrue, OnFalse};
 ghost use Rattle.collateral_ledger.specs.Holdings.{AreCalls, IsCallAmount};
 ghost use Rattle.collateral_ledger.specs.Booked.{total, settled};
@@ -10,8 +11,8 @@ use std::alloc::{AllocError, Global};
 use std::collections::BTreeMap;
 use std::marker::Model;
 
-/// The calls that are outstanding, each found by its number, how many were ever added, and what is booked for the
-/// outstanding ones together.
+/// The calls that are outstanding, each found by its number, how many were ever added, and what is
+/// booked for the outstanding ones together.
 #[derive(Drop)]
 pub struct Calls {
     outstanding: BTreeMap<u32, OpenCall>,
@@ -42,13 +43,18 @@ impl Calls {
         }
     }
 
-    /// Adds a call and answers its number: how many were ever added, with this one. For want of memory nothing changes.
+    /// Adds a call and answers its number: how many were ever added, with this one. For want of
+    /// memory nothing changes.
     pub fn add(&mut self, flow: Flow, amount: i64) -> Result<u32, AllocError>
         requires few { self.old.added < 4294967295 }
         requires amount { IsCallAmount amount }
         ensures number { IfOk result (λ number. number ≡ self.old.added + 1) }
         ensures ok { OnOk result (self.new ≡ record {
-          calls = self.old.calls ++ record { number = self.old.added + 1; flow = flow; amount = amount } ∷ [];
+          calls = self.old.calls ++ record {
+            number = self.old.added + 1;
+            flow = flow;
+            amount = amount;
+          } ∷ [];
           added = self.old.added + 1;
         }) }
         ensures err { OnErr result (self.new ≡ self.old) }
@@ -65,7 +71,8 @@ impl Calls {
     /// Takes out the call of this number, and tells whether it was outstanding. It takes no memory.
     pub fn close(&mut self, number: u32) -> bool
         ensures found { result ≡ has_call number self.old.calls }
-        ensures closed { OnTrue result (self.new ≡ record self.old { calls = without_call number self.old.calls }) }
+        ensures closed { OnTrue result
+            (self.new ≡ record self.old { calls = without_call number self.old.calls }) }
         ensures unchanged { OnFalse result (self.new ≡ self.old) }
     {
         // The numbers ascend, so they are different.

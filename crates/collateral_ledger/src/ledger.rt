@@ -1,8 +1,10 @@
-ghost use Rattle.std.specs.Prelude.{◌≡◌, ◌∷◌, ◌++◌, ◌+◌, ◌*◌, ◌<◌, ◌≤◌, ◌^◌, [], length, None, Some, IfOk, OnOk, OnErr, MatchResult, unsigned_abs};
+ghost use Rattle.std.specs.Prelude.{◌≡◌, ◌∷◌, ◌++◌, ◌+◌, ◌*◌, ◌<◌, ◌≤◌, ◌^◌, [], length};
+ghost use Rattle.std.specs.Prelude.{None, Some, IfOk, OnOk, OnErr, MatchResult, unsigned_abs};
 ghost use Rattle.collateral_ledger.specs.Holdings.{IsCallAmount, IsLedger};
 ghost use Rattle.collateral_ledger.specs.Booked.{booked_of, rate_of};
 ghost use Rattle.collateral_ledger.specs.Changes.{without_call, without_lot, with_value};
-ghost use Rattle.collateral_ledger.specs.Refusals.{IsCause, close_refusal, is_lot_value, mark_refusal, put_refusal, take_refusal};
+ghost use Rattle.collateral_ledger.specs.Refusals.{IsCause, close_refusal, is_lot_value};
+ghost use Rattle.collateral_ledger.specs.Refusals.{mark_refusal, put_refusal, take_refusal};
 
 use crate::LedgerFault;
 use crate::calls::Calls;
@@ -20,12 +22,14 @@ const MOST_LOTS: u32 = 4096;
 /// The greatest value of a lot, in cents.
 const GREATEST_VALUE: i64 = 1_000_000_000_000_000;
 
-/// The collateral ledger of a netting set: the lots that are held under its terms, in the order in which they were put, and
-/// the calls that are outstanding, in the order of their numbers. There are 0 to 4,096 lots of different names, each with a value of
-/// 0 to 10^15 cents and the rate of what counts of it, which was looked up when it was put. Contracts see the plain record.
+/// The collateral ledger of a netting set: the lots that are held under its terms, in the order in
+/// which they were put, and the calls that are outstanding, in the order of their numbers. There
+/// are 0 to 4,096 lots of different names, each with a value of 0 to 10^15 cents and the rate of
+/// what counts of it, which was looked up when it was put. Contracts see the plain record.
 ///
-/// To put, mark or take a lot costs O(log n) steps for n lots, and to add or close a call O(log n) for n calls. What is booked
-/// for them is kept, so that to ask for it costs the same however many there are.
+/// To put, mark or take a lot costs O(log n) steps for n lots, and to add or close a call O(log n)
+/// for n calls. What is booked for them is kept, so that to ask for it costs the same however many
+/// there are.
 #[derive(Drop)]
 pub struct Ledger {
     terms: SetTerms,
@@ -38,7 +42,8 @@ impl Model for Ledger {
 
     ghost Value = { Holdings };
 
-    ghost view = { λ l. record { terms = l.terms; lots = l.lots; calls = l.calls.calls; added = l.calls.added } };
+    ghost view = { λ l.
+        record { terms = l.terms; lots = l.lots; calls = l.calls.calls; added = l.calls.added } };
 }
 
 impl Ledger {
@@ -70,9 +75,10 @@ impl Ledger {
 
     /// Puts a lot of a class, with its value in cents, in the agreement's currency or another.
     ///
-    /// It is refused, in this order, as LotKnown where a lot of this name is there, ClassUnknown where the terms have no haircut
-    /// for the class, LotRange where the value is below 0 or above 10^15, and LotsFull where 4,096 lots are there. Memory comes
-    /// last, and also where 2^64 - 1 lots were ever put. After each of these the ledger is unchanged.
+    /// It is refused, in this order, as LotKnown where a lot of this name is there, ClassUnknown
+    /// where the terms have no haircut for the class, LotRange where the value is below 0 or above
+    /// 10^15, and LotsFull where 4,096 lots are there. Memory comes last, and also where 2^64 - 1
+    /// lots were ever put. After each of these the ledger is unchanged.
     pub fn put_lot(
         &mut self,
         alloc: Global,
@@ -84,7 +90,11 @@ impl Ledger {
         ensures answer { let refusal = put_refusal self.old lot.now class.now value in
             MatchResult result (λ _. refusal ≡ None) (IsCause refusal) }
         ensures ok { OnOk result (self.new ≡ record self.old {
-          lots = self.old.lots ++ record { name = lot.now; value = value; rate = rate_of self.old.terms class.now currency } ∷ [];
+          lots = self.old.lots ++ record {
+            name = lot.now;
+            value = value;
+            rate = rate_of self.old.terms class.now currency;
+          } ∷ [];
         }) }
         ensures err { OnErr result (self.new ≡ self.old) }
     {
@@ -93,12 +103,13 @@ impl Ledger {
         Ok(())
     }
 
-    /// Takes a lot out. It is refused as LotUnknown where no lot of this name is there, and then the ledger is unchanged. It takes
-    /// no memory.
+    /// Takes a lot out. It is refused as LotUnknown where no lot of this name is there, and then
+    /// the ledger is unchanged. It takes no memory.
     pub fn take_lot(&mut self, lot: &Name) -> Result<(), LedgerFault>
         ensures answer { let refusal = take_refusal self.old lot.now in
             MatchResult result (λ _. refusal ≡ None) (λ fault. refusal ≡ Some fault) }
-        ensures ok { OnOk result (self.new ≡ record self.old { lots = without_lot lot.now self.old.lots }) }
+        ensures ok { OnOk result
+            (self.new ≡ record self.old { lots = without_lot lot.now self.old.lots }) }
         ensures err { OnErr result (self.new ≡ self.old) }
     {
         if self.lots.remove(lot) {
@@ -108,12 +119,14 @@ impl Ledger {
         }
     }
 
-    /// Gives a lot another value, in cents. It is refused as LotUnknown where no lot of this name is there, and then as LotRange where
-    /// the value is below 0 or above 10^15. After these the ledger is unchanged. It takes no memory.
+    /// Gives a lot another value, in cents. It is refused as LotUnknown where no lot of this name
+    /// is there, and then as LotRange where the value is below 0 or above 10^15. After these the
+    /// ledger is unchanged. It takes no memory.
     pub fn mark_lot(&mut self, lot: &Name, value: i64) -> Result<(), LedgerFault>
         ensures answer { let refusal = mark_refusal self.old lot.now value in
             MatchResult result (λ _. refusal ≡ None) (λ fault. refusal ≡ Some fault) }
-        ensures ok { OnOk result (self.new ≡ record self.old { lots = with_value lot.now value self.old.lots }) }
+        ensures ok { OnOk result
+            (self.new ≡ record self.old { lots = with_value lot.now value self.old.lots }) }
         ensures err { OnErr result (self.new ≡ self.old) }
     {
         if !self.lots.has(lot) {
@@ -126,14 +139,18 @@ impl Ledger {
         Ok(())
     }
 
-    /// Adds a call of 1 to 10^18 cents, and answers its number: how many calls were ever added, with this one, which are
-    /// 4,294,967,295 at most. For want of memory nothing changes.
+    /// Adds a call of 1 to 10^18 cents, and answers its number: how many calls were ever added,
+    /// with this one, which are 4,294,967,295 at most. For want of memory nothing changes.
     pub fn add_call(&mut self, flow: Flow, amount: i64) -> Result<u32, AllocError>
         requires few { self.old.added < 4294967295 }
         requires amount { IsCallAmount amount }
         ensures number { IfOk result (λ number. number ≡ self.old.added + 1) }
         ensures ok { OnOk result (self.new ≡ record self.old {
-          calls = self.old.calls ++ record { number = self.old.added + 1; flow = flow; amount = amount } ∷ [];
+          calls = self.old.calls ++ record {
+            number = self.old.added + 1;
+            flow = flow;
+            amount = amount;
+          } ∷ [];
           added = self.old.added + 1;
         }) }
         ensures err { OnErr result (self.new ≡ self.old) }
@@ -141,12 +158,13 @@ impl Ledger {
         self.calls.add(flow, amount)
     }
 
-    /// Closes a call, as it was settled. It is refused as CallUnknown where no outstanding call has the number, and then the
-    /// ledger is unchanged. It takes no memory.
+    /// Closes a call, as it was settled. It is refused as CallUnknown where no outstanding call
+    /// has the number, and then the ledger is unchanged. It takes no memory.
     pub fn close_call(&mut self, number: u32) -> Result<(), LedgerFault>
         ensures answer { let refusal = close_refusal self.old number in
             MatchResult result (λ _. refusal ≡ None) (λ fault. refusal ≡ Some fault) }
-        ensures ok { OnOk result (self.new ≡ record self.old { calls = without_call number self.old.calls }) }
+        ensures ok { OnOk result
+            (self.new ≡ record self.old { calls = without_call number self.old.calls }) }
         ensures err { OnErr result (self.new ≡ self.old) }
     {
         if self.calls.close(number) {
@@ -156,9 +174,10 @@ impl Ledger {
         }
     }
 
-    /// What is booked, in cents: what the lots count for, with the outstanding deliveries, less the outstanding returns; so it may be
-    /// below 0. Its size is at most 4,096 times the greatest value of a lot, and 10^18 for each outstanding call, of which there are
-    /// no more than were ever added. It is kept, and not added up anew. It takes no memory.
+    /// What is booked, in cents: what the lots count for, with the outstanding deliveries, less
+    /// the outstanding returns; so it may be below 0. Its size is at most 4,096 times the greatest
+    /// value of a lot, and 10^18 for each outstanding call, of which there are no more than were
+    /// ever added. It is kept, and not added up anew. It takes no memory.
     pub fn booked(&self) -> i128
         ensures value { result ≡ booked_of self.now }
         ensures size { unsigned_abs result ≤ 4096 * 10 ^ 15 + 10 ^ 18 * length self.now.calls }

@@ -1,4 +1,5 @@
-//! The collateral ledger of a netting set: lots with their haircuts, calls that are outstanding, and what is booked.
+//! The collateral ledger of a netting set: lots with their haircuts, calls that are outstanding,
+//! and what is booked.
 //! (ISDA 2016 Credit Support Annex for Initial Margin.)
 #![tactic(auto)]
 

@@ -1,4 +1,5 @@
-ghost use Rattle.std.specs.Prelude.{◌≡◌, ◌∷◌, ◌++◌, ◌*◌, ◌<◌, ◌≤◌, ◌^◌, [], false, true, length, map, OnOk, OnErr, unsigned_abs};
+ghost use Rattle.std.specs.Prelude.{◌≡◌, ◌∷◌, ◌++◌, ◌*◌, ◌<◌, ◌≤◌, ◌^◌, []};
+ghost use Rattle.std.specs.Prelude.{false, true, length, map, OnOk, OnErr, unsigned_abs};
 ghost use Rattle.std.specs.Bool.{OnTrue, OnFalse};
 ghost use Rattle.collateral_ledger.specs.Holdings.{AreLots, IsLotValue};
 ghost use Rattle.collateral_ledger.specs.Booked.{total, counted};
@@ -11,8 +12,8 @@ use std::alloc::{AllocError, Global};
 use std::collections::BTreeMap;
 use std::marker::Model;
 
-/// The lots that are held, each found by its name, and what they count for together. Contracts see them in the order in
-/// which they were put.
+/// The lots that are held, each found by its name, and what they count for together. Contracts see
+/// them in the order in which they were put.
 #[derive(Drop)]
 pub struct Lots {
     by_name: BTreeMap<Name, RatedLot>,
@@ -59,14 +60,15 @@ impl Lots {
         self.by_name.contains_key(name)
     }
 
-    /// Adds a lot behind the others. For want of memory nothing changes, and the name is dropped; so it is where 2^64 - 1 lots
-    /// were added, and no place is left.
+    /// Adds a lot behind the others. For want of memory nothing changes, and the name is dropped;
+    /// so it is where 2^64 - 1 lots were added, and no place is left.
     pub fn push(&mut self, name: Name, value: i64, rate: Rate4) -> Result<(), AllocError>
         requires new { has_lot name self.old ≡ false }
         requires room { length self.old < 4096 }
         requires in_range { IsLotValue value }
         requires small { unsigned_abs rate.0 ≤ 10000 }
-        ensures ok { OnOk result (self.new ≡ self.old ++ record { name = name; value = value; rate = rate.0 } ∷ []) }
+        ensures ok { OnOk result
+            (self.new ≡ self.old ++ record { name = name; value = value; rate = rate.0 } ∷ []) }
         ensures err { OnErr result (self.new ≡ self.old) }
     {
         let place = self.next_place;
@@ -81,7 +83,8 @@ impl Lots {
         Ok(())
     }
 
-    /// Takes out the lot of this name, and tells whether it was there. The others keep their order. It takes no memory.
+    /// Takes out the lot of this name, and tells whether it was there. The others keep their
+    /// order. It takes no memory.
     pub fn remove(&mut self, name: &Name) -> bool
         ensures found { result ≡ has_lot name.now self.old }
         ensures taken { OnTrue result (self.new ≡ without_lot name.now self.old) }

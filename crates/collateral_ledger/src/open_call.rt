@@ -5,7 +5,8 @@ ghost use Rattle.collateral_ledger.specs.Booked.{settled_at};
 use csa_terms::Flow;
 use std::marker::Model;
 
-/// A call that is outstanding, without its number: which way it flows, and its amount, 1 to 10^18 cents.
+/// A call that is outstanding, without its number: which way it flows, and its amount, 1 to
+/// 10^18 cents.
 #[derive(Drop)]
 pub struct OpenCall {
     flow: Flow,

@@ -7,8 +7,8 @@ use crate::rates::WHOLE;
 use csa_terms::mh_units::{Rate4, div_down};
 use std::marker::Model;
 
-/// A lot of collateral without its name: its place in the order in which lots were put, its value in cents, and what
-/// counts of each dollar of it.
+/// A lot of collateral without its name: its place in the order in which lots were put, its value
+/// in cents, and what counts of each dollar of it.
 #[derive(Drop)]
 pub struct RatedLot {
     place: u64,
@@ -23,7 +23,8 @@ impl Model for RatedLot {
 
     ghost view = { λ l. record { place = l.place; value = l.value; rate = l.rate.0 } };
 
-    ghost invariant = { λ l. IsRated (record { place = l.place; value = l.value; rate = l.rate.0 }) };
+    ghost invariant = { λ l.
+        IsRated (record { place = l.place; value = l.value; rate = l.rate.0 }) };
 }
 
 impl RatedLot {
@@ -36,7 +37,8 @@ impl RatedLot {
         RatedLot { place, value, rate }
     }
 
-    /// Changes the value, and answers by how much more the lot counts for, below 0 where it counts for less.
+    /// Changes the value, and answers by how much more the lot counts for, below 0 where it counts
+    /// for less.
     pub fn set_value(&mut self, value: i64) -> i128
         requires { IsLotValue value }
         ensures lot { self.new ≡ record self.old { value = value } }

@@ -9,8 +9,8 @@ use csa_terms::{LotCurrency, SetTerms};
 /// A rate of 1.
 pub const WHOLE: Rate4 = Rate4(10_000);
 
-/// What counts of each dollar of a lot of this class, where the terms have a haircut for it: the whole, less the haircut, and less
-/// the FX haircut in another currency. It may be below 0.
+/// What counts of each dollar of a lot of this class, where the terms have a haircut for it: the
+/// whole, less the haircut, and less the FX haircut in another currency. It may be below 0.
 pub fn rate_for(terms: &SetTerms, class: &Name, currency: LotCurrency) -> Option<Rate4>
     ensures found { is_some result ≡ is_some (haircut_of terms.now class.now) }
     ensures value { IfSome result (λ rate. rate.0 ≡ rate_of terms.now class.now currency) }

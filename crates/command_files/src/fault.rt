@@ -107,7 +107,8 @@ pub enum Fault<'a> {
         /// Why it gave nothing.
         why: FileFault,
     },
-    /// What the files say together is refused, as a batch under the parameters is, with the line that tells why.
+    /// What the files say together is refused, as a batch under the parameters is, with the line
+    /// that tells why.
     Refused(Text),
     /// Memory ran out after the files were read.
     Memory,

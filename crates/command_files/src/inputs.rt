@@ -18,7 +18,8 @@ pub struct Inputs {
     pub terms: Terms,
 }
 
-/// Reads the parameter file of this name and then the terms file, and hands both back to the folder.
+/// Reads the parameter file of this name and then the terms file, and hands both back to
+/// the folder.
 ///
 /// # Errors
 ///
@@ -30,7 +31,8 @@ pub fn read_inputs<'a, F: Folder>(
     terms_name: &'a str,
 ) -> Result<Inputs, Fault<'a>>
     ensures counts { KeepsCounts (F.seen folder.old) (F.seen folder.new) }
-    ensures ends { InputsEnd params_name.now terms_name.now (F.seen folder.old) (F.seen folder.new) result }
+    ensures ends { InputsEnd params_name.now terms_name.now (F.seen folder.old)
+        (F.seen folder.new) result }
 {
     let params = match read_param_file(alloc, folder, params_name) {
         Ok(params) => params,

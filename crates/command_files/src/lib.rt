@@ -1,5 +1,5 @@
-//! The files of a command, each read whole by its grammar, and how a command ends at a fault before its work: one status and
-//! one printed line.
+//! The files of a command, each read whole by its grammar, and how a command ends at a fault
+//! before its work: one status and one printed line.
 //!
 //! Each command above has its own files and its own work; a fault of a file is the same in all.
 #![tactic(auto)]

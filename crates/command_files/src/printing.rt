@@ -19,7 +19,8 @@ pub fn end_at_fault<K: Sink>(out: &mut K, fault: &Fault) -> Status
     fault.status()
 }
 
-/// Prints a text: `Done`, or `Write` where the sink fails, which has a front of it then. It takes no memory.
+/// Prints a text: `Done`, or `Write` where the sink fails, which has a front of it then. It takes
+/// no memory.
 pub fn print_text<K: Sink>(out: &mut K, text: &[u8]) -> Status
     ensures count { (K.seen out.old).faults ≤ (K.seen out.new).faults }
     ensures printed { Prints text.now (K.seen out.old) (K.seen out.new) result }
@@ -52,7 +53,8 @@ fn print_front<K: Sink>(out: &mut K, bytes: &[u8])
 /// Prints one line whose last field is a file's name, or a front of it.
 fn print_named<K: Sink>(out: &mut K, fields: &[u8], name: &str)
     ensures count { (K.seen out.old).faults ≤ (K.seen out.new).faults }
-    ensures printed { GotLine (K.seen out.old) (K.seen out.new) (fields.now ++ last_field name.now) }
+    ensures printed { GotLine (K.seen out.old) (K.seen out.new)
+        (fields.now ++ last_field name.now) }
 {
     if put_all(out, fields).is_err() {
         return;

@@ -10,12 +10,14 @@ pub enum Status {
     Words,
     /// The parameter file is too long, or its grammar refuses it.
     Params,
-    /// A file that is neither the parameter file nor a feed is too long, or refused by its grammar, or what the files say
-    /// together is refused: a batch for a row's bucket or its range.
+    /// A file that is neither the parameter file nor a feed is too long, or refused by its
+    /// grammar, or what the files say together is refused: a batch for a row's bucket or
+    /// its range.
     Terms,
     /// A file isn't there or can't be opened.
     Find,
-    /// A feed ended inside a block, or a line of it or the whole is too long. Its whole messages were done.
+    /// A feed ended inside a block, or a line of it or the whole is too long. Its whole messages
+    /// were done.
     Feed,
     /// A file can't be read to its end.
     Read,

@@ -1,6 +1,7 @@
 //! Files read whole by their grammars.
 ghost use Rattle.command_files.specs.Files.{KeepsCounts, ValueEnds};
-ghost use Rattle.command_files.specs.Grammars.{GivesParams, RefusesParams, GivesTrades, RefusesTrades, GivesTerms, RefusesTerms};
+ghost use Rattle.command_files.specs.Grammars.{GivesParams, RefusesParams, GivesTrades};
+ghost use Rattle.command_files.specs.Grammars.{RefusesTrades, GivesTerms, RefusesTerms};
 
 use crate::fault::FileFault;
 use crate::file::read_file;
@@ -17,15 +18,16 @@ use std::alloc::Global;
 ///
 /// # Errors
 ///
-/// The file is missing, unread or too long, or its grammar refuses it, each only where it is so, the last with the line that
-/// tells the first fault; or memory ran out.
+/// The file is missing, unread or too long, or its grammar refuses it, each only where it is so,
+/// the last with the line that tells the first fault; or memory ran out.
 pub fn read_param_file<F: Folder>(
     alloc: Global,
     folder: &mut F,
     name: &str,
 ) -> Result<Params, FileFault>
     ensures counts { KeepsCounts (F.seen folder.old) (F.seen folder.new) }
-    ensures ends { ValueEnds GivesParams RefusesParams (F.seen folder.old) (F.seen folder.new) name.now result }
+    ensures ends { ValueEnds GivesParams RefusesParams (F.seen folder.old)
+        (F.seen folder.new) name.now result }
 {
     let bytes = read_file(alloc, folder, name)?;
     match read_params(alloc, bytes.as_slice()) {
@@ -34,8 +36,8 @@ pub fn read_param_file<F: Folder>(
     }
 }
 
-/// Reads the CRIF file of this name, and hands it back to the folder. Records that the grammar passes over are not told. The
-/// word names the file in the line of its fault.
+/// Reads the CRIF file of this name, and hands it back to the folder. Records that the grammar
+/// passes over are not told. The word names the file in the line of its fault.
 ///
 /// # Errors
 ///
@@ -47,7 +49,8 @@ pub fn read_crif_file<F: Folder>(
     name: &str,
 ) -> Result<Batch, FileFault>
     ensures counts { KeepsCounts (F.seen folder.old) (F.seen folder.new) }
-    ensures ends { ValueEnds GivesTrades (RefusesTrades word.now) (F.seen folder.old) (F.seen folder.new) name.now result }
+    ensures ends { ValueEnds GivesTrades (RefusesTrades word.now) (F.seen folder.old)
+        (F.seen folder.new) name.now result }
 {
     let bytes = read_file(alloc, folder, name)?;
     match read_batch(alloc, bytes.as_slice()) {
@@ -67,7 +70,8 @@ pub fn read_terms_file<F: Folder>(
     name: &str,
 ) -> Result<Terms, FileFault>
     ensures counts { KeepsCounts (F.seen folder.old) (F.seen folder.new) }
-    ensures ends { ValueEnds GivesTerms RefusesTerms (F.seen folder.old) (F.seen folder.new) name.now result }
+    ensures ends { ValueEnds GivesTerms RefusesTerms (F.seen folder.old)
+        (F.seen folder.new) name.now result }
 {
     let bytes = read_file(alloc, folder, name)?;
     match read_terms(alloc, bytes.as_slice()) {

@@ -1,7 +1,8 @@
 ghost use Rattle.std.specs.Prelude.{◌≡◌};
 ghost use Rattle.crif_reader.specs.Columns.{column_name};
 
-/// A column of a CRIF file that is read: ten that each file has, and the margin model, which it may lack.
+/// A column of a CRIF file that is read: ten that each file has, and the margin model, which it
+/// may lack.
 #[derive(Clone, Copy, PartialEq, Eq)]
 pub enum Column {
     /// `TradeID`.

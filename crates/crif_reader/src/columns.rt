@@ -6,8 +6,8 @@ ghost use Rattle.crif_records.specs.Reading.{newest};
 use crate::{Column, CrifFault};
 use crif_records::{Records, place_named};
 
-/// The places of the columns in a record, from 0; that of the margin model where the header has it. `count` is how many fields
-/// the header has.
+/// The places of the columns in a record, from 0; that of the margin model where the header has
+/// it. `count` is how many fields the header has.
 #[derive(Clone, Copy)]
 pub struct Columns {
     pub count: usize,
@@ -37,7 +37,8 @@ fn required(header: &Records, column: Column) -> Result<usize, CrifFault>
     place_of(header, column).ok_or(CrifFault::MissingColumn(column))
 }
 
-/// The places of the columns in a header, the newest record; the fault is the first required column that it lacks.
+/// The places of the columns in a header, the newest record; the fault is the first required
+/// column that it lacks.
 #[tactic(auto, unfolding(crate::specs::Columns::columns_of))]
 pub fn columns_of(header: &Records) -> Result<Columns, CrifFault>
     ensures { result ≡ columns_of (newest header.now) }

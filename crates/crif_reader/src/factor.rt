@@ -3,7 +3,10 @@ ghost use Rattle.std.specs.Prelude.{◌≡◌};
 ghost use Rattle.crif_reader.specs.declared.fault.RowFault.TheVariants as faults;
 ghost use Rattle.crif_reader.specs.Reads.{GivesRow};
 ghost use Rattle.crif_reader.specs.Fields.{texts};
-ghost use Rattle.crif_reader.specs.Factor.{factor_of, ir_curve_of, ir_vol_of, inflation_vol_of, credit_point_of, equity_of, equity_vol_of, commodity_of, commodity_vol_of, fx_vol_of, currency_of, full_name_of};
+ghost use Rattle.crif_reader.specs.Factor.{factor_of, ir_curve_of, ir_vol_of};
+ghost use Rattle.crif_reader.specs.Factor.{inflation_vol_of, credit_point_of, equity_of};
+ghost use Rattle.crif_reader.specs.Factor.{equity_vol_of, commodity_of, commodity_vol_of};
+ghost use Rattle.crif_reader.specs.Factor.{fx_vol_of, currency_of, full_name_of};
 
 use crate::RowFault;
 use crate::fields::Fields;

@@ -18,7 +18,8 @@ pub enum RowFault {
     Trade,
     /// The product class is unknown.
     ProductClass,
-    /// The qualifier is not what the risk type has: a currency, a pair of currencies, a name, a product class.
+    /// The qualifier is not what the risk type has: a currency, a pair of currencies, a name, a
+    /// product class.
     Qualifier,
     /// The bucket is not what the risk type has: a number from 1 to 64, or `Residual`.
     Bucket,
@@ -28,7 +29,8 @@ pub enum RowFault {
     Label2,
     /// The amount is no numeral that can be taken.
     Amount(NumeralFault),
-    /// A parameter of an add-on is out of its range: its value in ten-thousandths, or in cents for a fixed amount.
+    /// A parameter of an add-on is out of its range: its value in ten-thousandths, or in cents for
+    /// a fixed amount.
     ParamRange(i128),
     /// A second multiplier of a product class, or a second factor of a qualifier.
     DuplicateParam,
@@ -56,8 +58,8 @@ impl RowFault {
     }
 }
 
-/// Why the bytes of a CRIF file give no batch: the first fault in reading order. Records are counted from 1, and the header is
-/// the first.
+/// Why the bytes of a CRIF file give no batch: the first fault in reading order. Records are
+/// counted from 1, and the header is the first.
 #[derive(Clone, Copy, PartialEq, Eq)]
 pub enum CrifFault {
     /// There is no record at all.

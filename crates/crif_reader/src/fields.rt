@@ -6,7 +6,8 @@ ghost use Rattle.crif_records.specs.Reading.{newest, IsReading};
 use crate::columns::Columns;
 use crif_records::{Records, is_utf8, text_at};
 
-/// The fields in the columns that are read, without spaces at their ends. A field that is missing at the end is empty.
+/// The fields in the columns that are read, without spaces at their ends. A field that is missing
+/// at the end is empty.
 #[derive(Clone, Copy)]
 pub struct Fields<'a> {
     pub trade_id: &'a [u8],
@@ -32,7 +33,8 @@ fn text_if<'a>(records: &'a Records, place: Option<usize>) -> &'a [u8]
 }
 
 impl<'a> Fields<'a> {
-    /// Lends the fields of the newest record that stand in the columns, where each of them is UTF-8.
+    /// Lends the fields of the newest record that stand in the columns, where each of them
+    /// is UTF-8.
     pub fn read(columns: &Columns, records: &'a Records) -> Option<Fields<'a>>
         requires { IsReading records.now }
         ensures { option_map texts result ≡ if_text (texts_of columns.now (newest records.now)) }

@@ -1,8 +1,10 @@
 //! Rows gathered by trade.
-ghost use Rattle.std.specs.Prelude.{◌≡◌, ◌∷◌, [], ℕ, List, length, unwrap_or, Some, None, false, IfOk, OnOk, if◌then◌else◌};
+ghost use Rattle.std.specs.Prelude.{◌≡◌, ◌∷◌, [], ℕ, List, length, unwrap_or};
+ghost use Rattle.std.specs.Prelude.{Some, None, false, IfOk, OnOk, if◌then◌else◌};
 ghost use Rattle.crif_records.specs.SimmKinds.NameText.{IsName};
 ghost use Rattle.crif_records.specs.SimmKinds.Order.{same_name};
-ghost use Rattle.crif_reader.specs.Growth.{with_entry, noted_at, grown, is_newest, IsApart, IsIndex};
+ghost use Rattle.crif_reader.specs.Growth.{with_entry, noted_at, grown, is_newest};
+ghost use Rattle.crif_reader.specs.Growth.{IsApart, IsIndex};
 
 use crate::row::Entry;
 use crif_records::simm_kinds::{CrifRow, Listed, Name, TradeRows};
@@ -10,11 +12,12 @@ use indexmap::IndexMap;
 use std::alloc::{AllocError, Global};
 use std::mem;
 
-/// A trade's rows are moved to a list of their size where they are at most so many; a longer list is kept as it is.
+/// A trade's rows are moved to a list of their size where they are at most so many; a longer list
+/// is kept as it is.
 const FEW: usize = 1000;
 
-/// The rows so far, by trade. The rows of a trade mostly stand together: those of the newest trade wait in a list with room for
-/// more, and only the name of another trade is looked up.
+/// The rows so far, by trade. The rows of a trade mostly stand together: those of the newest trade
+/// wait in a list with room for more, and only the name of another trade is looked up.
 #[derive(Drop)]
 pub struct Gathering {
     trades: Vec<TradeRows>,
@@ -31,8 +34,10 @@ fn place_or_end(
     count: usize,
 ) -> Result<usize, AllocError>
     requires { IsName trade.now }
-    ensures place { IfOk result (λ place. place ≡ unwrap_or (noted_at places.old.entries trade.now) count) }
-    ensures noted { IfOk result (λ place. (name : List ℕ) → noted_at places.new.entries name ≡ (if same_name trade.now name then Some place else noted_at places.old.entries name)) }
+    ensures place { IfOk result (λ place.
+        place ≡ unwrap_or (noted_at places.old.entries trade.now) count) }
+    ensures noted { IfOk result (λ place. (name : List ℕ) → noted_at places.new.entries name
+        ≡ (if same_name trade.now name then Some place else noted_at places.old.entries name)) }
 {
     let name = Name::of_bytes(alloc, trade)?;
     Ok(*places.entry(name)?.or_insert(count))
@@ -82,11 +87,13 @@ impl Gathering {
         self.trades.len() + usize::from(self.newest.is_some())
     }
 
-    /// Adds a row at the end of its trade, or with a new trade behind the others. The only error is want of memory.
+    /// Adds a row at the end of its trade, or with a new trade behind the others. The only error
+    /// is want of memory.
     pub fn add(&mut self, alloc: Global, added: Entry) -> Result<(), AllocError>
         requires index { IsIndex self.old }
         requires name { IsName added.trade.now }
-        ensures trades { OnOk result (grown self.new ≡ with_entry (grown self.old) (record { trade = added.entry.trade.now; row = added.entry.row })) }
+        ensures trades { OnOk result (grown self.new ≡ with_entry (grown self.old)
+            (record { trade = added.entry.trade.now; row = added.entry.row })) }
         ensures index { OnOk result (IsIndex self.new) }
     {
         let Entry { trade, row } = added;
@@ -102,7 +109,8 @@ impl Gathering {
         requires index { IsIndex self.old }
         requires name { IsName trade.now }
         requires other { is_newest self.old.newest trade.now ≡ false }
-        ensures trades { OnOk result (grown self.new ≡ with_entry (grown self.old) (record { trade = trade.now; row = row })) }
+        ensures trades { OnOk result (grown self.new
+            ≡ with_entry (grown self.old) (record { trade = trade.now; row = row })) }
         ensures index { OnOk result (IsIndex self.new) }
     {
         let count = self.count();

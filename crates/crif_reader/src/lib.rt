@@ -1,4 +1,5 @@
-//! Reads CRIF files: tables of sensitivities, a record each, in comma- or tab-separated text with a header.
+//! Reads CRIF files: tables of sensitivities, a record each, in comma- or tab-separated text with
+//! a header.
 #![tactic(auto)]
 
 mod column;

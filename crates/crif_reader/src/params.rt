@@ -1,5 +1,6 @@
 //! The parameters of add-ons that stood before.
-ghost use Rattle.std.specs.Prelude.{◌≡◌, ◌++◌, ◌∷◌, [], ℕ, List, not, true, IfOk, IsTrue, if◌then◌else◌};
+ghost use Rattle.std.specs.Prelude.{◌≡◌, ◌++◌, ◌∷◌, [], ℕ, List};
+ghost use Rattle.std.specs.Prelude.{not, true, IfOk, IsTrue, if◌then◌else◌};
 ghost use Rattle.std.specs.BTreeSet.{contains};
 ghost use Rattle.crif_records.specs.SimmKinds.Order.{name_cmp, same_name};
 ghost use Rattle.crif_records.specs.SimmKinds.declared.row.CrifRow.{CrifRow};
@@ -43,7 +44,8 @@ fn with_multiplier(multipliers: Multipliers, product: ProductClass) -> Multiplie
     multipliers
 }
 
-/// The parameters so far of which there is one at most: factors by their qualifier, multipliers by their product class.
+/// The parameters so far of which there is one at most: factors by their qualifier, multipliers by
+/// their product class.
 #[derive(Drop)]
 pub struct Params {
     factors: BTreeSet<Name>,
@@ -68,8 +70,10 @@ impl Params {
 
     /// Notes a row, and answers whether it repeats no parameter that stood before.
     pub fn note(&mut self, alloc: Global, added: &CrifRow) -> Result<bool, AllocError>
-        ensures once { (before : List CrifRow) → IsNoted self.old before → IfOk result (λ once. once ≡ not (is_repeated before added.now)) }
-        ensures noted { (before : List CrifRow) → IsNoted self.old before → IfOk result (λ once. IsTrue once → IsNoted self.new (before ++ added.now ∷ [])) }
+        ensures once { (before : List CrifRow) → IsNoted self.old before
+            → IfOk result (λ once. once ≡ not (is_repeated before added.now)) }
+        ensures noted { (before : List CrifRow) → IsNoted self.old before
+            → IfOk result (λ once. IsTrue once → IsNoted self.new (before ++ added.now ∷ [])) }
     {
         match added {
             CrifRow::Sensitivity { .. } | CrifRow::Notional { .. } | CrifRow::FixedAmount(_) => Ok(
@@ -82,8 +86,11 @@ impl Params {
 
     fn note_factor(&mut self, alloc: Global, qualifier: &Name) -> Result<bool, AllocError>
         ensures multipliers { self.new.multipliers ≡ self.old.multipliers }
-        ensures once { IfOk result (λ once. once ≡ not (contains name_cmp self.old.factors qualifier.now)) }
-        ensures noted { IfOk result (λ once. (name : List ℕ) → contains name_cmp self.new.factors name ≡ (if same_name qualifier.now name then true else contains name_cmp self.old.factors name)) }
+        ensures once { IfOk result (λ once.
+            once ≡ not (contains name_cmp self.old.factors qualifier.now)) }
+        ensures noted { IfOk result (λ once. (name : List ℕ)
+            → contains name_cmp self.new.factors name ≡ (if same_name qualifier.now name then true
+            else contains name_cmp self.old.factors name)) }
     {
         let name = qualifier.copy(alloc)?;
         Ok(self.factors.insert(name)?)

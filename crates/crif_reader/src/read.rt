@@ -19,10 +19,12 @@ use crif_records::Records;
 use crif_records::simm_kinds::{Batch, Listed, TradeRows};
 use std::alloc::Global;
 
-/// The number of the first record that is one too many: the header is the first, and 100,000 may follow it.
+/// The number of the first record that is one too many: the header is the first, and 100,000 may
+/// follow it.
 const TOO_MANY: u32 = 100_002;
 
-/// What a CRIF file has: its rows, and how many records were passed over, being present values or of the schedule.
+/// What a CRIF file has: its rows, and how many records were passed over, being present values or
+/// of the schedule.
 #[derive(Drop)]
 pub struct ReadBatch {
     /// The rows, by trade.
@@ -46,7 +48,8 @@ fn read_row<'a>(
     records: &'a Records,
 ) -> Result<Option<Entry<'a>>, CrifFault>
     requires { IsReading records.now }
-    ensures { Gives (λ o. option_map (λ e. record { trade = e.trade.now; row = e.row }) o) result (at_record number (row_of columns.now (newest records.now))) }
+    ensures { Gives (λ o. option_map (λ e. record { trade = e.trade.now; row = e.row }) o) result
+        (at_record number (row_of columns.now (newest records.now))) }
 {
     match row_of(alloc, columns, records) {
         Ok(row) => Ok(row),
@@ -66,9 +69,13 @@ fn take_row(
     requires index { IsIndex gathering.old }
     requires name { IsName added.trade.now }
     ensures given { (before : List Placed) → IsNoted params.old (rows_in before)
-        → Gives (λ _. Some (record { trade = added.entry.trade.now; row = added.entry.row })) result (at_record number (once before (Some (record { trade = added.entry.trade.now; row = added.entry.row })))) }
-    ensures noted { (before : List CrifRow) → IsNoted params.old before → OnOk result (IsNoted params.new (before ++ added.entry.row ∷ [])) }
-    ensures trades { OnOk result (grown gathering.new ≡ with_entry (grown gathering.old) (record { trade = added.entry.trade.now; row = added.entry.row })) }
+        → Gives (λ _. Some (record { trade = added.entry.trade.now; row = added.entry.row }))
+        result (at_record number
+        (once before (Some (record { trade = added.entry.trade.now; row = added.entry.row })))) }
+    ensures noted { (before : List CrifRow) → IsNoted params.old before
+        → OnOk result (IsNoted params.new (before ++ added.entry.row ∷ [])) }
+    ensures trades { OnOk result (grown gathering.new ≡ with_entry (grown gathering.old)
+        (record { trade = added.entry.trade.now; row = added.entry.row })) }
     ensures index { OnOk result (IsIndex gathering.new) }
 {
     if !params.note(alloc, &added.row)? {
@@ -82,7 +89,8 @@ fn take_row(
 /// Reads the records behind the header, and gathers their rows by trade.
 fn read_rows(alloc: Global, records: &mut Records, columns: &Columns) -> Result<Gathered, CrifFault>
     requires { IsReading records.old }
-    ensures { Gives (λ g. record { trades = g.trades.items; passed_over = g.passed_over }) result (rows_of columns.now (records_left records.old)) }
+    ensures { Gives (λ g. record { trades = g.trades.items; passed_over = g.passed_over }) result
+        (rows_of columns.now (records_left records.old)) }
 {
     let mut gathering = Gathering::new(alloc);
     let mut params = Params::new(alloc);
@@ -112,16 +120,19 @@ fn read_rows(alloc: Global, records: &mut Records, columns: &Columns) -> Result<
     })
 }
 
-/// Reads a CRIF file: a header and 1 to 100,000 records, in comma- or tab-separated text with or without quotes, as csv reads
-/// them. The first line decides which of the two parts the fields. Columns stand in any order and are named in any case; those
-/// that are not read are passed over, and so are present values and records of the schedule. Each other record is a row of the
-/// trade that it names, and rows of one trade stand together, under the place of its first row. Amounts are in USD cents, rates in
-/// ten-thousandths. Parameters of add-ons belong to no trade: they stand in that without a name, at most one factor of a qualifier
-/// and one multiplier of a product class.
+/// Reads a CRIF file: a header and 1 to 100,000 records, in comma- or tab-separated text with or
+/// without quotes, as csv reads them. The first line decides which of the two parts the fields.
+/// Columns stand in any order and are named in any case; those that are not read are passed over,
+/// and so are present values and records of the schedule. Each other record is a row of the trade
+/// that it names, and rows of one trade stand together, under the place of its first row. Amounts
+/// are in USD cents, rates in ten-thousandths. Parameters of add-ons belong to no trade: they
+/// stand in that without a name, at most one factor of a qualifier and one multiplier of a
+/// product class.
 ///
 /// The fault is the first in reading order; `Memory` may come at any text.
 pub fn read_batch(alloc: Global, bytes: &[u8]) -> Result<ReadBatch, CrifFault>
-    ensures { Gives (λ r. record { trades = r.batch; passed_over = r.passed_over }) result (crif_of bytes.now) }
+    ensures { Gives (λ r. record { trades = r.batch; passed_over = r.passed_over }) result
+        (crif_of bytes.now) }
 {
     let mut records = Records::open(alloc, bytes)?;
     if !records.next_record()? {

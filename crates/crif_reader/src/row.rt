@@ -3,7 +3,10 @@ ghost use Rattle.std.specs.Prelude.{◌≡◌, IfOk, option_map};
 ghost use Rattle.crif_reader.specs.Reads.{GivesRow};
 ghost use Rattle.crif_reader.specs.Fields.{texts};
 ghost use Rattle.crif_records.specs.Reading.{newest, IsReading};
-ghost use Rattle.crif_reader.specs.Row.{trade_of, product_of, amount_text, amount_of, rate_of, sensitivity_of, notional_of, fixed_amount_of, notional_factor_of, multiplier_of, entry_of, is_present_value, typed_of, model_of, row_of};
+ghost use Rattle.crif_reader.specs.Row.{trade_of, product_of, amount_text, amount_of};
+ghost use Rattle.crif_reader.specs.Row.{rate_of, sensitivity_of, notional_of, fixed_amount_of};
+ghost use Rattle.crif_reader.specs.Row.{notional_factor_of, multiplier_of, entry_of};
+ghost use Rattle.crif_reader.specs.Row.{is_present_value, typed_of, model_of, row_of};
 
 use crate::RowFault;
 use crate::columns::Columns;
@@ -16,7 +19,8 @@ use crif_records::simm_kinds::{CrifRow, FactorKey, Name, ProductClass, RiskType}
 use crif_records::{Records, is_word, usd_text};
 use std::alloc::Global;
 
-/// A row, and the name of the trade that it belongs to, which the record lends; it is empty for a parameter of an add-on.
+/// A row, and the name of the trade that it belongs to, which the record lends; it is empty for a
+/// parameter of an add-on.
 #[derive(Drop)]
 pub struct Entry<'a> {
     /// The name of the trade.
@@ -67,7 +71,8 @@ fn sensitivity_of<'a>(
     kind: RiskType,
     fields: &Fields<'a>,
 ) -> Result<Entry<'a>, RowStop>
-    ensures { GivesRow (λ e. record { trade = e.trade.now; row = e.row }) result (sensitivity_of kind (texts fields.now)) }
+    ensures { GivesRow (λ e. record { trade = e.trade.now; row = e.row }) result
+        (sensitivity_of kind (texts fields.now)) }
 {
     let trade = trade_of(fields)?;
     let product = product_of(fields)?;
@@ -82,7 +87,8 @@ fn sensitivity_of<'a>(
 
 #[tactic(auto, unfolding(crate::specs::Row::notional_of))]
 fn notional_of<'a>(alloc: Global, fields: &Fields<'a>) -> Result<Entry<'a>, RowStop>
-    ensures { GivesRow (λ e. record { trade = e.trade.now; row = e.row }) result (notional_of (texts fields.now)) }
+    ensures { GivesRow (λ e. record { trade = e.trade.now; row = e.row }) result
+        (notional_of (texts fields.now)) }
 {
     let trade = trade_of(fields)?;
     let qualifier = read_name(alloc, RowFault::Qualifier, fields.qualifier)?;
@@ -95,7 +101,8 @@ fn notional_of<'a>(alloc: Global, fields: &Fields<'a>) -> Result<Entry<'a>, RowS
 
 #[tactic(auto, unfolding(crate::specs::Row::fixed_amount_of))]
 fn fixed_amount_of<'a>(fields: &Fields<'a>) -> Result<Entry<'a>, RowStop>
-    ensures { GivesRow (λ e. record { trade = e.trade.now; row = e.row }) result (fixed_amount_of (texts fields.now)) }
+    ensures { GivesRow (λ e. record { trade = e.trade.now; row = e.row }) result
+        (fixed_amount_of (texts fields.now)) }
 {
     let amount = amount_of(fields)?;
     if amount.0 < 0 {
@@ -109,7 +116,8 @@ fn fixed_amount_of<'a>(fields: &Fields<'a>) -> Result<Entry<'a>, RowStop>
 
 #[tactic(auto, unfolding(crate::specs::Row::notional_factor_of))]
 fn notional_factor_of<'a>(alloc: Global, fields: &Fields<'a>) -> Result<Entry<'a>, RowStop>
-    ensures { GivesRow (λ e. record { trade = e.trade.now; row = e.row }) result (notional_factor_of (texts fields.now)) }
+    ensures { GivesRow (λ e. record { trade = e.trade.now; row = e.row }) result
+        (notional_factor_of (texts fields.now)) }
 {
     let qualifier = read_full_name(alloc, RowFault::Qualifier, fields.qualifier)?;
     let factor = rate_of(fields)?;
@@ -124,7 +132,8 @@ fn notional_factor_of<'a>(alloc: Global, fields: &Fields<'a>) -> Result<Entry<'a
 
 #[tactic(auto, unfolding(crate::specs::Row::multiplier_of))]
 fn multiplier_of<'a>(fields: &Fields<'a>) -> Result<Entry<'a>, RowStop>
-    ensures { GivesRow (λ e. record { trade = e.trade.now; row = e.row }) result (multiplier_of (texts fields.now)) }
+    ensures { GivesRow (λ e. record { trade = e.trade.now; row = e.row }) result
+        (multiplier_of (texts fields.now)) }
 {
     let product = ProductClass::read(fields.qualifier).ok_or(RowFault::Qualifier)?;
     let factor = rate_of(fields)?;
@@ -139,7 +148,8 @@ fn multiplier_of<'a>(fields: &Fields<'a>) -> Result<Entry<'a>, RowStop>
 
 /// The row of a record of this risk type.
 fn entry_of<'a>(alloc: Global, kind: RiskType, fields: &Fields<'a>) -> Result<Entry<'a>, RowStop>
-    ensures { GivesRow (λ e. record { trade = e.trade.now; row = e.row }) result (entry_of kind (texts fields.now)) }
+    ensures { GivesRow (λ e. record { trade = e.trade.now; row = e.row }) result
+        (entry_of kind (texts fields.now)) }
 {
     match kind {
         RiskType::IrCurve
@@ -175,7 +185,8 @@ fn is_present_value(kind: RiskType) -> bool
 /// The row of a record of the model, or `None` where it is passed over.
 #[tactic(auto, unfolding(crate::specs::Row::typed_of))]
 fn typed_of<'a>(alloc: Global, fields: &Fields<'a>) -> Result<Option<Entry<'a>>, RowStop>
-    ensures { GivesRow (λ o. option_map (λ e. record { trade = e.trade.now; row = e.row }) o) result (typed_of (texts fields.now)) }
+    ensures { GivesRow (λ o. option_map (λ e. record { trade = e.trade.now; row = e.row }) o)
+        result (typed_of (texts fields.now)) }
 {
     let kind = RiskType::read(fields.risk_type).ok_or(RowFault::RiskType)?;
     if is_present_value(kind) {
@@ -188,7 +199,8 @@ fn typed_of<'a>(alloc: Global, fields: &Fields<'a>) -> Result<Option<Entry<'a>>,
 }
 
 fn model_of<'a>(alloc: Global, fields: &Fields<'a>) -> Result<Option<Entry<'a>>, RowStop>
-    ensures { GivesRow (λ o. option_map (λ e. record { trade = e.trade.now; row = e.row }) o) result (model_of (texts fields.now)) }
+    ensures { GivesRow (λ o. option_map (λ e. record { trade = e.trade.now; row = e.row }) o)
+        result (model_of (texts fields.now)) }
 {
     if is_word("Schedule", fields.im_model) {
         return Ok(None);
@@ -196,14 +208,16 @@ fn model_of<'a>(alloc: Global, fields: &Fields<'a>) -> Result<Option<Entry<'a>>,
     typed_of(alloc, fields)
 }
 
-/// The row of the newest record, or `None` where the record is passed over: a present value, or a record of the schedule.
+/// The row of the newest record, or `None` where the record is passed over: a present value, or a
+/// record of the schedule.
 pub fn row_of<'a>(
     alloc: Global,
     columns: &Columns,
     records: &'a Records,
 ) -> Result<Option<Entry<'a>>, RowStop>
     requires { IsReading records.now }
-    ensures { GivesRow (λ o. option_map (λ e. record { trade = e.trade.now; row = e.row }) o) result (row_of columns.now (newest records.now)) }
+    ensures { GivesRow (λ o. option_map (λ e. record { trade = e.trade.now; row = e.row }) o)
+        result (row_of columns.now (newest records.now)) }
 {
     if records.field_count() > columns.count {
         return Err(RowStop::Fault(RowFault::FieldCount));

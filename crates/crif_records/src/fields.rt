@@ -22,7 +22,8 @@ fn trim_spaces(field: &[u8]) -> &[u8]
     rest
 }
 
-/// The field of the newest record at this place, without spaces at its ends. A field that is missing at the end is empty.
+/// The field of the newest record at this place, without spaces at its ends. A field that is
+/// missing at the end is empty.
 pub fn text_at<'a>(records: &'a Records, place: usize) -> &'a [u8]
     ensures { result.now ≡ text_at (newest records.now) place }
 {
@@ -43,7 +44,8 @@ pub fn is_word(word: &str, field: &[u8]) -> bool
     field.eq_ignore_ascii_case(word.as_bytes())
 }
 
-/// The amount in USD, as a record has it: that in USD, or, where it is empty and the amount's currency is USD, the amount.
+/// The amount in USD, as a record has it: that in USD, or, where it is empty and the amount's
+/// currency is USD, the amount.
 pub fn usd_text<'a>(amount_usd: &'a [u8], amount_currency: &[u8], amount: &'a [u8]) -> &'a [u8]
     ensures { result.now ≡ usd_text amount_usd.now amount_currency.now amount.now }
 {

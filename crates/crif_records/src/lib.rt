@@ -1,5 +1,5 @@
-//! The records of CRIF files, under each grammar that reads them: comma- or tab-separated text with a header, the columns by
-//! their names, and the fields that are read.
+//! The records of CRIF files, under each grammar that reads them: comma- or tab-separated text
+//! with a header, the columns by their names, and the fields that are read.
 #![tactic(auto)]
 
 mod columns;

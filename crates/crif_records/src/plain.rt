@@ -1,10 +1,13 @@
 //! The records of bytes without quotes, cut in place.
-ghost use Rattle.std.specs.Prelude.{◌≡◌, ◌∷◌, ◌<◌, [], false, length, option_map, if◌then◌else◌, IfOk, OnOk, IsTrue};
+ghost use Rattle.std.specs.Prelude.{◌≡◌, ◌∷◌, ◌<◌, [], false, length, option_map};
+ghost use Rattle.std.specs.Prelude.{if◌then◌else◌, IfOk, OnOk, IsTrue};
 ghost use Rattle.std.specs.Str.{IsAscii};
 ghost use Rattle.std.specs.List.{position_or_len, AllByRecursion};
 ghost use Rattle.csv.specs.Reading.{records};
 ghost use Rattle.csv.specs.Records.{field_at};
-ghost use Rattle.crif_records.specs.Plain.{has_quote, is_line_end, ends_field, without_leading_line_ends, plain_left, plain_fields, IsPlain, TakesField};
+ghost use Rattle.crif_records.specs.Plain.{has_quote, is_line_end, ends_field};
+ghost use Rattle.crif_records.specs.Plain.{without_leading_line_ends, plain_left, plain_fields};
+ghost use Rattle.crif_records.specs.Plain.{IsPlain, TakesField};
 ghost use Rattle.crif_records.specs.Records.{csv_by};
 
 use memchr::memchr;
@@ -13,7 +16,8 @@ use std::alloc::{AllocError, Global};
 /// The room for fields that is taken at first: a header and rows mostly fit into it.
 const FIELDS: usize = 16;
 
-/// The bytes that are left, the byte between fields, and the fields of the newest record, which the bytes lend.
+/// The bytes that are left, the byte between fields, and the fields of the newest record, which
+/// the bytes lend.
 #[derive(Drop)]
 pub struct PlainRecords<'a> {
     rest: &'a [u8],
@@ -60,11 +64,13 @@ fn without_leading_line_ends(bytes: &[u8]) -> &[u8]
 }
 
 impl<'a> PlainRecords<'a> {
-    /// The records of bytes with this byte between fields, before the first. The only error is want of memory.
+    /// The records of bytes with this byte between fields, before the first. The only error is
+    /// want of memory.
     pub fn new(alloc: Global, bytes: &'a [u8], delimiter: u8) -> Result<Self, AllocError>
         requires { has_quote bytes.now ≡ false }
         ensures plain { IfOk result (λ plain. IsPlain plain) }
-        ensures records { IfOk result (λ plain. plain_left plain ≡ records (csv_by delimiter) bytes.now) }
+        ensures records { IfOk result (λ plain.
+            plain_left plain ≡ records (csv_by delimiter) bytes.now) }
     {
         Ok(PlainRecords {
             rest: bytes,
@@ -80,7 +86,8 @@ impl<'a> PlainRecords<'a> {
         ensures field { IfOk result (λ more. TakesField more self.old self.new) }
         ensures plain { OnOk result (IsPlain self.new) }
         ensures delimiter { OnOk result (self.new.delimiter ≡ self.old.delimiter) }
-        ensures shorter { IfOk result (λ more. IsTrue more → length self.new.rest.now < length self.old.rest.now) }
+        ensures shorter { IfOk result (λ more.
+            IsTrue more → length self.new.rest.now < length self.old.rest.now) }
     {
         let (field, after) = self.rest.split_at(field_len(self.rest, self.delimiter));
         self.fields.push(field)?;
@@ -95,7 +102,8 @@ impl<'a> PlainRecords<'a> {
     /// Reads the next record, and answers whether there was one. The only error is want of memory.
     pub fn next_record(&mut self) -> Result<bool, AllocError>
         requires { IsPlain self.old }
-        ensures record { IfOk result (λ found. plain_left self.old ≡ (if found then plain_fields self.new ∷ plain_left self.new else [])) }
+        ensures record { IfOk result (λ found. plain_left self.old
+            ≡ (if found then plain_fields self.new ∷ plain_left self.new else [])) }
         ensures plain { OnOk result (IsPlain self.new) }
     {
         self.fields.clear();

@@ -1,10 +1,12 @@
 //! The records of a file: cut in place where it has no quotes, else by csv.
-ghost use Rattle.std.specs.Prelude.{◌≡◌, ◌∷◌, [], true, length, option_map, if◌then◌else◌, IfOk, IsTrue};
+ghost use Rattle.std.specs.Prelude.{◌≡◌, ◌∷◌, [], true, length, option_map};
+ghost use Rattle.std.specs.Prelude.{if◌then◌else◌, IfOk, IsTrue};
 ghost use Rattle.std.specs.List.{AllByRecursion};
 ghost use Rattle.std.specs.Str.{IsAscii};
 ghost use Rattle.csv.specs.Reading.{error_kind, stops_reader, strip_bom};
 ghost use Rattle.csv.specs.Records.{field_at, fields_of};
-ghost use Rattle.crif_records.specs.Records.{has_tab, delimiter_of, records_of, reader_left, IsBetweenRecords};
+ghost use Rattle.crif_records.specs.Records.{has_tab, delimiter_of, records_of, reader_left};
+ghost use Rattle.crif_records.specs.Records.{IsBetweenRecords};
 ghost use Rattle.crif_records.specs.Reading.{newest, records_left, IsReading};
 
 use crate::plain::{PlainRecords, has_quote};
@@ -14,13 +16,15 @@ use std::alloc::{AllocError, Global};
 /// The byte order mark in UTF-8.
 const BYTE_ORDER_MARK: [u8; 3] = [0xEF, 0xBB, 0xBF];
 
-/// The room that a record's bytes and fields are given at first: a header and rows mostly fit into it.
+/// The room that a record's bytes and fields are given at first: a header and rows mostly fit
+/// into it.
 const RECORD_BYTES: usize = 256;
 
 const RECORD_FIELDS: usize = 16;
 
-/// The records that are left, and the newest of those that were read. csv's reader is large and dear to make, so that bytes
-/// without quotes are read without it, and their fields are not copied.
+/// The records that are left, and the newest of those that were read. csv's reader is large
+/// and dear to make, so that bytes without quotes are read without it, and their fields are
+/// not copied.
 #[derive(Drop)]
 pub enum Records<'a> {
     /// Bytes with quotes, as csv reads them.
@@ -64,7 +68,8 @@ fn strip_bom(bytes: &[u8]) -> &[u8]
     bytes.strip_prefix(&BYTE_ORDER_MARK).unwrap_or(bytes)
 }
 
-/// csv's reader at the first record. Records may have different lengths, and the first is one like the others.
+/// csv's reader at the first record. Records may have different lengths, and the first is one like
+/// the others.
 #[tactic(auto, unfolding(crate::specs::Records::records_of, crate::specs::Records::reader_left))]
 fn open_reader(alloc: Global, bytes: &[u8]) -> Reader<&[u8]>
     ensures reading { IsBetweenRecords result }
@@ -85,10 +90,12 @@ fn stopped(_error: Error) -> AllocError
 }
 
 impl QuotedRecords<'_> {
-    /// Reads csv's next record, and answers whether there was one. The only error is want of memory.
+    /// Reads csv's next record, and answers whether there was one. The only error is want
+    /// of memory.
     fn next_record(&mut self) -> Result<bool, AllocError>
         requires { IsBetweenRecords self.old.reader }
-        ensures record { IfOk result (λ found. reader_left self.old.reader ≡ (if found then fields_of self.new.newest ∷ reader_left self.new.reader else [])) }
+        ensures record { IfOk result (λ found. reader_left self.old.reader
+            ≡ (if found then fields_of self.new.newest ∷ reader_left self.new.reader else [])) }
         ensures reading { IfOk result (λ found. IsTrue found → IsBetweenRecords self.new.reader) }
     {
         match self.reader.read_byte_record(&mut self.newest) {
@@ -112,7 +119,8 @@ impl<'a> Records<'a> {
         Ok(Records::Plain(PlainRecords::new(alloc, rest, delimiter_of(bytes))?))
     }
 
-    /// The records that csv reads. It stands apart, so that the reader's size is paid for only where it is needed.
+    /// The records that csv reads. It stands apart, so that the reader's size is paid for only
+    /// where it is needed.
     #[inline(never)]
     fn open_quoted(alloc: Global, bytes: &'a [u8]) -> Result<Records<'a>, AllocError>
         ensures reading { IfOk result (λ records. IsReading records) }
@@ -126,7 +134,8 @@ impl<'a> Records<'a> {
     /// Reads the next record, and answers whether there was one. The only error is want of memory.
     pub fn next_record(&mut self) -> Result<bool, AllocError>
         requires { IsReading self.old }
-        ensures record { IfOk result (λ found. records_left self.old ≡ (if found then newest self.new ∷ records_left self.new else [])) }
+        ensures record { IfOk result (λ found. records_left self.old
+            ≡ (if found then newest self.new ∷ records_left self.new else [])) }
         ensures reading { IfOk result (λ found. IsTrue found → IsReading self.new) }
     {
         match self {

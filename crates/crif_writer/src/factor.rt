@@ -1,13 +1,16 @@
 //! The fields of a risk factor.
 ghost use Rattle.std.specs.Prelude.{◌≡◌, ◌++◌, ◌∷◌, [], OnOk};
 ghost use Rattle.crif_reader.specs.SimmKinds.Bucket.{bucket_text};
-ghost use Rattle.crif_writer.specs.Parts.{qualifier_text, bucket_field, label1_text, label2_text, factor_fields, IsQualified, IsBucket, IsBucketed, IsLabelled, HasParts};
+ghost use Rattle.crif_writer.specs.Parts.{qualifier_text, bucket_field};
+ghost use Rattle.crif_writer.specs.Parts.{label1_text, label2_text, factor_fields};
+ghost use Rattle.crif_writer.specs.Parts.{IsQualified, IsBucket, IsBucketed, IsLabelled, HasParts};
 
 use crate::fields::Fields;
 use crif_reader::simm_kinds::{Bucket, Factor};
 use std::alloc::AllocError;
 
-/// Adds what a factor has in the columns of the qualifier, the bucket and the two labels. The only error is want of memory.
+/// Adds what a factor has in the columns of the qualifier, the bucket and the two labels. The only
+/// error is want of memory.
 pub fn push_factor(fields: &mut Fields, factor: &Factor) -> Result<(), AllocError>
     ensures fields { OnOk result (fields.new ≡ fields.old ++ factor_fields factor.now) }
     ensures parts { OnOk result (HasParts factor.now) }

@@ -92,7 +92,8 @@ impl Fields {
         self.push(digits.format(number).as_bytes())
     }
 
-    /// Adds the six letters of a pair. The only error is want of memory, and no field may be left then.
+    /// Adds the six letters of a pair. The only error is want of memory, and no field may be
+    /// left then.
     pub fn push_pair(&mut self, pair: CurrencyPair) -> Result<(), AllocError>
         ensures { OnOk result (self.new ≡ self.old ++ pair_text pair ∷ []) }
     {

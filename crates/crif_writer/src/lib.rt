@@ -1,4 +1,5 @@
-//! Writes CRIF files: the rows of a batch in tab-separated text with a header, which reads back as just that batch.
+//! Writes CRIF files: the rows of a batch in tab-separated text with a header, which reads back as
+//! just that batch.
 #![tactic(auto)]
 
 mod factor;

@@ -6,8 +6,8 @@ use crif_reader::mh_units::{Rate4, Text};
 use itoa::Buffer;
 use std::alloc::AllocError;
 
-/// Adds a rate to a text: an optional minus, whole units, a point and four digits, as in `1.5000`. The only error is want of
-/// memory; a front of it may have been added then.
+/// Adds a rate to a text: an optional minus, whole units, a point and four digits, as in `1.5000`.
+/// The only error is want of memory; a front of it may have been added then.
 #[tactic(auto, unfolding(crate::specs::Amounts::rate_text))]
 pub fn push_rate4(text: &mut Text, rate: Rate4) -> Result<(), AllocError>
     ensures { OnOk result (text.new ≡ text.old ++ rate_text rate.0) }

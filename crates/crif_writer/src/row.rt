@@ -1,7 +1,8 @@
 //! The fields of a row.
 ghost use Rattle.std.specs.Prelude.{◌≡◌, ◌++◌, ◌∷◌, [], OnOk};
 ghost use Rattle.crif_reader.specs.SimmKinds.NameText.{IsName};
-ghost use Rattle.crif_writer.specs.Rows.{add_on_fields, subject_fields, cents_fields, rate_fields, amount_fields, row_fields, HasRowParts};
+ghost use Rattle.crif_writer.specs.Rows.{add_on_fields, subject_fields, cents_fields};
+ghost use Rattle.crif_writer.specs.Rows.{rate_fields, amount_fields, row_fields, HasRowParts};
 
 use crate::factor::push_factor;
 use crate::fields::Fields;
@@ -9,7 +10,8 @@ use crif_reader::mh_units::{Cents, Rate4};
 use crif_reader::simm_kinds::{CrifRow, Name, RiskType};
 use std::alloc::AllocError;
 
-/// Puts the fields of a trade's row in place of those that were there. The only error is want of memory.
+/// Puts the fields of a trade's row in place of those that were there. The only error is want
+/// of memory.
 pub fn fill(fields: &mut Fields, trade: &Name, row: &CrifRow) -> Result<(), AllocError>
     ensures fields { OnOk result (fields.new ≡ row_fields trade.now row.now) }
     ensures name { OnOk result (IsName trade.now) }

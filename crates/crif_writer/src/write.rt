@@ -1,7 +1,8 @@
 ghost use Rattle.std.specs.Prelude.{◌≡◌, ℕ, List, ◌∷◌, [], IfOk, OnOk, Ok};
 ghost use Rattle.std.specs.List.{AllByRecursion};
 ghost use Rattle.crif_reader.specs.Grammar.{crif_of};
-ghost use Rattle.crif_writer.specs.Text.{header_fields, trade_records, batch_text, HasWritten, WritesMore, HasTradeParts};
+ghost use Rattle.crif_writer.specs.Text.{header_fields, trade_records, batch_text};
+ghost use Rattle.crif_writer.specs.Text.{HasWritten, WritesMore, HasTradeParts};
 
 use crate::fields::Fields;
 use crate::row::fill;
@@ -25,15 +26,17 @@ const COLUMNS: [Column; 10] = [
     Column::AmountUsd,
 ];
 
-/// Writes a batch as the text of a CRIF file: a header and a record for each row, the trades and their rows in their order. Fields
-/// are separated by tabs and each record ends with LF. Amounts are in USD with two digits behind the point, rates have four, and
-/// a field that the risk type does not have is empty. What it writes reads back as just this batch, with nothing passed over.
+/// Writes a batch as the text of a CRIF file: a header and a record for each row, the trades and
+/// their rows in their order. Fields are separated by tabs and each record ends with LF. Amounts
+/// are in USD with two digits behind the point, rates have four, and a field that the risk type
+/// does not have is empty. What it writes reads back as just this batch, with nothing passed over.
 ///
 /// The only error is want of memory.
 pub fn write_batch(alloc: Global, batch: &Batch) -> Result<Text, AllocError>
     ensures text { IfOk result (λ text. text ≡ batch_text batch.now) }
     ensures parts { OnOk result (AllByRecursion HasTradeParts batch.now) }
-    ensures reads_back { IfOk result (λ text. crif_of text ≡ Ok (record { trades = batch.now; passed_over = 0 })) }
+    ensures reads_back { IfOk result (λ text.
+        crif_of text ≡ Ok (record { trades = batch.now; passed_over = 0 })) }
 {
     let mut writer = open(alloc);
     let mut fields = Fields::new(alloc);
@@ -96,7 +99,8 @@ fn write_fields(writer: &mut Writer<Vec<u8>>, fields: &Fields) -> Result<(), All
     writer.write_byte_record(fields.record()).map_err(no_memory)
 }
 
-/// Why writing fails: over bytes in memory, and with as many fields in each record, for want of memory alone.
+/// Why writing fails: over bytes in memory, and with as many fields in each record, for want of
+/// memory alone.
 fn no_memory(_error: Error) -> AllocError {
     AllocError
 }

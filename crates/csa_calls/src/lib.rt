@@ -1,33 +1,41 @@
-//! The amounts of collateral that are called for on a netting set: a delivery, a return, or nothing. Amounts are in cents, and
-//! nothing here takes memory.
+//! The amounts of collateral that are called for on a netting set: a delivery, a return, or
+//! nothing. Amounts are in cents, and nothing here takes memory.
 //! (ISDA 2016 Credit Support Annex for Initial Margin: Delivery Amount, Return Amount.)
 #![tactic(auto)]
 
-ghost use Rattle.std.specs.Prelude.{◌≡◌, ◌+◌, ◌*◌, ◌≤◌, ◌^◌, pos, ◌+ℤ◌, ◌-ℤ◌, ◌*ℤ◌, ◌≤ℤ◌, ◌<ℤ◌, unsigned_abs};
+ghost use Rattle.std.specs.Prelude.{◌≡◌, ◌+◌, ◌*◌, ◌≤◌, ◌^◌, pos};
+ghost use Rattle.std.specs.Prelude.{◌+ℤ◌, ◌-ℤ◌, ◌*ℤ◌, ◌≤ℤ◌, ◌<ℤ◌, unsigned_abs};
 ghost use Rattle.std.specs.Int.{int_max};
 ghost use Rattle.csa_terms.specs.Terms.{IsAmount, IsRounding};
-ghost use Rattle.csa_calls.specs.CallRule.{AmountUpTo, IsCallFor, IsGreatestMultiple, IsLeastMultiple, call_for, call_of, call_of_at, credit_support, excess_at, is_delivery, is_return, multiple_down, multiple_up};
+ghost use Rattle.csa_calls.specs.CallRule.{AmountUpTo, IsCallFor, IsGreatestMultiple};
+ghost use Rattle.csa_calls.specs.CallRule.{IsLeastMultiple, call_for, call_of, call_of_at};
+ghost use Rattle.csa_calls.specs.CallRule.{credit_support, excess_at, is_delivery};
+ghost use Rattle.csa_calls.specs.CallRule.{is_return, multiple_down, multiple_up};
 ghost use Rattle.csa_calls.specs.CallRule.{excess as excess_of};
 
 use csa_terms::SetTerms;
 use csa_terms::mh_units::{Cents, div_down, div_up};
 
-/// What is called for. Amounts are in cents, and those of a call are multiples of the agreement's rounding.
+/// What is called for. Amounts are in cents, and those of a call are multiples of the
+/// agreement's rounding.
 #[derive(Clone, Copy, Debug, PartialEq, Eq)]
 pub enum CallAmount {
     /// So many cents, above 0, are to be delivered.
     Delivery(i64),
     /// So many cents, above 0, are to be returned.
     Return(i64),
-    /// Nothing is called: the excess, in cents, is too small, or there is none. It is below zero where too much is booked.
+    /// Nothing is called: the excess, in cents, is too small, or there is none. It is below zero
+    /// where too much is booked.
     Nothing(i128),
 }
 
-/// What is called for on a margin of 0 to 5 * 10^17 cents where so much is booked, at most 5 * 10^17 cents in size.
+/// What is called for on a margin of 0 to 5 * 10^17 cents where so much is booked, at most 5 *
+/// 10^17 cents in size.
 ///
-/// The excess is the margin above the threshold, less what is booked. One above zero that reaches the minimum of a delivery calls
-/// for a delivery, rounded up to a multiple of the rounding. One below zero that reaches the minimum of a return calls for a
-/// return, rounded down to such a multiple, unless that is 0. The minimum is tested before rounding.
+/// The excess is the margin above the threshold, less what is booked. One above zero that reaches
+/// the minimum of a delivery calls for a delivery, rounded up to a multiple of the rounding. One
+/// below zero that reaches the minimum of a return calls for a return, rounded down to such a
+/// multiple, unless that is 0. The minimum is tested before rounding.
 pub fn call_amount(margin: i128, booked: i128, terms: &SetTerms) -> CallAmount
     requires margin_from { pos 0 ≤ℤ margin }
     requires margin_to { margin ≤ℤ pos (5 * 10 ^ 17) }
@@ -42,8 +50,8 @@ pub fn call_amount(margin: i128, booked: i128, terms: &SetTerms) -> CallAmount
     call_amount_at(margin, booked, terms.threshold(), terms)
 }
 
-/// The same where a threshold of 0 to 10^15 cents, such as an allotment of a threshold that several sets share, stands in place
-/// of the agreement's own.
+/// The same where a threshold of 0 to 10^15 cents, such as an allotment of a threshold that
+/// several sets share, stands in place of the agreement's own.
 pub fn call_amount_at(margin: i128, booked: i128, threshold: Cents, terms: &SetTerms) -> CallAmount
     requires margin_from { pos 0 ≤ℤ margin }
     requires margin_to { margin ≤ℤ pos (5 * 10 ^ 17) }
@@ -58,8 +66,9 @@ pub fn call_amount_at(margin: i128, booked: i128, threshold: Cents, terms: &SetT
     call_for(excess, terms)
 }
 
-/// How far the margin above the threshold is above what is booked, in cents, also where it is past the range of calls: on a margin
-/// of 0 to 10^21 cents where so much is booked, at most 10^23 cents in size. It is below zero where too much is booked.
+/// How far the margin above the threshold is above what is booked, in cents, also where it is past
+/// the range of calls: on a margin of 0 to 10^21 cents where so much is booked, at most 10^23
+/// cents in size. It is below zero where too much is booked.
 pub fn excess(margin: i128, booked: i128, terms: &SetTerms) -> i128
     requires margin_from { pos 0 ≤ℤ margin }
     requires margin_to { margin ≤ℤ pos (10 ^ 21) }
@@ -103,7 +112,8 @@ fn is_delivery(excess: i128, terms: &SetTerms) -> bool
     excess > 0 && excess >= terms.mta_delivery().0
 }
 
-/// Whether the excess booked reaches the minimum of a return and one unit of rounding, below which the return would be 0.
+/// Whether the excess booked reaches the minimum of a return and one unit of rounding, below which
+/// the return would be 0.
 fn is_return(excess: i128, terms: &SetTerms) -> bool
     requires { unsigned_abs excess ≤ 10 ^ 18 }
     ensures { result ≡ is_return excess terms.now }

@@ -6,8 +6,9 @@ use std::alloc::{AllocError, Global};
 use std::marker::Model;
 use toml_values::simm_kinds::Name;
 
-/// The terms of one netting set: those by which it collects margin, and those by which it posts. The name, the notification minute
-/// and the holidays are the same in both. Contracts see the plain record.
+/// The terms of one netting set: those by which it collects margin, and those by which it posts.
+/// The name, the notification minute and the holidays are the same in both. Contracts see the
+/// plain record.
 #[derive(Drop)]
 pub struct BothTerms {
     collect: SetTerms,

@@ -1,7 +1,9 @@
-ghost use Rattle.std.specs.Prelude.{ℤ, ℕ, ◌≡◌, ◌↔◌, ◌≤◌, not, nat_lt, pos, neg_ℤ, ◌≤ℤ◌, IsTrue, IsOk, IfOk, IfErr};
+ghost use Rattle.std.specs.Prelude.{ℤ, ℕ, ◌≡◌, ◌↔◌, ◌≤◌, not, nat_lt, pos, neg_ℤ};
+ghost use Rattle.std.specs.Prelude.{◌≤ℤ◌, IsTrue, IsOk, IfOk, IfErr};
 ghost use Rattle.jiff.specs.Words.{IsBetween};
 ghost use Rattle.jiff_core.specs.Calendar.{weekday_number, days_from_civil, IsCivilDate};
-ghost use Rattle.csa_terms.specs.Calendar.{is_business_day, wait, IsDueAfter, IsDueDay, IsCallingDay, days_until, due_day};
+ghost use Rattle.csa_terms.specs.Calendar.{is_business_day, wait, IsDueAfter};
+ghost use Rattle.csa_terms.specs.Calendar.{IsDueDay, IsCallingDay, days_until, due_day};
 
 use crate::moment::Moment;
 use crate::set_terms::SetTerms;
@@ -19,12 +21,14 @@ const FIRST_DAY: i32 = -719_162;
 /// 9000-12-31, counted from 1970-01-01.
 const LAST_DAY: i32 = 2_568_019;
 
-/// The day on which a call is due that is demanded at the moment: the first local business day after the moment's day
-/// for a demand at or before the notification minute, the second for a later one. The moment's day needn't be a business
-/// day. `DayRange` comes exactly where that day is not in the years 1 to 9000. It takes no memory.
+/// The day on which a call is due that is demanded at the moment: the first local business day
+/// after the moment's day for a demand at or before the notification minute, the second for a
+/// later one. The moment's day needn't be a business day. `DayRange` comes exactly where that day
+/// is not in the years 1 to 9000. It takes no memory.
 pub fn due_day(moment: Moment, terms: &SetTerms) -> Result<i32, DayRange>
     ensures range { IsOk result ↔ IsCallingDay moment.day }
-    ensures years { (y : ℤ) (m d : ℕ) → IsCivilDate y m d → days_from_civil y m d ≡ moment.day → IsOk result ↔ IsBetween (pos 1) (pos 9000) y }
+    ensures years { (y : ℤ) (m d : ℕ) → IsCivilDate y m d → days_from_civil y m d ≡ moment.day
+        → IsOk result ↔ IsBetween (pos 1) (pos 9000) y }
     ensures refused { IfErr result (λ e. e.day ≡ moment.day) }
     ensures least { IfOk result (λ due. IsDueDay terms.now moment due) }
     ensures value { IfOk result (λ due. due ≡ due_day moment terms.now) }
@@ -41,7 +45,8 @@ pub fn due_day(moment: Moment, terms: &SetTerms) -> Result<i32, DayRange>
 fn is_calling_day(day: i32) -> bool
     ensures calling { IsTrue result ↔ IsCallingDay day }
     ensures numbers { IsTrue result ↔ IsBetween (neg_ℤ (pos 719162)) (pos 2568019) day }
-    ensures years { (y : ℤ) (m d : ℕ) → IsCivilDate y m d → days_from_civil y m d ≡ day → IsTrue result ↔ IsBetween (pos 1) (pos 9000) y }
+    ensures years { (y : ℤ) (m d : ℕ) → IsCivilDate y m d → days_from_civil y m d ≡ day
+        → IsTrue result ↔ IsBetween (pos 1) (pos 9000) y }
 {
     (FIRST_DAY..=LAST_DAY).contains(&day)
 }

@@ -6,8 +6,9 @@ use toml_values::ValueFault;
 use toml_values::mh_units::Text;
 use toml_values::simm_kinds::Name;
 
-/// Why a terms file was not taken: the first test that fails. A path is the keys joined by points, sets and places
-/// counted from 1, as `set.2.rounding`, `set.2.haircuts.CASH-USD` or `set.2.holidays.3`.
+/// Why a terms file was not taken: the first test that fails. A path is the keys joined by
+/// points, sets and places counted from 1, as `set.2.rounding`, `set.2.haircuts.CASH-USD`
+/// or `set.2.holidays.3`.
 #[derive(Drop)]
 pub enum TermsFault {
     /// The file is not UTF-8 text of a TOML document.

@@ -47,7 +47,8 @@ fn rate_of(
     class: &str,
     value: &Value,
 ) -> Result<Rate4, ValueFault>
-    ensures value { GivesValue (λ r. r.0) result (rate_of (class_path table class.now) shares (Some (view value.now))) }
+    ensures value { GivesValue (λ r. r.0) result
+        (rate_of (class_path table class.now) shares (Some (view value.now))) }
     ensures share { IfOk result (λ r. IsShare r.0) }
 {
     match table {
@@ -63,7 +64,8 @@ fn read_entry(
     class: &str,
     value: &Value,
 ) -> Result<Entry, TermsFault>
-    ensures value { Gives (λ e. record { class = e.class; rate = e.rate.0 }) result (haircut_of_entry table class.now (view value.now)) }
+    ensures value { Gives (λ e. record { class = e.class; rate = e.rate.0 }) result
+        (haircut_of_entry table class.now (view value.now)) }
     ensures share { IfOk result (λ e. IsShare e.rate.0) }
     ensures same { IfOk result (λ e. e.class ≡ class.now) }
 {

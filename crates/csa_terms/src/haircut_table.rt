@@ -10,8 +10,8 @@ use std::marker::Model;
 use toml_values::mh_units::Rate4;
 use toml_values::simm_kinds::Name;
 
-/// The haircuts of collateral by its class, in ten-thousandths of the value: at most 256, each from 0 to 1. Contracts
-/// see their list in the order of the classes.
+/// The haircuts of collateral by its class, in ten-thousandths of the value: at most 256, each
+/// from 0 to 1. Contracts see their list in the order of the classes.
 #[derive(Drop)]
 pub struct HaircutTable {
     rates: BTreeMap<Name, Rate4>,
@@ -39,8 +39,8 @@ impl HaircutTable {
         }
     }
 
-    /// Sets the haircut of a class, 0 to 10,000 ten-thousandths. The only error is want of memory, and then nothing
-    /// changes.
+    /// Sets the haircut of a class, 0 to 10,000 ten-thousandths. The only error is want of memory,
+    /// and then nothing changes.
     pub fn put(&mut self, class: Name, rate: Rate4) -> Result<(), AllocError>
         requires few { length self.old < 256 }
         requires share { IsShare rate.0 }

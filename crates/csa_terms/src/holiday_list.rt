@@ -8,8 +8,8 @@ use std::alloc::{AllocError, Global};
 use std::collections::BTreeSet;
 use std::marker::Model;
 
-/// Holidays as days counted from 1970-01-01: at most 4,096, each from 0001-01-01 to 9999-12-31. Contracts see just
-/// their list, in which each stands once and in order.
+/// Holidays as days counted from 1970-01-01: at most 4,096, each from 0001-01-01 to 9999-12-31.
+/// Contracts see just their list, in which each stands once and in order.
 #[derive(Drop)]
 pub struct HolidayList {
     days: BTreeSet<i32>,
@@ -36,7 +36,8 @@ impl HolidayList {
         }
     }
 
-    /// Adds a day, counted from 1970-01-01, where it isn't there. The only error is want of memory, and then nothing changes.
+    /// Adds a day, counted from 1970-01-01, where it isn't there. The only error is want of
+    /// memory, and then nothing changes.
     pub fn insert(&mut self, day: i32) -> Result<(), AllocError>
         requires few { length self.old < 4096 }
         requires calendar { IsCalendarDay day }

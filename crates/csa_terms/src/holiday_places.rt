@@ -22,7 +22,8 @@ const MOST: usize = 4_096;
 /// The day of a place, counted from 1.
 #[tactic(auto, unfolding(crate::specs::Paths::holiday_path))]
 fn read_place(alloc: Global, set: usize, place: usize, value: &Value) -> Result<i32, TermsFault>
-    ensures value { Gives (λ d. d) result (date_of (holiday_path set place) (Some (view value.now))) }
+    ensures value { Gives (λ d. d) result
+        (date_of (holiday_path set place) (Some (view value.now))) }
     ensures calendar { IfOk result IsCalendarDay }
 {
     let path = [

@@ -22,7 +22,8 @@ use toml_values::{Range, ValueFault, array, member, money, path_text, rate, tabl
 
 /// A name that isn't empty, at a key of a set's table.
 pub fn name_at(alloc: Global, set: usize, terms: &Table, key: &str) -> Result<Name, TermsFault>
-    ensures value { GivesTerms (λ n. n) result (set_name_of (key_path (Own set) key.now) (get_member key.now (table_view terms.now))) }
+    ensures value { GivesTerms (λ n. n) result
+        (set_name_of (key_path (Own set) key.now) (get_member key.now (table_view terms.now))) }
     ensures named { IfOk result (λ n. 0 < length n) }
 {
     set_name(alloc, &own_key(set, key), member(terms, key))
@@ -52,7 +53,8 @@ pub fn share_at(
     terms: &Table,
     key: &str,
 ) -> Result<Rate4, ValueFault>
-    ensures value { Gives (λ r. r.0) result (rate_of (key_path table key.now) shares (get_member key.now (table_view terms.now))) }
+    ensures value { Gives (λ r. r.0) result
+        (rate_of (key_path table key.now) shares (get_member key.now (table_view terms.now))) }
     ensures within { IfOk result (λ r. IsWithin shares r.0) }
 {
     match table {
@@ -63,7 +65,8 @@ pub fn share_at(
 
 /// A time of day, in minutes from midnight, at a key of a set's table.
 pub fn minute_at(alloc: Global, set: usize, terms: &Table, key: &str) -> Result<u16, TermsFault>
-    ensures value { GivesTerms (λ n. n) result (minute_of (key_path (Own set) key.now) (get_member key.now (table_view terms.now))) }
+    ensures value { GivesTerms (λ n. n) result
+        (minute_of (key_path (Own set) key.now) (get_member key.now (table_view terms.now))) }
     ensures within { IfOk result (λ n. n < 1440) }
 {
     minute(alloc, &own_key(set, key), member(terms, key))
@@ -76,7 +79,8 @@ pub fn array_at<'a>(
     terms: &'a Table,
     key: &str,
 ) -> Result<&'a [Value], ValueFault>
-    ensures { Gives (λ a. items_view a.now) result (array_of (key_path (Own set) key.now) (get_member key.now (table_view terms.now))) }
+    ensures { Gives (λ a. items_view a.now) result
+        (array_of (key_path (Own set) key.now) (get_member key.now (table_view terms.now))) }
 {
     array(alloc, &own_key(set, key), member(terms, key))
 }
@@ -88,7 +92,8 @@ pub fn table_at<'a>(
     terms: &'a Table,
     key: &str,
 ) -> Result<&'a Table, ValueFault>
-    ensures { Gives (λ t. table_view t.now) result (table_of (key_path table key.now) (get_member key.now (table_view terms.now))) }
+    ensures { Gives (λ t. table_view t.now) result
+        (table_of (key_path table key.now) (get_member key.now (table_view terms.now))) }
 {
     match table {
         TermsTable::Own(set) => table_in(alloc, &own_key(set, key), member(terms, key)),

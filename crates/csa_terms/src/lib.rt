@@ -1,5 +1,5 @@
-//! The terms of an agreement for collateral: a TOML file read exactly by its grammar, the look-ups of a netting set, and the
-//! day on which a call is due.
+//! The terms of an agreement for collateral: a TOML file read exactly by its grammar, the look-ups
+//! of a netting set, and the day on which a call is due.
 #![tactic(auto)]
 
 mod both_terms;

@@ -4,7 +4,8 @@ ghost use Rattle.csa_terms.specs.Moments.{moment_of};
 use iso_dates::{date_in, minute_in};
 use std::marker::Model;
 
-/// The local time of a demand: a day, counted from 1970-01-01, and a minute of it, from 0 at midnight to 1,439.
+/// The local time of a demand: a day, counted from 1970-01-01, and a minute of it, from 0 at
+/// midnight to 1,439.
 #[derive(Clone, Copy)]
 pub struct Moment {
     day: i32,
@@ -27,7 +28,8 @@ impl Model for Moment {
 impl Moment {
     /// The minute of the day, where the day has it: None for 1,440 and more.
     pub fn new(day: i32, minute: u16) -> Option<Moment>
-        ensures { result ≡ (if nat_lt minute 1440 then Some (record { day = day; minute = minute }) else None) }
+        ensures { result
+            ≡ (if nat_lt minute 1440 then Some (record { day = day; minute = minute }) else None) }
     {
         if minute < 1_440 {
             Some(Moment { day, minute })
@@ -36,8 +38,9 @@ impl Moment {
         }
     }
 
-    /// The moment that a text has as a feed writes it: exactly `YYYY-MM-DDTHH:MM`, with a date of the calendar, of the years 0001
-    /// to 9999, and a time from `00:00` to `23:59`. None for every other text.
+    /// The moment that a text has as a feed writes it: exactly `YYYY-MM-DDTHH:MM`, with a date of
+    /// the calendar, of the years 0001 to 9999, and a time from `00:00` to `23:59`. None for every
+    /// other text.
     #[tactic(auto, unfolding(crate::specs::Moments::moment_of))]
     pub fn read(text: &[u8]) -> Option<Moment>
         ensures { result ≡ moment_of text.now }

@@ -29,8 +29,8 @@ fn date_of(day: i32) -> Option<Date>
     }
 }
 
-/// Adds a day, counted from 1970-01-01, to a text: `YYYY-MM-DD`, or its number where its year isn't 1 to 9999. The only error is
-/// want of memory; a front of it may have been added then.
+/// Adds a day, counted from 1970-01-01, to a text: `YYYY-MM-DD`, or its number where its year
+/// isn't 1 to 9999. The only error is want of memory; a front of it may have been added then.
 pub fn push_day(text: &mut Text, day: i32) -> Result<(), AllocError>
     ensures { OnOk result (text.new ≡ text.old ++ day_text day) }
 {
@@ -40,8 +40,8 @@ pub fn push_day(text: &mut Text, day: i32) -> Result<(), AllocError>
     }
 }
 
-/// Adds a moment to a text as a feed has it, `YYYY-MM-DDTHH:MM`, its day as `push_day` adds it. The only error is want of memory;
-/// a front of it may have been added then.
+/// Adds a moment to a text as a feed has it, `YYYY-MM-DDTHH:MM`, its day as `push_day` adds it.
+/// The only error is want of memory; a front of it may have been added then.
 #[tactic(auto, unfolding(crate::specs::Moments::moment_text))]
 pub fn push_moment(text: &mut Text, moment: Moment) -> Result<(), AllocError>
     ensures { OnOk result (text.new ≡ text.old ++ moment_text moment) }

@@ -21,7 +21,9 @@ use toml_values::{ValueFault, member, table};
 
 #[tactic(auto, unfolding(crate::specs::Grammar::amounts_of))]
 fn read_amounts(alloc: Global, table: TermsTable, terms: &Table) -> Result<Amounts, ValueFault>
-    ensures value { GivesValue (λ a. (a.threshold.0, a.mta_delivery.0, a.mta_return.0, a.rounding.0)) result (amounts_of table (table_view terms.now)) }
+    ensures value { GivesValue
+        (λ a. (a.threshold.0, a.mta_delivery.0, a.mta_return.0, a.rounding.0)) result
+        (amounts_of table (table_view terms.now)) }
     ensures amounts { IfOk result AreAmounts }
 {
     let threshold = money_at(alloc, table, terms, "threshold", AMOUNT)?;
@@ -51,7 +53,8 @@ fn read_collect(alloc: Global, set: usize, terms: &Table) -> Result<SetTerms, Te
     Ok(SetTerms::of_parts(name, amounts, notification, fx_haircut, haircuts, holidays))
 }
 
-/// The terms by which a set posts that has a table of them: those by which it collects, but for what that table has.
+/// The terms by which a set posts that has a table of them: those by which it collects, but for
+/// what that table has.
 #[tactic(auto, unfolding(crate::specs::Grammar::posting_of))]
 fn read_posting(
     alloc: Global,
@@ -69,7 +72,8 @@ fn read_posting(
     Ok(collect.with(alloc, amounts, fx_haircut, haircuts)?)
 }
 
-/// The terms by which a set posts, of what it has at `post`: where that is nothing, those by which it collects.
+/// The terms by which a set posts, of what it has at `post`: where that is nothing, those by which
+/// it collects.
 #[tactic(auto, unfolding(crate::specs::Grammar::post_of))]
 fn read_post(
     alloc: Global,

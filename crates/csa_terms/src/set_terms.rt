@@ -23,8 +23,8 @@ pub struct Amounts {
     pub rounding: Cents,
 }
 
-/// The terms of one netting set's agreement. Each value is in its range, and the haircuts are of different classes.
-/// Contracts see the plain record.
+/// The terms of one netting set's agreement. Each value is in its range, and the haircuts are of
+/// different classes. Contracts see the plain record.
 #[derive(Drop)]
 pub struct SetTerms {
     name: Name,
@@ -42,9 +42,11 @@ impl Model for SetTerms {
 
     ghost Value = { Agreement };
 
-    ghost view = { λ t. set_view t.name t.amounts t.notification t.fx_haircut t.haircuts t.holidays };
+    ghost view = { λ t.
+        set_view t.name t.amounts t.notification t.fx_haircut t.haircuts t.holidays };
 
-    ghost invariant = { λ t. IsBounded (set_view t.name t.amounts t.notification t.fx_haircut t.haircuts t.holidays) };
+    ghost invariant = { λ t.
+        IsBounded (set_view t.name t.amounts t.notification t.fx_haircut t.haircuts t.holidays) };
 }
 
 impl SetTerms {
@@ -95,8 +97,8 @@ impl SetTerms {
         })
     }
 
-    /// The terms of the same set with other amounts and haircuts, each in its range: its name, its notification minute and its
-    /// holidays stay. The only error is want of memory.
+    /// The terms of the same set with other amounts and haircuts, each in its range: its name, its
+    /// notification minute and its holidays stay. The only error is want of memory.
     pub fn with(
         &self,
         alloc: Global,
@@ -106,7 +108,8 @@ impl SetTerms {
     ) -> Result<SetTerms, AllocError>
         requires amounts { AreAmounts amounts }
         requires fx_haircut { IsShare fx_haircut.0 }
-        ensures { IfOk result (λ t. t ≡ set_view self.now.name amounts self.now.notification fx_haircut haircuts self.now.holidays) }
+        ensures { IfOk result (λ t. t ≡ set_view self.now.name amounts self.now.notification
+            fx_haircut haircuts self.now.holidays) }
     {
         Ok(SetTerms {
             name: self.name.copy(alloc)?,
@@ -160,22 +163,24 @@ impl SetTerms {
         self.notification
     }
 
-    /// What is taken off, beside the class's haircut, where the currency is another: 0 to 10,000 ten-thousandths of the value.
+    /// What is taken off, beside the class's haircut, where the currency is another: 0 to 10,000
+    /// ten-thousandths of the value.
     pub fn fx_haircut(&self) -> Rate4
         ensures { result.0 ≡ self.now.fx_haircut }
     {
         self.fx_haircut
     }
 
-    /// The haircut of a class of collateral, 0 to 10,000 ten-thousandths of the value, or `None` where the agreement has none for it.
-    /// It is found in O(log n) steps for n haircuts.
+    /// The haircut of a class of collateral, 0 to 10,000 ten-thousandths of the value, or `None`
+    /// where the agreement has none for it. It is found in O(log n) steps for n haircuts.
     pub fn haircut(&self, class: &Name) -> Option<Rate4>
         ensures { option_map (λ r. r.0) result ≡ haircut_of self.now class.now }
     {
         self.haircuts.get(class)
     }
 
-    /// Whether the day, counted from 1970-01-01, is a holiday. It is found in O(log n) steps for n holidays.
+    /// Whether the day, counted from 1970-01-01, is a holiday. It is found in O(log n) steps for
+    /// n holidays.
     pub fn is_holiday(&self, day: i32) -> bool
         ensures { result ≡ is_holiday self.now day }
     {

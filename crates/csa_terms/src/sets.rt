@@ -7,7 +7,8 @@ ghost use Rattle.toml_values.specs.Values.{items_count, array_of, table_of};
 ghost use Rattle.toml_values.specs.Places.{each_of};
 ghost use Rattle.csa_terms.specs.Faults.{Gives};
 ghost use Rattle.csa_terms.specs.Paths.{sets_path, set_path};
-ghost use Rattle.csa_terms.specs.Grammar.{few_sets, some_table, set_of_place, set_at, terms_of_table};
+ghost use Rattle.csa_terms.specs.Grammar.{few_sets, some_table, set_of_place};
+ghost use Rattle.csa_terms.specs.Grammar.{set_at, terms_of_table};
 
 use crate::both_terms::BothTerms;
 use crate::fault::TermsFault;
@@ -23,7 +24,8 @@ const MOST: usize = 16;
 
 #[tactic(auto, unfolding(crate::specs::Paths::sets_path))]
 fn set_places(alloc: Global, root: &Table) -> Result<&[Value], ValueFault>
-    ensures { GivesValue (λ a. items_view a.now) result (array_of sets_path (get_member (codes "set") (table_view root.now))) }
+    ensures { GivesValue (λ a. items_view a.now) result
+        (array_of sets_path (get_member (codes "set") (table_view root.now))) }
 {
     array(alloc, &[Part::Key("set")], member(root, "set"))
 }
@@ -58,7 +60,8 @@ fn check_tables(alloc: Global, places: &[Value]) -> Result<(), ValueFault>
 
 #[tactic(auto, unfolding(crate::specs::Paths::set_path))]
 fn set_table<'a>(alloc: Global, number: usize, value: &'a Value) -> Result<&'a Table, ValueFault>
-    ensures { GivesValue (λ t. table_view t.now) result (table_of (set_path number) (Some (view value.now))) }
+    ensures { GivesValue (λ t. table_view t.now) result
+        (table_of (set_path number) (Some (view value.now))) }
 {
     let path = [Part::Key("set"), Part::Place(number)];
     table(alloc, &path, Some(value))

@@ -4,8 +4,8 @@ ghost use Rattle.csa_terms.specs.Terms.{AreTerms};
 use crate::both_terms::BothTerms;
 use std::marker::Model;
 
-/// The terms of netting sets, in the order of their file: one to sixteen, of different names. Contracts see just their
-/// list.
+/// The terms of netting sets, in the order of their file: one to sixteen, of different names.
+/// Contracts see just their list.
 #[derive(Drop)]
 pub struct Terms {
     sets: Vec<BothTerms>,

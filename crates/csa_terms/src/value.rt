@@ -36,7 +36,8 @@ pub fn set_name(alloc: Global, path: &[Part<'_>], value: Option<&Value>) -> Resu
     name(alloc, path, text)
 }
 
-/// A time of day `HH:MM`, in minutes from midnight. Any other text is `BadDate`, any other value `Missing`.
+/// A time of day `HH:MM`, in minutes from midnight. Any other text is `BadDate`, any other
+/// value `Missing`.
 #[tactic(auto, unfolding(crate::specs::Values::minute_of))]
 pub fn minute(alloc: Global, path: &[Part<'_>], value: Option<&Value>) -> Result<u16, TermsFault>
     ensures value { Gives (λ n. n) result (minute_of (path_of path.now) (found value.entry)) }
@@ -49,7 +50,8 @@ pub fn minute(alloc: Global, path: &[Part<'_>], value: Option<&Value>) -> Result
     }
 }
 
-/// A date `YYYY-MM-DD`, as a day counted from 1970-01-01. Any other text is `BadDate`, any other value `Missing`.
+/// A date `YYYY-MM-DD`, as a day counted from 1970-01-01. Any other text is `BadDate`, any other
+/// value `Missing`.
 #[tactic(auto, unfolding(crate::specs::Values::date_of))]
 pub fn date(alloc: Global, path: &[Part<'_>], value: Option<&Value>) -> Result<i32, TermsFault>
     ensures value { Gives (λ d. d) result (date_of (path_of path.now) (found value.entry)) }

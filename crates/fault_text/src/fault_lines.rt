@@ -121,7 +121,8 @@ fn push_terms_fields(line: &mut Text, number: u8, fault: &TermsFault) -> Result<
 
 /// Adds a number, and a path or a name as the last field.
 fn push_named(line: &mut Text, number: u8, bytes: &[u8]) -> Result<(), AllocError>
-    ensures { OnOk result (line.new ≡ line.old ++ (field (decimal number) ++ last_field bytes.now)) }
+    ensures { OnOk result
+        (line.new ≡ line.old ++ (field (decimal number) ++ last_field bytes.now)) }
 {
     push_number(line, number)?;
     push_last(line, bytes)
@@ -129,7 +130,8 @@ fn push_named(line: &mut Text, number: u8, bytes: &[u8]) -> Result<(), AllocErro
 
 /// Adds a number, a path, and the value there as the last field.
 fn push_valued(line: &mut Text, number: u8, path: &Text, value: i128) -> Result<(), AllocError>
-    ensures { OnOk result (line.new ≡ line.old ++ (field (decimal number) ++ field path.now ++ last_field (signed_decimal value))) }
+    ensures { OnOk result (line.new ≡ line.old
+        ++ (field (decimal number) ++ field path.now ++ last_field (signed_decimal value))) }
 {
     push_number(line, number)?;
     push_field(line, path.as_slice())?;

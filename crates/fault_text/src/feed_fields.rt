@@ -8,7 +8,8 @@ use feed_runs::FeedEnd;
 use mh_units::Text;
 use std::alloc::AllocError;
 
-/// Adds the first fields of a refused message: its feed and its line. The only error is want of memory.
+/// Adds the first fields of a refused message: its feed and its line. The only error is want
+/// of memory.
 pub fn push_refused_fields(text: &mut Text, feed: u32, line: u32) -> Result<(), AllocError>
     ensures { OnOk result (text.new ≡ text.old ++ refused_fields feed line) }
 {
@@ -17,14 +18,16 @@ pub fn push_refused_fields(text: &mut Text, feed: u32, line: u32) -> Result<(), 
     push_number(text, line)
 }
 
-/// Adds the line of a message that was refused with this number alone. The only error is want of memory.
+/// Adds the line of a message that was refused with this number alone. The only error is want
+/// of memory.
 pub fn push_refused_number(
     text: &mut Text,
     feed: u32,
     line: u32,
     number: u8,
 ) -> Result<(), AllocError>
-    ensures { OnOk result (text.new ≡ text.old ++ (refused_fields feed line ++ last_field (decimal number))) }
+    ensures { OnOk result
+        (text.new ≡ text.old ++ (refused_fields feed line ++ last_field (decimal number))) }
 {
     push_refused_fields(text, feed, line)?;
     push_last_number(text, number)

@@ -1,4 +1,5 @@
-//! The fields and lines of printed text, and the line of the first fault of a file that its grammar refuses.
+//! The fields and lines of printed text, and the line of the first fault of a file that its
+//! grammar refuses.
 #![tactic(auto)]
 
 mod crif_fields;

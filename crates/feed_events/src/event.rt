@@ -24,8 +24,9 @@ pub fn set_of(message: &Message) -> &Name
 ///
 /// # Errors
 ///
-/// Those of a block alone: `Batch` exactly where its records are no batch, and `Tables` exactly where its tables are none, each
-/// with the first fault of its grammar, or for want of memory, which says nothing of the block.
+/// Those of a block alone: `Batch` exactly where its records are no batch, and `Tables` exactly
+/// where its tables are none, each with the first fault of its grammar, or for want of memory,
+/// which says nothing of the block.
 pub fn event_of(alloc: Global, message: Message) -> Result<Event, BlockFault>
     ensures { Gives result (event_of message) }
 {

@@ -1,4 +1,5 @@
-//! The event of a message: a batch of its block of records, tables of its block of a parameter file, or just what it says.
+//! The event of a message: a batch of its block of records, tables of its block of a parameter
+//! file, or just what it says.
 #![tactic(auto)]
 
 mod block;

@@ -1,5 +1,5 @@
-//! The feeds of a command as files of a folder: each is found before one is run, and each that was found is handed back; and how
-//! their ends are a status of the command.
+//! The feeds of a command as files of a folder: each is found before one is run, and each that was
+//! found is handed back; and how their ends are a status of the command.
 //!
 //! Each command above runs them in its own way.
 #![tactic(auto)]

@@ -21,9 +21,11 @@ pub fn find_feeds<'a, F: Folder>(
     folder: &mut F,
     names: &'a [String],
 ) -> Result<Vec<F::Src>, Fault<'a>>
-    ensures found { IfOk result (λ sources. FindsAll (F.seen folder.old) (F.seen folder.new) (map string_bytes names.now) (map F.Src.seen sources.items)) }
+    ensures found { IfOk result (λ sources. FindsAll (F.seen folder.old) (F.seen folder.new)
+        (map string_bytes names.now) (map F.Src.seen sources.items)) }
     ensures counts { OnErr result (KeepsCounts (F.seen folder.old) (F.seen folder.new)) }
-    ensures fails { IfErr result (FeedsFail (map string_bytes names.now) (F.seen folder.old) (F.seen folder.new)) }
+    ensures fails { IfErr result
+        (FeedsFail (map string_bytes names.now) (F.seen folder.old) (F.seen folder.new)) }
 {
     let Ok(mut sources) = Vec::with_capacity(alloc, names.len()) else {
         return Err(Fault::Memory);

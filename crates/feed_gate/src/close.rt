@@ -1,4 +1,5 @@
-//! Cells are closed: the seats of all callers are joined, and each set comes out with its journal. It takes no memory.
+//! Cells are closed: the seats of all callers are joined, and each set comes out with its journal.
+//! It takes no memory.
 ghost use Rattle.std.specs.Prelude.{◌≡◌, ◌+◌, ◌<◌, ◌≤◌, [], ◌∷◌, ◌++◌, length, map, All};
 ghost use Rattle.std.specs.List.{AllZip};
 ghost use Rattle.std.specs.Vec.{vec_len};
@@ -12,7 +13,8 @@ use feed_events::set_core::SetState;
 use feed_events::set_core::held_cell::{HeldCell, Seat};
 use std::collections::VecDeque;
 
-/// Closes the cells, of which each caller has a seat in its row. `room` has room for the sets, and none of them.
+/// Closes the cells, of which each caller has a seat in its row. `room` has room for the sets, and
+/// none of them.
 pub(crate) fn close_sets(
     cells: Vec<HeldCell<SetState>>,
     rows: Vec<Vec<Seat<SetState>>>,
@@ -42,7 +44,8 @@ fn join_last(cell: &HeldCell<SetState>, rows: &mut [Vec<Seat<SetState>>]) -> Sea
     requires some { 0 < length rows.old }
     requires lasts { AreLasts cell.now 0 (map (λ row. row.items) rows.old) }
     ensures cut { AreCut (map (λ row. row.items) rows.old) (map (λ row. row.items) rows.new) }
-    ensures seat { IsSeatOf cell.now result × (result.first ≡ 0) × (result.count ≡ length rows.old) }
+    ensures seat { IsSeatOf cell.now result × (result.first ≡ 0)
+        × (result.count ≡ length rows.old) }
     ensures gathers { Gathers 0 (map (λ row. row.items) rows.old) result.seen }
 {
     let (row, others) = rows.split_first_mut().unwrap();
@@ -58,7 +61,8 @@ fn join_lasts(
     requires seat { IsSeatOf cell.now seat × (seat.first ≡ 0) × HasOwn seat }
     requires lasts { AreLasts cell.now seat.count (map (λ row. row.items) rows.old) }
     ensures cut { AreCut (map (λ row. row.items) rows.old) (map (λ row. row.items) rows.new) }
-    ensures seat { IsSeatOf cell.now result × (result.first ≡ 0) × (result.count ≡ seat.count + length rows.old) × HasOwn result }
+    ensures seat { IsSeatOf cell.now result × (result.first ≡ 0)
+        × (result.count ≡ seat.count + length rows.old) × HasOwn result }
     ensures begins { IsPrefix seat.seen result.seen }
     ensures own { own_of 0 seat.count result.seen ≡ seat.own }
     ensures gathers { Gathers seat.count (map (λ row. row.items) rows.old) result.seen }

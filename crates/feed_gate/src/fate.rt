@@ -30,7 +30,8 @@ pub(crate) enum Fate {
     Refused(RefusedMessage),
 }
 
-/// What a message comes to. Its set is looked for before its block is read. The only error is want of memory.
+/// What a message comes to. Its set is looked for before its block is read. The only error is want
+/// of memory.
 pub(crate) fn fate_of(alloc: Global, names: &[Name], fed: Fed) -> Result<Fate, AllocError>
     requires { length names.now ≤ 16 }
     ensures { IfOk result (λ fate. fate ≡ fate_of names.now (Sent fed)) }

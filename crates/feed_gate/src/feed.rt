@@ -20,8 +20,8 @@ use feed_runs::{FeedEnd, Gate};
 use std::alloc::Global;
 use std::sync::Wait;
 
-/// Takes the messages of a feed one after another, each as a call on the set that it names, until the feed ends. A message
-/// of which there is no entry is reported, and the feed goes on.
+/// Takes the messages of a feed one after another, each as a call on the set that it names, until
+/// the feed ends. A message of which there is no entry is reported, and the feed goes on.
 pub(crate) fn run_feed<R: Wait, S: Source, G: Gate>(
     rt: &R,
     alloc: Global,
@@ -56,7 +56,9 @@ fn take_item<R: Wait, S: Source, G: Gate>(
     requires named { AreNamed names.now cells.now }
     requires seats { AreSeats cells.now job.old.seats.items }
     requires few { job.old.report.done ≤ job.old.lines.given }
-    ensures takes { (first : Lined S) (told : List Item) → TellsItems S.seen first job.old.lines told → Takes S.seen names.now first told job.old job.new result }
+    ensures takes { (first : Lined S) (told : List Item)
+        → TellsItems S.seen first job.old.lines told
+        → Takes S.seen names.now first told job.old job.new result }
     ensures number { job.new.number ≡ job.old.number }
     ensures forward { result ≡ None → job.old.lines.given < job.new.lines.given }
 {

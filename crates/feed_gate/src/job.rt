@@ -28,7 +28,8 @@ impl<S: Source> FeedJob<S> {
         lines: Lines<S>,
         seats: Vec<Seat<SetState>>,
     ) -> FeedJob<S>
-        ensures given { (result.number ≡ number) × (result.lines ≡ lines) × (result.seats.items ≡ seats.items) }
+        ensures given { (result.number ≡ number) × (result.lines ≡ lines)
+            × (result.seats.items ≡ seats.items) }
         ensures report { result.report ≡ no_report }
     {
         FeedJob {

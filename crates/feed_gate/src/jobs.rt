@@ -15,14 +15,16 @@ use std::alloc::Global;
 use std::sync::Wait;
 use std::thread::{Threads, for_each_mut};
 
-/// Runs feeds at the same time, each in a thread of its own; where a thread can't be started this one runs the feed itself.
+/// Runs feeds at the same time, each in a thread of its own; where a thread can't be started this
+/// one runs the feed itself.
 ///
-/// Each feed's messages are calls on the sets that they name, one after another, by the feed's own seats: there are at most
-/// sixteen sets, each in a cell and with a name of its own, and a job has a seat of each cell. Afterwards the entries of a
-/// feed in the journal of a set are its calls on that set, each once and in its order, but for those that are reported as
-/// `Full`, whatever the other feeds did. The report has the other messages, and how the feed ended. A feed that ends early
-/// has its whole messages done; for want of memory it ends in the message for which there was none, of which there is no
-/// entry. The gate is called before and after each call on a set.
+/// Each feed's messages are calls on the sets that they name, one after another, by the feed's own
+/// seats: there are at most sixteen sets, each in a cell and with a name of its own, and a job has
+/// a seat of each cell. Afterwards the entries of a feed in the journal of a set are its calls on
+/// that set, each once and in its order, but for those that are reported as `Full`, whatever the
+/// other feeds did. The report has the other messages, and how the feed ended. A feed that ends
+/// early has its whole messages done; for want of memory it ends in the message for which there
+/// was none, of which there is no entry. The gate is called before and after each call on a set.
 pub fn run_feeds<R: Threads + Wait + Sync, S: Source + Send, G: Gate>(
     rt: &R,
     alloc: Global,

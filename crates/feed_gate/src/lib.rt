@@ -1,7 +1,9 @@
-//! Feeds that run side by side: their messages are calls on the netting sets that they name, which they share.
+//! Feeds that run side by side: their messages are calls on the netting sets that they name, which
+//! they share.
 //!
-//! A [`FeedJob`] is a feed with its seats, one for each set. [`run_feeds`] gives each job a thread of its own where it can.
-//! What a feed did is told set by set and by its own entries, whatever the other feeds did.
+//! A [`FeedJob`] is a feed with its seats, one for each set. [`run_feeds`] gives each job a thread
+//! of its own where it can. What a feed did is told set by set and by its own entries, whatever
+//! the other feeds did.
 #![tactic(auto)]
 
 mod close;

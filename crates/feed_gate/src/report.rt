@@ -19,8 +19,8 @@ pub enum RefusedMessage {
     UnknownSet {
         line: u32,
     },
-    /// Its block of CRIF records is no batch: the first fault, its records counted from the block's header. It is never want
-    /// of memory, which ends the feed.
+    /// Its block of CRIF records is no batch: the first fault, its records counted from the
+    /// block's header. It is never want of memory, which ends the feed.
     BadBatch {
         line: u32,
         fault: CrifFault,
@@ -32,7 +32,8 @@ pub enum RefusedMessage {
         entries: u32,
         rows: u32,
     },
-    /// Its block of tables is no parameter file: the first fault. It is never want of memory, which ends the feed.
+    /// Its block of tables is no parameter file: the first fault. It is never want of memory,
+    /// which ends the feed.
     BadTables {
         line: u32,
         fault: ParamFault,

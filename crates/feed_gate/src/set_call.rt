@@ -12,8 +12,8 @@ use feed_runs::Gate;
 use std::alloc::AllocError;
 use std::sync::Wait;
 
-/// Makes the call that a message comes to, between the two calls of the gate, and tells why there is no entry of it, where
-/// there is none. For want of memory there is none.
+/// Makes the call that a message comes to, between the two calls of the gate, and tells why there
+/// is no entry of it, where there is none. For want of memory there is none.
 pub(crate) fn make_call<R: Wait, G: Gate>(
     rt: &R,
     cells: &[HeldCell<SetState>],

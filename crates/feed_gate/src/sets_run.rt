@@ -31,13 +31,15 @@ pub struct SetsRun<S: Source> {
     pub reports: Vec<FeedReport>,
 }
 
-/// Runs feeds at the same time on sets that they share, each from its first byte to its end, as `run_feeds` does. Feed `f`
-/// of the sources is caller `f` in the journals of the sets, which have no calls yet and are at most sixteen of different
-/// names; there are 1 to 1,024 feeds. The sets come back with their journals, and each source with what was taken from it.
+/// Runs feeds at the same time on sets that they share, each from its first byte to its end, as
+/// `run_feeds` does. Feed `f` of the sources is caller `f` in the journals of the sets, which have
+/// no calls yet and are at most sixteen of different names; there are 1 to 1,024 feeds. The sets
+/// come back with their journals, and each source with what was taken from it.
 ///
 /// # Errors
 ///
-/// Want of memory before any feed was run. The sources come back as they were, and the sets are dropped.
+/// Want of memory before any feed was run. The sources come back as they were, and the sets
+/// are dropped.
 pub fn run_on_sets<R: Threads + Wait + Sync, S: Source + Send, G: Gate>(
     rt: &R,
     alloc: Global,
@@ -48,7 +50,8 @@ pub fn run_on_sets<R: Threads + Wait + Sync, S: Source + Send, G: Gate>(
     requires apart { AreApart sets.items }
     requires empty { All (λ s. s.journal ≡ []) sets.items }
     requires feeds { (1 ≤ vec_len sources) × (vec_len sources ≤ 1024) }
-    ensures ran { IfOk result (λ run. RanOnSets S.seen sets.items run.sets.items sources.items run.sources.items run.reports.items) }
+    ensures ran { IfOk result (λ run. RanOnSets S.seen sets.items run.sets.items sources.items
+        run.sources.items run.reports.items) }
     ensures back { IfErr result (λ memory. memory.back.items ≡ sources.items) }
 {
     let Ok(room) = Room::new(alloc, sets.len(), sources.len()) else {
@@ -74,10 +77,14 @@ struct Room<S: Source> {
 
 impl<S: Source> Room<S> {
     fn new(alloc: Global, sets: usize, feeds: usize) -> Result<Room<S>, AllocError>
-        ensures sets { IfOk result (λ room. (room.sets.items ≡ []) × (sets ≤ deque_capacity room.sets)) }
-        ensures sources { IfOk result (λ room. (room.sources.items ≡ []) × (feeds ≤ vec_capacity room.sources)) }
-        ensures reports { IfOk result (λ room. (room.reports.items ≡ []) × (feeds ≤ vec_capacity room.reports)) }
-        ensures rows { IfOk result (λ room. (room.rows.items ≡ []) × (feeds ≤ vec_capacity room.rows)) }
+        ensures sets { IfOk result (λ room.
+            (room.sets.items ≡ []) × (sets ≤ deque_capacity room.sets)) }
+        ensures sources { IfOk result (λ room.
+            (room.sources.items ≡ []) × (feeds ≤ vec_capacity room.sources)) }
+        ensures reports { IfOk result (λ room.
+            (room.reports.items ≡ []) × (feeds ≤ vec_capacity room.reports)) }
+        ensures rows { IfOk result (λ room.
+            (room.rows.items ≡ []) × (feeds ≤ vec_capacity room.rows)) }
     {
         Ok(Room {
             sets: VecDeque::with_capacity(alloc, sets)?,
@@ -127,7 +134,8 @@ impl<S: Source> Room<S> {
     }
 }
 
-/// A job for each source, with the row of seats of its number. For want of memory the sources come back.
+/// A job for each source, with the row of seats of its number. For want of memory the sources
+/// come back.
 fn make_jobs<S: Source>(
     alloc: Global,
     sources: Vec<S>,
@@ -135,8 +143,10 @@ fn make_jobs<S: Source>(
 ) -> Result<Vec<FeedJob<S>>, MemoryBack<Vec<S>>>
     requires few { vec_len sources ≤ 1024 }
     requires count { vec_len rows ≡ vec_len sources }
-    ensures lines { IfOk result (λ jobs. map (λ job. job.lines) jobs.items ≡ map fresh sources.items) }
-    ensures seats { IfOk result (λ jobs. map (λ job. job.seats.items) jobs.items ≡ map (λ row. row.items) rows.items) }
+    ensures lines { IfOk result (λ jobs.
+        map (λ job. job.lines) jobs.items ≡ map fresh sources.items) }
+    ensures seats { IfOk result (λ jobs.
+        map (λ job. job.seats.items) jobs.items ≡ map (λ row. row.items) rows.items) }
     ensures back { IfErr result (λ memory. memory.back.items ≡ sources.items) }
 {
     let Ok(mut jobs) = Vec::with_capacity(alloc, sources.len()) else {

@@ -28,10 +28,12 @@ pub(crate) fn share_sets(
 ) -> Result<Shared, AllocError>
     requires empty { All (λ s. s.journal ≡ []) sets.items }
     requires callers { (1 ≤ callers) × (callers ≤ 1024) }
-    ensures names { IfOk result (λ shared. shared.names.items ≡ map (λ s. s.terms.collect.name) sets.items) }
+    ensures names { IfOk result (λ shared.
+        shared.names.items ≡ map (λ s. s.terms.collect.name) sets.items) }
     ensures cells { IfOk result (λ shared. AllZip (Starts callers) sets.items shared.cells.items) }
     ensures count { IfOk result (λ shared. length shared.rows.items ≡ callers) }
-    ensures rows { IfOk result (λ shared. AreRows shared.cells.items 0 (map (λ row. row.items) shared.rows.items)) }
+    ensures rows { IfOk result (λ shared.
+        AreRows shared.cells.items 0 (map (λ row. row.items) shared.rows.items)) }
 {
     let names = names_of(alloc, &sets)?;
     let Started { cells, seats } = start_cells(alloc, sets, callers)?;
@@ -58,8 +60,10 @@ struct Started {
 fn start_cells(alloc: Global, sets: Vec<SetState>, callers: u32) -> Result<Started, AllocError>
     requires empty { All (λ s. s.journal ≡ []) sets.items }
     requires callers { (1 ≤ callers) × (callers ≤ 1024) }
-    ensures cells { IfOk result (λ started. AllZip (Starts callers) sets.items started.cells.items) }
-    ensures seats { IfOk result (λ started. AllZip (IsUnused 0 callers) started.cells.items started.seats.items) }
+    ensures cells { IfOk result (λ started.
+        AllZip (Starts callers) sets.items started.cells.items) }
+    ensures seats { IfOk result (λ started.
+        AllZip (IsUnused 0 callers) started.cells.items started.seats.items) }
 {
     let mut cells = Vec::with_capacity(alloc, sets.len())?;
     let mut seats = Vec::with_capacity(alloc, sets.len())?;

@@ -23,7 +23,8 @@ pub fn skip_to_line<S: Source>(
     ensures comes { ComesWhere result lines.new }
     ensures bounded { lines.new.passed + length lines.new.pending ≤ most_bytes + 1 }
     ensures full { result ≡ Ok LineStep.Line → is_passed_over line.new ≡ false }
-    ensures again { (stop : Stop) → IsStopped lines.old stop → (lines.new ≡ lines.old) × (result ≡ reader.answer_at stop) }
+    ensures again { (stop : Stop) → IsStopped lines.old stop
+        → (lines.new ≡ lines.old) × (result ≡ reader.answer_at stop) }
 {
     loop {
         let step = lines.next_line(line)?;
@@ -33,8 +34,8 @@ pub fn skip_to_line<S: Source>(
     }
 }
 
-/// Adds the lines up to the one that ends the block, each with LF, to `block`. At every answer but `Line` some of them may
-/// have been added.
+/// Adds the lines up to the one that ends the block, each with LF, to `block`. At every answer but
+/// `Line` some of them may have been added.
 pub(crate) fn read_block<S: Source>(
     lines: &mut Lines<S>,
     block: &mut Bytes,

@@ -6,7 +6,8 @@ ghost use Rattle.feed_reader.specs.Fault.{feed_fault_number};
 pub enum FeedFault {
     /// This line outside a block is no message. The next call reads on with the next line.
     BadLine { line: u32 },
-    /// The input ended inside the block that this line began. The next call answers that no message is left.
+    /// The input ended inside the block that this line began. The next call answers that no
+    /// message is left.
     Cut { line: u32 },
     /// This line has no LF among its first 65,536 bytes.
     LineLong { line: u32 },
@@ -14,7 +15,8 @@ pub enum FeedFault {
     TooLong { taken: u64 },
     /// The source failed, and its count of faults rose.
     ReadFault,
-    /// There is no memory for the message that begins in this line, or for this line where no message had begun.
+    /// There is no memory for the message that begins in this line, or for this line where no
+    /// message had begun.
     Memory { line: u32 },
 }
 

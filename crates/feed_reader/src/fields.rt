@@ -3,7 +3,8 @@ ghost use Rattle.std.specs.Prelude.{◌≡◌, ◌∷◌, [], not, MatchResult};
 ghost use Rattle.side_events.specs.CsaTerms.Moments.{moment_of};
 ghost use Rattle.feed_reader.specs.declared.unread.Unread.TheVariants as unread;
 ghost use Rattle.feed_reader.specs.Fields.{fields_of, fields_left, first, is_nil, no_more, Gives};
-ghost use Rattle.feed_reader.specs.Values.{full_name, full_names, amount, number, lot_currency, margin_side};
+ghost use Rattle.feed_reader.specs.Values.{full_name, full_names, amount};
+ghost use Rattle.feed_reader.specs.Values.{number, lot_currency, margin_side};
 ghost use Rattle.feed_reader.specs.Sides.{last_side};
 ghost use Rattle.feed_reader.specs.Words.{word_of};
 
@@ -35,7 +36,9 @@ impl<'a> Fields<'a> {
 
     /// The next field.
     fn next(&mut self) -> Result<&'a [u8], Unread>
-        ensures { MatchResult result (λ field. fields_left self.old ≡ field.now ∷ fields_left self.new) (λ e. (e ≡ unread.Bad) × (fields_left self.old ≡ [])) }
+        ensures { MatchResult result
+            (λ field. fields_left self.old ≡ field.now ∷ fields_left self.new)
+            (λ e. (e ≡ unread.Bad) × (fields_left self.old ≡ [])) }
     {
         let Some(rest) = self.rest else {
             return Err(Unread::Bad);
@@ -71,7 +74,8 @@ impl<'a> Fields<'a> {
 
     /// The word that the next field is.
     pub fn word(&mut self) -> Result<Word, Unread>
-        ensures { Gives (λ word. (word, fields_left self.new)) result (first word_of (fields_left self.old)) }
+        ensures { Gives (λ word. (word, fields_left self.new)) result
+            (first word_of (fields_left self.old)) }
     {
         let field = self.next()?;
         Word::of(field).ok_or(Unread::Bad)
@@ -79,7 +83,8 @@ impl<'a> Fields<'a> {
 
     /// The name that the next field is; it isn't empty.
     pub fn name(&mut self, alloc: Global) -> Result<Name, Unread>
-        ensures { Gives (λ name. (name, fields_left self.new)) result (first full_name (fields_left self.old)) }
+        ensures { Gives (λ name. (name, fields_left self.new)) result
+            (first full_name (fields_left self.old)) }
     {
         let field = self.next()?;
         if !Name::is_full_name(field) {
@@ -102,7 +107,8 @@ impl<'a> Fields<'a> {
 
     /// The amount that the next field is, in cents.
     pub fn cents(&mut self) -> Result<i64, Unread>
-        ensures { Gives (λ cents. (cents, fields_left self.new)) result (first amount (fields_left self.old)) }
+        ensures { Gives (λ cents. (cents, fields_left self.new)) result
+            (first amount (fields_left self.old)) }
     {
         let field = self.next()?;
         cents_in(field).ok_or(Unread::Bad)
@@ -110,7 +116,8 @@ impl<'a> Fields<'a> {
 
     /// The number from 1 that the next field is.
     pub fn number(&mut self) -> Result<u32, Unread>
-        ensures { Gives (λ n. (n, fields_left self.new)) result (first number (fields_left self.old)) }
+        ensures { Gives (λ n. (n, fields_left self.new)) result
+            (first number (fields_left self.old)) }
     {
         let field = self.next()?;
         number_in(field).ok_or(Unread::Bad)
@@ -118,7 +125,8 @@ impl<'a> Fields<'a> {
 
     /// The currency of a lot that the next field is.
     pub fn currency(&mut self) -> Result<LotCurrency, Unread>
-        ensures { Gives (λ currency. (currency, fields_left self.new)) result (first lot_currency (fields_left self.old)) }
+        ensures { Gives (λ currency. (currency, fields_left self.new)) result
+            (first lot_currency (fields_left self.old)) }
     {
         let field = self.next()?;
         currency_in(field).ok_or(Unread::Bad)
@@ -126,7 +134,8 @@ impl<'a> Fields<'a> {
 
     /// The time of a demand that the next field is.
     pub fn moment(&mut self) -> Result<Moment, Unread>
-        ensures { Gives (λ moment. (moment, fields_left self.new)) result (first moment_of (fields_left self.old)) }
+        ensures { Gives (λ moment. (moment, fields_left self.new)) result
+            (first moment_of (fields_left self.old)) }
     {
         let field = self.next()?;
         Moment::read(field).ok_or(Unread::Bad)
@@ -134,13 +143,15 @@ impl<'a> Fields<'a> {
 
     /// The side of the margin that the next field names.
     fn named_side(&mut self) -> Result<MarginSide, Unread>
-        ensures { Gives (λ side. (side, fields_left self.new)) result (first margin_side (fields_left self.old)) }
+        ensures { Gives (λ side. (side, fields_left self.new)) result
+            (first margin_side (fields_left self.old)) }
     {
         let field = self.next()?;
         side_in(field).ok_or(Unread::Bad)
     }
 
-    /// The side of the margin, which the last field names; what is collected where no field is left.
+    /// The side of the margin, which the last field names; what is collected where no field
+    /// is left.
     #[tactic(auto, unfolding(crate::specs::Sides::last_side))]
     pub fn side(&mut self) -> Result<MarginSide, Unread>
         ensures { Gives (λ side. side) result (last_side (fields_left self.old)) }

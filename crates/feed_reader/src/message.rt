@@ -2,7 +2,8 @@ use mh_io::mh_units::Bytes;
 use side_events::SideEvent;
 use side_events::csa_terms::simm_kinds::{Listed, MarginSide, Name};
 
-/// A message of a feed. Names are not empty, amounts are in cents. Its fields stand in a line with tabs between.
+/// A message of a feed. Names are not empty, amounts are in cents. Its fields stand in a line with
+/// tabs between.
 #[derive(Drop)]
 pub enum Message {
     /// `CRIF` and the set, then lines, then `END`: `block` has the lines between, each with LF.
@@ -20,10 +21,11 @@ pub enum Message {
         set: Name,
         names: Listed<Name>,
     },
-    /// A word, the set, and what the word has beside: `PUT` a lot of collateral, its class, its value, and `same` or `other` for
-    /// its currency; `TAKE` a lot; `MARK` a lot and the value that it has from then on; `CLOSE` the number of a call, from 1;
-    /// `ASK` nothing; `CALL` the local time of a demand, `YYYY-MM-DDTHH:MM`. Behind all of it may stand `post`, where the set's
-    /// posted side is meant; without it the side that is collected is.
+    /// A word, the set, and what the word has beside: `PUT` a lot of collateral, its class, its
+    /// value, and `same` or `other` for its currency; `TAKE` a lot; `MARK` a lot and the value
+    /// that it has from then on; `CLOSE` the number of a call, from 1; `ASK` nothing; `CALL` the
+    /// local time of a demand, `YYYY-MM-DDTHH:MM`. Behind all of it may stand `post`, where the
+    /// set's posted side is meant; without it the side that is collected is.
     OnSide {
         set: Name,
         side: MarginSide,

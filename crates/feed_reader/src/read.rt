@@ -5,7 +5,8 @@ ghost use Rattle.mh_io.specs.Lined.{Lined, Gave, IsStopped};
 ghost use Rattle.feed_reader.specs.Feed.{Item};
 ghost use Rattle.feed_reader.specs.Line.{is_passed_over, meaning_of};
 ghost use Rattle.feed_reader.specs.Messages.{block_message};
-ghost use Rattle.feed_reader.specs.Answers.{TellsItems, Follows, Answers, StopsLines, IsPlaced, answer_at};
+ghost use Rattle.feed_reader.specs.Answers.{TellsItems, Follows, Answers, StopsLines, IsPlaced};
+ghost use Rattle.feed_reader.specs.Answers.{answer_at};
 ghost use Rattle.feed_reader.specs.Steps.{Tells, feed_fault};
 
 use crate::block::{read_block, skip_to_line};
@@ -17,8 +18,8 @@ use mh_io::{LineFault, LineStep, Lines, Source};
 use side_events::csa_terms::simm_kinds::Name;
 use std::alloc::Global;
 
-/// A line's fault as one of the feed: a long line is the one numbered `next`, and memory was wanted for the message that
-/// begins in the line `first`.
+/// A line's fault as one of the feed: a long line is the one numbered `next`, and memory was
+/// wanted for the message that begins in the line `first`.
 fn feed_fault(fault: LineFault, next: u32, first: u32) -> FeedFault
     ensures { result ≡ feed_fault fault next first }
 {
@@ -47,7 +48,8 @@ fn read_whole_block<S: Source>(
     kind: BlockKind,
     set: Name,
 ) -> Result<Option<Fed>, FeedFault>
-    ensures tells { (line : List ℕ) → is_passed_over line ≡ false → meaning_of line ≡ Meaning.Opens kind set → Tells S.seen lines.old lines.new line result }
+    ensures tells { (line : List ℕ) → is_passed_over line ≡ false
+        → meaning_of line ≡ Meaning.Opens kind set → Tells S.seen lines.old lines.new line result }
     ensures bounded { lines.new.passed + length lines.new.pending ≤ most_bytes + 1 }
 {
     let first = lines.given();
@@ -87,29 +89,34 @@ fn read_message<S: Source>(
 
 /// Gives the next message of a feed, or `None` where the input ended outside a block.
 ///
-/// Outside a block an empty line and one that begins with `#` is passed over. Every other line that is no message is
-/// `BadLine`. Lines are counted from 1.
+/// Outside a block an empty line and one that begins with `#` is passed over. Every other line
+/// that is no message is `BadLine`. Lines are counted from 1.
 ///
 /// # Errors
 ///
-/// `BadLine` ends only that message: the next call reads on with the next line. `Cut` exactly where the input ended inside
-/// a block; the next call answers `None`. `LineLong` and `TooLong` exactly as `mh_io::Lines` has them, after every message
-/// before. `ReadFault` only where the source's count of faults rose since these lines were made. After these three each
-/// further call answers the same. `Memory` for want of memory, in the message that begins in its line, or at its line, which
-/// would have been given next where no message had begun; the lines that this call was given aren't given again.
+/// `BadLine` ends only that message: the next call reads on with the next line. `Cut` exactly
+/// where the input ended inside a block; the next call answers `None`. `LineLong` and `TooLong`
+/// exactly as `mh_io::Lines` has them, after every message before. `ReadFault` only where the
+/// source's count of faults rose since these lines were made. After these three each further call
+/// answers the same. `Memory` for want of memory, in the message that begins in its line, or at
+/// its line, which would have been given next where no message had begun; the lines that this call
+/// was given aren't given again.
 pub fn next_message<S: Source>(
     alloc: Global,
     lines: &mut Lines<S>,
 ) -> Result<Option<Fed>, FeedFault>
     ensures answers { Answers S.seen lines.old lines.new result }
     // What this call and those before it told, from any of them on.
-    ensures follows { (first : Lined S) (told : List Item) → TellsItems S.seen first lines.old told → Follows S.seen first lines.new told result }
+    ensures follows { (first : Lined S) (told : List Item) → TellsItems S.seen first lines.old told
+        → Follows S.seen first lines.new told result }
     ensures stops { StopsLines result lines.new }
     ensures placed { IsPlaced result lines.old lines.new }
     // No more bytes were taken in all.
     ensures bounded { lines.new.passed + length lines.new.pending ≤ most_bytes + 1 }
-    // Where the lines stopped before, the answer is the one of the way in which they stopped, and nothing changes.
-    ensures again { (stop : Stop) → IsStopped lines.old stop → (lines.new ≡ lines.old) × (result ≡ answer_at lines.old.given stop) }
+    // Where the lines stopped before, the answer is the one of the way in which they stopped, and
+    // nothing changes.
+    ensures again { (stop : Stop) → IsStopped lines.old stop
+        → (lines.new ≡ lines.old) × (result ≡ answer_at lines.old.given stop) }
 {
     let mut line = Bytes::new(alloc);
     match skip_to_line(lines, &mut line) {

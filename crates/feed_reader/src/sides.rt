@@ -1,7 +1,8 @@
 //! The event of each word that asks for one beside the trades, from the fields behind the set.
 ghost use Rattle.std.specs.Prelude.{◌≡◌};
 ghost use Rattle.feed_reader.specs.Fields.{fields_left, Gives};
-ghost use Rattle.feed_reader.specs.Sides.{putting, taking, marking, closing, question, demand, by_side_word};
+ghost use Rattle.feed_reader.specs.Sides.{putting, taking, marking, closing};
+ghost use Rattle.feed_reader.specs.Sides.{question, demand, by_side_word};
 
 use crate::fields::Fields;
 use crate::unread::Unread;
@@ -11,7 +12,8 @@ use std::alloc::Global;
 
 #[tactic(auto, unfolding(crate::specs::Sides::putting))]
 fn read_put(alloc: Global, fields: &mut Fields<'_>) -> Result<SideEvent, Unread>
-    ensures { Gives (λ event. (event, fields_left fields.new)) result (putting (fields_left fields.old)) }
+    ensures { Gives (λ event. (event, fields_left fields.new)) result
+        (putting (fields_left fields.old)) }
 {
     let lot = fields.name(alloc)?;
     let class = fields.name(alloc)?;
@@ -27,7 +29,8 @@ fn read_put(alloc: Global, fields: &mut Fields<'_>) -> Result<SideEvent, Unread>
 
 #[tactic(auto, unfolding(crate::specs::Sides::taking))]
 fn read_take(alloc: Global, fields: &mut Fields<'_>) -> Result<SideEvent, Unread>
-    ensures { Gives (λ event. (event, fields_left fields.new)) result (taking (fields_left fields.old)) }
+    ensures { Gives (λ event. (event, fields_left fields.new)) result
+        (taking (fields_left fields.old)) }
 {
     let lot = fields.name(alloc)?;
     Ok(SideEvent::TakeLot { lot })
@@ -35,7 +38,8 @@ fn read_take(alloc: Global, fields: &mut Fields<'_>) -> Result<SideEvent, Unread
 
 #[tactic(auto, unfolding(crate::specs::Sides::marking))]
 fn read_mark(alloc: Global, fields: &mut Fields<'_>) -> Result<SideEvent, Unread>
-    ensures { Gives (λ event. (event, fields_left fields.new)) result (marking (fields_left fields.old)) }
+    ensures { Gives (λ event. (event, fields_left fields.new)) result
+        (marking (fields_left fields.old)) }
 {
     let lot = fields.name(alloc)?;
     let value = fields.cents()?;
@@ -44,7 +48,8 @@ fn read_mark(alloc: Global, fields: &mut Fields<'_>) -> Result<SideEvent, Unread
 
 #[tactic(auto, unfolding(crate::specs::Sides::closing))]
 fn read_close(fields: &mut Fields<'_>) -> Result<SideEvent, Unread>
-    ensures { Gives (λ event. (event, fields_left fields.new)) result (closing (fields_left fields.old)) }
+    ensures { Gives (λ event. (event, fields_left fields.new)) result
+        (closing (fields_left fields.old)) }
 {
     let number = fields.number()?;
     Ok(SideEvent::CloseCall { number })
@@ -52,7 +57,8 @@ fn read_close(fields: &mut Fields<'_>) -> Result<SideEvent, Unread>
 
 #[tactic(auto, unfolding(crate::specs::Sides::demand))]
 fn read_call(fields: &mut Fields<'_>) -> Result<SideEvent, Unread>
-    ensures { Gives (λ event. (event, fields_left fields.new)) result (demand (fields_left fields.old)) }
+    ensures { Gives (λ event. (event, fields_left fields.new)) result
+        (demand (fields_left fields.old)) }
 {
     let moment = fields.moment()?;
     Ok(SideEvent::AskCall { moment })
@@ -65,7 +71,8 @@ pub(crate) fn read_side(
     word: SideWord,
     fields: &mut Fields<'_>,
 ) -> Result<SideEvent, Unread>
-    ensures { Gives (λ event. (event, fields_left fields.new)) result (by_side_word word (fields_left fields.old)) }
+    ensures { Gives (λ event. (event, fields_left fields.new)) result
+        (by_side_word word (fields_left fields.old)) }
 {
     match word {
         SideWord::Put => read_put(alloc, fields),

@@ -18,7 +18,8 @@ pub fn cents_in(field: &[u8]) -> Option<i64>
     }
 }
 
-/// A number from 1 to 4,294,967,295 in decimal, without a sign or a leading zero; `None` of another text. It takes no memory.
+/// A number from 1 to 4,294,967,295 in decimal, without a sign or a leading zero; `None` of
+/// another text. It takes no memory.
 pub fn number_in(field: &[u8]) -> Option<u32>
     ensures { result ≡ number field.now }
 {

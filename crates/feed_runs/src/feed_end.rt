@@ -11,6 +11,7 @@ pub enum FeedEnd {
     TooLong { taken: u64 },
     /// It couldn't be read to its end.
     ReadFault,
-    /// Memory ran out in the message that begins in this line, or at this line, which would have been given next.
+    /// Memory ran out in the message that begins in this line, or at this line, which would have
+    /// been given next.
     Memory { line: u32 },
 }

@@ -1,4 +1,5 @@
-//! What runs of feeds of any kind have in common: the lines of their sources, the gate beside each call, and how a feed ends.
+//! What runs of feeds of any kind have in common: the lines of their sources, the gate beside each
+//! call, and how a feed ends.
 #![tactic(auto)]
 
 mod feed_end;

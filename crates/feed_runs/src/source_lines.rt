@@ -8,7 +8,8 @@ use mh_io::{Lines, MemoryBack, Source, lines_of};
 use std::alloc::Global;
 use std::collections::VecDeque;
 
-/// The lines of each source, of which nothing was taken yet. For want of memory the sources come back.
+/// The lines of each source, of which nothing was taken yet. For want of memory the sources
+/// come back.
 pub fn lines_of_all<S: Source>(
     alloc: Global,
     sources: Vec<S>,

@@ -10,19 +10,23 @@ ghost use Rattle.feed_reader.specs.declared.message.Message.{Message};
 ghost use Rattle.feed_writer.specs.Conditions.{IsBlock, CanWrite, IsWritable};
 ghost use Rattle.feed_writer.specs.ReadsBack.{ReadsBack};
 
-/// Each message of a feed that is written is read, wherever it stands in a feed, as just that message.
+/// Each message of a feed that is written is read, wherever it stands in a feed, as just
+/// that message.
 pub fn messages_read_back()
     ensures { (m : Message) → CanWrite m → ReadsBack m }
 {}
 
 /// The text of each batch is a block that can be written.
 pub fn batches_are_blocks()
-    ensures { (trades : List TradeRows) → IsBatch trades → AllByRecursion HasTradeParts trades → IsBlock (batch_text trades) }
+    ensures { (trades : List TradeRows) → IsBatch trades → AllByRecursion HasTradeParts trades
+        → IsBlock (batch_text trades) }
 {}
 
-/// Each message that a feed gives can be written, also one of the first lines of a feed alone, as where it breaks off.
+/// Each message that a feed gives can be written, also one of the first lines of a feed alone, as
+/// where it breaks off.
 pub fn given_messages_can_be_written()
-    ensures feeds { (taken : List ℕ) (ended : Bool) → AllByRecursion IsWritable (feed taken ended).items }
+    ensures feeds { (taken : List ℕ) (ended : Bool)
+        → AllByRecursion IsWritable (feed taken ended).items }
     ensures fronts { (taken : List ℕ) (ended : Bool) (before behind : List (List ℕ)) →
         (lines taken ended).lines ≡ before ++ behind →
         AllByRecursion IsWritable (items_of 1 0 before Whole).items }

@@ -1,4 +1,5 @@
-//! Writes the messages of a feed, each as the lines that its grammar reads back as just that message.
+//! Writes the messages of a feed, each as the lines that its grammar reads back as just
+//! that message.
 #![tactic(auto)]
 
 mod fields;

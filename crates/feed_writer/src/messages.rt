@@ -44,7 +44,8 @@ pub fn push_submit(
     set: &Name,
     batch: &Batch,
 ) -> Result<(), AllocError>
-    ensures text { OnOk result (text.new ≡ text.old ++ message_text (message.Crif set.now (batch_text batch.now))) }
+    ensures text { OnOk result
+        (text.new ≡ text.old ++ message_text (message.Crif set.now (batch_text batch.now))) }
     ensures block { OnOk result (IsBlock (batch_text batch.now)) }
 {
     let _trades = batch.trades();
@@ -52,7 +53,8 @@ pub fn push_submit(
     push_crif(text, set, block.as_slice())
 }
 
-/// Adds the block of a parameter file for a set: `TABLES` and the set, the lines of the file, and `END`.
+/// Adds the block of a parameter file for a set: `TABLES` and the set, the lines of the file,
+/// and `END`.
 ///
 /// # Errors
 ///
@@ -79,7 +81,8 @@ fn push_names(text: &mut Text, names: &[Name]) -> Result<(), AllocError>
 ///
 /// For want of memory alone; a front of the line may have been added then.
 pub fn push_withdrawal(text: &mut Text, set: &Name, names: &[Name]) -> Result<(), AllocError>
-    ensures { OnOk result (text.new ≡ text.old ++ message_text (message.Withdraw set.now names.now)) }
+    ensures { OnOk result
+        (text.new ≡ text.old ++ message_text (message.Withdraw set.now names.now)) }
 {
     push_start(text, b"WITHDRAW", set)?;
     push_names(text, names)?;

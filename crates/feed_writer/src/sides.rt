@@ -2,7 +2,8 @@
 ghost use Rattle.std.specs.Prelude.{◌≡◌, ◌++◌, flat_map, OnOk};
 ghost use Rattle.feed_reader.specs.SideEvents.declared.side_event.SideEvent.TheVariants as side;
 ghost use Rattle.feed_reader.specs.declared.message.Message.TheVariants as message;
-ghost use Rattle.feed_writer.specs.Messages.{next_field, line_of, side_fields, last_fields, message_text};
+ghost use Rattle.feed_writer.specs.Messages.{next_field, line_of, side_fields};
+ghost use Rattle.feed_writer.specs.Messages.{last_fields, message_text};
 
 use crate::fields::{push_amount, push_currency, push_next, push_number, push_start, push_time};
 use feed_reader::csa_terms::LotCurrency;
@@ -20,7 +21,8 @@ fn push_put(
     value: i64,
     currency: LotCurrency,
 ) -> Result<(), AllocError>
-    ensures { OnOk result (text.new ≡ text.old ++ line_of (side_fields set.now (side.PutLot lot.now class.now value currency))) }
+    ensures { OnOk result (text.new ≡ text.old
+        ++ line_of (side_fields set.now (side.PutLot lot.now class.now value currency))) }
 {
     push_start(text, b"PUT", set)?;
     push_next(text, lot.bytes())?;
@@ -31,7 +33,8 @@ fn push_put(
 
 /// Adds the fields of a lot that is taken.
 fn push_take(text: &mut Text, set: &Name, lot: &Name) -> Result<(), AllocError>
-    ensures { OnOk result (text.new ≡ text.old ++ line_of (side_fields set.now (side.TakeLot lot.now))) }
+    ensures { OnOk result
+        (text.new ≡ text.old ++ line_of (side_fields set.now (side.TakeLot lot.now))) }
 {
     push_start(text, b"TAKE", set)?;
     push_next(text, lot.bytes())
@@ -39,7 +42,8 @@ fn push_take(text: &mut Text, set: &Name, lot: &Name) -> Result<(), AllocError>
 
 /// Adds the fields of a lot's mark.
 fn push_mark(text: &mut Text, set: &Name, lot: &Name, value: i64) -> Result<(), AllocError>
-    ensures { OnOk result (text.new ≡ text.old ++ line_of (side_fields set.now (side.MarkLot lot.now value))) }
+    ensures { OnOk result
+        (text.new ≡ text.old ++ line_of (side_fields set.now (side.MarkLot lot.now value))) }
 {
     push_start(text, b"MARK", set)?;
     push_next(text, lot.bytes())?;
@@ -92,7 +96,8 @@ pub fn push_on_side(
     side: MarginSide,
     event: &SideEvent,
 ) -> Result<(), AllocError>
-    ensures { OnOk result (text.new ≡ text.old ++ message_text (message.OnSide set.now side event.now)) }
+    ensures { OnOk result
+        (text.new ≡ text.old ++ message_text (message.OnSide set.now side event.now)) }
 {
     push_side(text, set, event)?;
     push_last(text, side)?;

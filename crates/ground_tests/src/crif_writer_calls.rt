@@ -2,14 +2,16 @@ use crate::makers::{is_rewritten, trade, written};
 use crif_writer::simm_kinds::{Batch, Listed};
 use std::process::Abort;
 
-/// A batch as it is written: the name of one of its two trades has a quote, which csv doubles between quotes.
+/// A batch as it is written: the name of one of its two trades has a quote, which csv doubles
+/// between quotes.
 const TEXT: &[u8] =
     b"TradeID\tProductClass\tRiskType\tQualifier\tBucket\tLabel1\tLabel2\tAmount\tAmountCurrency\tAmountUSD\n\
 \"the \"\"first\"\"\"\tRatesFX\tRisk_FX\tEUR\t\t\t\t1000.00\tUSD\t1000.00\n\
 \"the \"\"first\"\"\"\tRatesFX\tRisk_FX\tEUR\t\t\t\t1000.00\tUSD\t1000.00\n\
 a, b\tRatesFX\tRisk_FX\tJPY\t\t\t\t-0.05\tUSD\t-0.05\n";
 
-/// The trades of the text: the name, the currency, the cents of each row, and how many rows there are.
+/// The trades of the text: the name, the currency, the cents of each row, and how many rows
+/// there are.
 static TRADES: [(&str, &str, i64, usize); 2] = [
     ("the \"first\"", "EUR", 100_000, 2),
     ("a, b", "JPY", -5, 1),

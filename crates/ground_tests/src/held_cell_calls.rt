@@ -115,11 +115,13 @@ fn a_taken_cell_is_busy(rt: HostRuntime) -> Result<(), Fail> {
         &rt,
         || -> Caller
             requires { IsSeatOf cell first }
-            ensures { IsSeatOf cell result × (result.first ≡ first.first) × (result.count ≡ first.count) }
+            ensures { IsSeatOf cell result × (result.first ≡ first.first)
+                × (result.count ≡ first.count) }
         { call_once(&rt, &cell, first) },
         || -> Caller
             requires { IsSeatOf cell second }
-            ensures { IsSeatOf cell result × (result.first ≡ second.first) × (result.count ≡ second.count) }
+            ensures { IsSeatOf cell result × (result.first ≡ second.first)
+                × (result.count ≡ second.count) }
         { try_beside(&rt, &gate, &cell, second) },
     );
     match cell.try_call(&mut second, 5) {
@@ -169,17 +171,20 @@ fn call_by_each<R: Threads + Wait + Abort + Sync>(
         rt,
         || -> Caller
             requires { IsSync R.row × IsSeatOf cell.now left × (left.count ≡ half) × (0 < half) }
-            ensures { IsSeatOf cell.entry.now result × (result.first ≡ left.first) × (result.count ≡ left.count) }
+            ensures { IsSeatOf cell.entry.now result × (result.first ≡ left.first)
+                × (result.count ≡ left.count) }
         { call_by_each(rt, cell, left, half) },
         || -> Caller
             requires { IsSync R.row × IsSeatOf cell.now right × (right.count ≡ rest) × (0 < rest) }
-            ensures { IsSeatOf cell.entry.now result × (result.first ≡ right.first) × (result.count ≡ right.count) }
+            ensures { IsSeatOf cell.entry.now result × (result.first ≡ right.first)
+                × (result.count ≡ right.count) }
         { call_by_each(rt, cell, right, rest) },
     );
     cell.join(left, right)
 }
 
-/// Whether a journal has the events 0 to 999 of each of eight callers, each caller's in order, and no other.
+/// Whether a journal has the events 0 to 999 of each of eight callers, each caller's in order, and
+/// no other.
 fn has_each_call_once(calls: &[Entry<u32, u64>]) -> bool {
     let mut next = [0u32; 8];
     for entry in calls {

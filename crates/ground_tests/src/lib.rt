@@ -1,6 +1,6 @@
-//! Tests of the libraries that know nothing of parameters and terms, over calls that no command reaches: the shared cell and its
-//! seats, the shared total, the writer of batches, files that are written, a source that is handed back, an amount as a text of
-//! its own.
+//! Tests of the libraries that know nothing of parameters and terms, over calls that no command
+//! reaches: the shared cell and its seats, the shared total, the writer of batches, files that are
+//! written, a source that is handed back, an amount as a text of its own.
 #![tactic(auto)]
 
 #[cfg(test)]

@@ -1,5 +1,6 @@
 //! A machine that multiplies.
-ghost use Rattle.std.specs.Prelude.{◌≡◌, ◌+◌, ◌*◌, ◌<◌, ◌≤◌, ◌⊎◌, length, sum_by, All, IsTrue, ◌↔◌, vec_len, IfErr, IfOk, OnOk, OnErr, [], ◌∷◌, ◌++◌};
+ghost use Rattle.std.specs.Prelude.{◌≡◌, ◌+◌, ◌*◌, ◌<◌, ◌≤◌, ◌⊎◌, length, sum_by, All, IsTrue};
+ghost use Rattle.std.specs.Prelude.{◌↔◌, vec_len, IfErr, IfOk, OnOk, OnErr, [], ◌∷◌, ◌++◌};
 ghost use Rattle.std.proofs.lemmas.List.Elements.{All-nil};
 
 use held_cell::{Entry, Halt, Machine};
@@ -73,7 +74,8 @@ impl Multiplier {
     }
 
     fn is_full(&self, event: u32) -> bool
-        ensures { IsTrue result ↔ ((60000 ≤ vec_len self.now.calls) ⊎ (100000000 < self.now.weight + event)) }
+        ensures { IsTrue result
+            ↔ ((60000 ≤ vec_len self.now.calls) ⊎ (100000000 < self.now.weight + event)) }
     {
         self.calls.len() >= ENTRIES as usize || event > WEIGHT - self.weight
     }
@@ -92,7 +94,8 @@ impl Machine for Multiplier {
 
     ghost weight = { λ log. sum_by (λ e. e.event) log };
 
-    ghost is_full = { λ log event. (60000 ≤ length log) ⊎ (100000000 < sum_by (λ e. e.event) log + event) };
+    ghost is_full = { λ log event. (60000 ≤ length log)
+        ⊎ (100000000 < sum_by (λ e. e.event) log + event) };
 
     ghost is_legal = { λ rate log. All (λ e. e.reply ≡ rate * e.event) log };
 

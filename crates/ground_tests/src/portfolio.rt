@@ -1,7 +1,8 @@
 //! A portfolio with a record or more of each risk type, read and written back.
 use crate::makers::is_rewritten;
 
-/// 38 records as a dealer sends them: more columns, in other words and cases. Three are passed over.
+/// 38 records as a dealer sends them: more columns, in other words and cases. Three are
+/// passed over.
 const SENT: &[u8] =
     b"TradeID\tPortfolioID\tproductclass\tRisk_Type\tQualifier\tBucket\tLabel1\tLabel2\tAmount\tAmountCurrency\tAmountUSD\tIMModel\tvaluation_date\n\
 R1\tP1\tRatesFX\tRisk_IRCurve\tEUR\t1\t10Y\tOIS\t6.00\tUSD\t6.00\tSIMM\t2024-03-01\n\
@@ -43,7 +44,8 @@ R1\tP1\tRatesFX\tPV\t\t\t\t\t12.00\tUSD\t12.00\tSIMM\t2024-03-01\n\
 S1\tP1\tRates\tNotional\t\t\t\t\t5000.00\tUSD\t5000.00\tSchedule\t2024-03-01\n\
 S1\tP1\tRates\tPV\t\t\t\t\t9.00\tUSD\t9.00\tSchedule\t2024-03-01\n";
 
-/// Its 35 rows as they are written: gathered by their 16 trades, each in its standard words, in USD.
+/// Its 35 rows as they are written: gathered by their 16 trades, each in its standard words,
+/// in USD.
 const WRITTEN: &[u8] =
     b"TradeID\tProductClass\tRiskType\tQualifier\tBucket\tLabel1\tLabel2\tAmount\tAmountCurrency\tAmountUSD\n\
 R1\tRatesFX\tRisk_IRCurve\tEUR\t\t10y\tOIS\t6.00\tUSD\t6.00\n\

@@ -17,8 +17,8 @@ const TRIES: u32 = 2;
 // How long it then sleeps, in milliseconds, if nobody wakes it.
 const SLEEP: u64 = 2;
 
-// Of so many calls that are made while callers sleep one wakes one of them. A caller that is woken at each call finds the cell taken
-// again by the one that woke it, where that one goes on calling.
+// Of so many calls that are made while callers sleep one wakes one of them. A caller that is woken
+// at each call finds the cell taken again by the one that woke it, where that one goes on calling.
 const CALLS: u64 = 64;
 
 // Where the count of tries stands still, past the first sleep.
@@ -48,9 +48,10 @@ fn outcome<M: Machine>(answer: Result<M::Reply, Halt<M::Event>>, entries: u32) -
 }
 
 impl<M: Machine> HeldCell<M> {
-    /// One call in the name of the seat's first caller, if nobody has the machine. It waits for nobody: it loads the word
-    /// once, and exchanges it at most once. At `Busy` it never had the machine, and nothing has changed but the seat's
-    /// counts and words. Else it is as [`HeldCell::call`].
+    /// One call in the name of the seat's first caller, if nobody has the machine. It waits
+    /// for nobody: it loads the word once, and exchanges it at most once. At `Busy` it never
+    /// had the machine, and nothing has changed but the seat's counts and words. Else it is
+    /// as [`HeldCell::call`].
     pub fn try_call(&self, seat: &mut Seat<M>, event: M::Event) -> TryOutcome<M>
         requires { IsSeatOf self.now seat.old }
         ensures legal { M.is_legal self.now.base seat.new.seen }
@@ -79,12 +80,13 @@ impl<M: Machine> HeldCell<M> {
         TryOutcome::Did(outcome(answer, entries))
     }
 
-    /// One call in the name of the seat's first caller. It waits while others have the machine, and nothing says that it
-    /// ever gets it.
+    /// One call in the name of the seat's first caller. It waits while others have the machine,
+    /// and nothing says that it ever gets it.
     ///
-    /// At `Done` the seat has seen more: all that it had seen, and then what others did, and then this call, which is one
-    /// more of its own. At `Full` and `Memory` it may have seen more of others, its own stand, and the event comes back;
-    /// `Full` comes by the limit of the journal that it has now seen, and `Memory` where that journal had room.
+    /// At `Done` the seat has seen more: all that it had seen, and then what others did, and then
+    /// this call, which is one more of its own. At `Full` and `Memory` it may have seen more of
+    /// others, its own stand, and the event comes back; `Full` comes by the limit of the journal
+    /// that it has now seen, and `Memory` where that journal had room.
     pub fn call(&self, rt: &impl Wait, seat: &mut Seat<M>, event: M::Event) -> Outcome<M>
         requires { IsSeatOf self.now seat.old }
         ensures legal { M.is_legal self.now.base seat.new.seen }
@@ -111,9 +113,10 @@ impl<M: Machine> HeldCell<M> {
         unreachable!()
     }
 
-    // Wakes a caller that sleeps, if there is one, at the first call since one went to sleep, and then at every 64th. A caller
-    // that goes to sleep counts itself first, and this reads the count after the machine went home: so it sees the caller, or the
-    // caller sees that the word has changed.
+    // Wakes a caller that sleeps, if there is one, at the first call since one went to sleep, and
+    // then at every 64th. A caller that goes to sleep counts itself first, and this reads the
+    // count after the machine went home: so it sees the caller, or the caller sees that the word
+    // has changed.
     fn wake_sleeper(&self) {
         if self.sleepers.load(Ordering::SeqCst) > 0
             && self.passed.fetch_add(1, Ordering::SeqCst) % CALLS == 0
@@ -122,7 +125,8 @@ impl<M: Machine> HeldCell<M> {
         }
     }
 
-    // Lets other threads run, and after some tries sleeps while the word is as it was found, until it is woken.
+    // Lets other threads run, and after some tries sleeps while the word is as it was found, until
+    // it is woken.
     fn back_off(&self, rt: &impl Wait, found: u64, tries: u32) {
         if found % 2 == 0 || tries < TRIES {
             thread::yield_now();

@@ -29,15 +29,17 @@ impl<M: Machine> TableRule<Option<M>, View<M::Base, M::Event, M::Reply>, Start<M
     ghost use Rattle.held_cell.specs.Rule.{IsKept};
     ghost use Rattle.held_cell.specs.Views.{opened};
 
-    ghost holds = { λ start. IsKept M.base M.journal M.is_legal (M.base start.machine.value) start.callers };
+    ghost holds = { λ start.
+        IsKept M.base M.journal M.is_legal (M.base start.machine.value) start.callers };
 
     ghost first = { λ start. opened (M.base start.machine.value) start.callers };
 }
 
 /// A machine that threads share. One caller has it at a time.
 ///
-/// Its word is twice the length of the journal, and one more while a caller has the machine. Contracts see which cell it
-/// is, the base of its machine and the number of its callers; what it holds at a moment no contract can say.
+/// Its word is twice the length of the journal, and one more while a caller has the machine.
+/// Contracts see which cell it is, the base of its machine and the number of its callers; what it
+/// holds at a moment no contract can say.
 #[derive(Drop)]
 pub struct HeldCell<M: Machine> {
     pub(crate) table: Table<
@@ -59,14 +61,16 @@ impl<M: Machine> Model for HeldCell<M> {
 
     ghost Value = { CellState M.Base };
 
-    ghost view = { λ c. cell_state c.table.shared.table_id (M.base c.table.shared.key.machine.value) c.table.shared.key.callers };
+    ghost view = { λ c. cell_state c.table.shared.table_id
+        (M.base c.table.shared.key.machine.value) c.table.shared.key.callers };
 
-    ghost invariant = { λ c. (c.table.shared.table_id.words ≡ 1) × (c.table.shared.table_id.slots ≡ 1) };
+    ghost invariant = { λ c. (c.table.shared.table_id.words ≡ 1)
+        × (c.table.shared.table_id.slots ≡ 1) };
 }
 
 impl<M: Machine> HeldCell<M> {
-    /// A cell for callers 0 to `callers - 1`, of which there are 1 to 1,024, and the seat that has them all.
-    /// Without memory the machine is dropped.
+    /// A cell for callers 0 to `callers - 1`, of which there are 1 to 1,024, and the seat that has
+    /// them all. Without memory the machine is dropped.
     pub fn start(
         alloc: Global,
         machine: M,
@@ -77,7 +81,8 @@ impl<M: Machine> HeldCell<M> {
         requires empty { M.journal machine ≡ [] }
         requires callers { (1 ≤ callers) × (callers ≤ 1024) }
         ensures cell { IfOk result (λ r. (r.0.base ≡ M.base machine) × (r.0.callers ≡ callers)) }
-        ensures seat { IfOk result (λ r. IsSeatOf r.0 r.1 × (r.1.first ≡ 0) × (r.1.count ≡ callers) × (r.1.seen ≡ []) × (r.1.own ≡ [])) }
+        ensures seat { IfOk result (λ r. IsSeatOf r.0 r.1 × (r.1.first ≡ 0) × (r.1.count ≡ callers)
+            × (r.1.seen ≡ []) × (r.1.own ≡ [])) }
         ensures own { IfOk result (λ r. HasOwn r.1) }
     {
         let start = Start {
@@ -104,8 +109,8 @@ impl<M: Machine> HeldCell<M> {
         }
     }
 
-    /// Takes the machine out, by the seat that has all callers. Its base is the one that the cell was started with, and its
-    /// journal is all that the seat has seen. It takes no memory.
+    /// Takes the machine out, by the seat that has all callers. Its base is the one that the cell
+    /// was started with, and its journal is all that the seat has seen. It takes no memory.
     pub fn close(self, seat: Seat<M>) -> M
         requires seat { IsSeatOf self seat }
         requires all { seat.count ≡ self.callers }

@@ -1,4 +1,5 @@
-/// One call in a journal: who made it, with what, and what it was answered. The cell stores none of them.
+/// One call in a journal: who made it, with what, and what it was answered. The cell stores none
+/// of them.
 #[derive(Drop)]
 pub struct Entry<E, R> {
     /// The number of the caller.

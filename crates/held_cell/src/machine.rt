@@ -43,8 +43,10 @@ pub trait Machine {
     /// Takes one event and adds it to the journal with the reply, or halts and stays as it was.
     fn step(&mut self, caller: u32, event: Self::Event) -> Result<Self::Reply, Halt<Self::Event>>
         ensures base { base self.new ≡ base self.old }
-        ensures legal { is_legal (base self.old) (journal self.old) → is_legal (base self.old) (journal self.new) }
-        ensures done { IfOk result (λ reply. journal self.new ≡ journal self.old ++ entry caller event reply ∷ []) }
+        ensures legal { is_legal (base self.old) (journal self.old)
+            → is_legal (base self.old) (journal self.new) }
+        ensures done { IfOk result (λ reply.
+            journal self.new ≡ journal self.old ++ entry caller event reply ∷ []) }
         ensures room { OnOk result (¬ is_full (journal self.old) event) }
         ensures unchanged { OnErr result (journal self.new ≡ journal self.old) }
         ensures halt { IfErr result (Explains weight is_full (journal self.old) event) };
@@ -78,8 +80,8 @@ pub enum Outcome<M: Machine> {
 pub enum TryOutcome<M: Machine> {
     /// The machine was free, and this is what the call was answered.
     Did(Outcome<M>),
-    /// Another caller had the machine: the word that was loaded was odd, and then `found` is that word; or it was
-    /// even, and the exchange found another. The event comes back.
+    /// Another caller had the machine: the word that was loaded was odd, and then `found` is that
+    /// word; or it was even, and the exchange found another. The event comes back.
     Busy {
         loaded: u64,
         found: u64,

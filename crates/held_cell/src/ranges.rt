@@ -45,8 +45,8 @@ impl<B, E, R> Join<View<B, E, R>> for SideBySide {
 }
 
 impl<M: Machine> HeldCell<M> {
-    /// Two seats of one: the first has the first `left` callers, and the second the others. Each has seen what the one had,
-    /// and has its own callers' entries of it. It takes no memory.
+    /// Two seats of one: the first has the first `left` callers, and the second the others. Each
+    /// has seen what the one had, and has its own callers' entries of it. It takes no memory.
     pub fn split(&self, seat: Seat<M>, left: u32) -> (Seat<M>, Seat<M>)
         requires seat { IsSeatOf self.now seat }
         requires some { (0 < left) × (left < seat.count) }
@@ -89,9 +89,9 @@ impl<M: Machine> HeldCell<M> {
         )
     }
 
-    /// One seat of two, where the callers of the second follow those of the first. Of what the two had seen, the shorter
-    /// begins the longer, which is what it has seen; each caller's entries in that are those that its seat had.
-    /// It takes no memory.
+    /// One seat of two, where the callers of the second follow those of the first. Of what the two
+    /// had seen, the shorter begins the longer, which is what it has seen; each caller's entries
+    /// in that are those that its seat had. It takes no memory.
     pub fn join(&self, left: Seat<M>, right: Seat<M>) -> Seat<M>
         requires seats { IsSeatOf self.now left × IsSeatOf self.now right }
         requires beside { left.first + left.count ≡ right.first }

@@ -5,11 +5,12 @@ use crate::machine::Machine;
 use crate::view::Pass;
 use std::marker::Model;
 
-/// Some callers of a cell, `count` of them from number `first` on. Calls are made in the name of the first.
+/// Some callers of a cell, `count` of them from number `first` on. Calls are made in the name of
+/// the first.
 ///
-/// Contracts see what it has seen, which is a beginning of the cell's journal; its own, which are all entries of that
-/// whose caller is one of its callers; and a count of its steps. A seat that is dropped takes its callers with it, and the
-/// cell can then be dropped, but not closed.
+/// Contracts see what it has seen, which is a beginning of the cell's journal; its own, which are
+/// all entries of that whose caller is one of its callers; and a count of its steps. A seat that
+/// is dropped takes its callers with it, and the cell can then be dropped, but not closed.
 #[derive(Drop)]
 pub struct Seat<M: Machine> {
     pub(crate) first: u32,
@@ -32,7 +33,8 @@ impl<M: Machine> Seat<M> {
     /// How many entries this seat has seen. It takes no step, and so sees no more.
     pub fn seen_len(&self) -> u32
         ensures length { result ≡ length self.now.seen }
-        ensures legal { (base : M.Base) → self.now.base ≡ Some base → M.is_legal base self.now.seen }
+        ensures legal { (base : M.Base) → self.now.base ≡ Some base
+            → M.is_legal base self.now.seen }
         ensures own { HasOwn self.now }
     {
         self.seen_len

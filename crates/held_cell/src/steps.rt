@@ -1,5 +1,7 @@
-//! The single steps of a seat on the word and the slot of its cell. What each tells is an equation on the seat's view.
-ghost use Rattle.std.specs.Prelude.{◌≡◌, ◌*◌, ◌%◌, ◌<◌, ◌==◌, ◌∷◌, [], length, false, MatchBool, Some, None, OnOk, IfErr};
+//! The single steps of a seat on the word and the slot of its cell. What each tells is an equation
+//! on the seat's view.
+ghost use Rattle.std.specs.Prelude.{◌≡◌, ◌*◌, ◌%◌, ◌<◌, ◌==◌, ◌∷◌, [], length, false};
+ghost use Rattle.std.specs.Prelude.{MatchBool, Some, None, OnOk, IfErr};
 ghost use Rattle.held_cell.specs.Views.{given, missed};
 ghost use Rattle.held_cell.specs.Rule.{Looks, Takes};
 ghost use Rattle.held_cell.specs.Seats.{IsHolding, IsOut};
@@ -50,10 +52,13 @@ impl<M: Machine> HeldCell<M> {
     // Takes the word if it is still the one that was loaded, and answers the word that it found.
     pub(crate) fn take(&self, pass: &mut Pass<M>, loaded: u64) -> u64
         requires table { pass.old.table_id ≡ self.now.table }
-        requires rests { (pass.old.me.1 ≡ []) × (pass.old.me.0.holding ≡ false) × (0 < pass.old.me.0.count) }
+        requires rests { (pass.old.me.1 ≡ []) × (pass.old.me.0.holding ≡ false)
+            × (0 < pass.old.me.0.count) }
         requires even { loaded % 2 ≡ 0 }
         ensures table { pass.new.table_id ≡ pass.old.table_id }
-        ensures tries { MatchBool (result == loaded) (Takes M.base M.journal M.is_legal pass.old.me.0 result pass.new.me) (pass.new.me ≡ (missed pass.old.me.0 result, pass.old.me.1)) }
+        ensures tries { MatchBool (result == loaded)
+            (Takes M.base M.journal M.is_legal pass.old.me.0 result pass.new.me)
+            (pass.new.me ≡ (missed pass.old.me.0 result, pass.old.me.1)) }
     {
         self.table
             .shared
@@ -99,9 +104,11 @@ impl<M: Machine> HeldCell<M> {
         requires holding { IsHolding M.is_legal M.base M.journal pass.old.me }
         requires caller { caller ≡ pass.old.me.0.first }
         ensures table { pass.new.table_id ≡ pass.old.table_id }
-        ensures pass { pass.new.me ≡ (given pass.old.me.0 (log_after pass.old.me.0.seen caller event result.0), []) }
+        ensures pass { pass.new.me
+            ≡ (given pass.old.me.0 (log_after pass.old.me.0.seen caller event result.0), []) }
         ensures entries { result.1 ≡ length pass.new.me.0.seen }
-        ensures legal { (base : M.Base) → pass.new.me.0.base ≡ Some base → M.is_legal base pass.new.me.0.seen }
+        ensures legal { (base : M.Base) → pass.new.me.0.base ≡ Some base
+            → M.is_legal base pass.new.me.0.seen }
         ensures room { OnOk result.0 (¬ M.is_full pass.old.me.0.seen event) }
         ensures halt { IfErr result.0 (Explains M.weight M.is_full pass.old.me.0.seen event) }
     {

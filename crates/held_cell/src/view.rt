@@ -14,7 +14,8 @@ pub struct Part<E, R> {
 
 /// What a seat knows and has done, for proofs alone. No value of it is made.
 pub struct View<B, E, R> {
-    /// The base of the machine that the cell was started with. A seat that went into another has none.
+    /// The base of the machine that the cell was started with. A seat that went into another
+    /// has none.
     pub base: Option<B>,
     /// Its first caller.
     pub first: u32,

@@ -1,8 +1,10 @@
-//! Cases with directives: a command, and above it the lines that begin with `! `, which say what it runs over and into.
+//! Cases with directives: a command, and above it the lines that begin with `! `, which say what
+//! it runs over and into.
 use anyhow::{Context, Result, bail};
 use std::alloc::Global;
 
-/// How a directive begins. Behind a colon stand numbers; for N its range, and for a file how often it has which others.
+/// How a directive begins. Behind a colon stand numbers; for N its range, and for a file how often
+/// it has which others.
 const FORMS: [&str; 18] = [
     "N: ",
     "any order",
@@ -24,8 +26,8 @@ const FORMS: [&str; 18] = [
     "reads of ",
 ];
 
-/// A command with its directives, and the number that the letter N stands for in them. Where it stands for none, a
-/// directive with an N says nothing.
+/// A command with its directives, and the number that the letter N stands for in them. Where it
+/// stands for none, a directive with an N says nothing.
 #[derive(Clone, Copy)]
 pub struct Case<'a> {
     pub command: &'a str,

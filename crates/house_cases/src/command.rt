@@ -10,8 +10,8 @@ use std::alloc::{AllocError, Global};
 use std::sync::Wait;
 use std::thread::Threads;
 
-/// The words of a command: a line's pieces between single spaces, so that two spaces have an empty word between them. An
-/// empty line has none.
+/// The words of a command: a line's pieces between single spaces, so that two spaces have an empty
+/// word between them. An empty line has none.
 fn words_of(alloc: Global, line: &str) -> Result<Vec<String>, AllocError> {
     let mut words = Vec::new(alloc);
     if line.is_empty() {
@@ -23,7 +23,8 @@ fn words_of(alloc: Global, line: &str) -> Result<Vec<String>, AllocError> {
     Ok(words)
 }
 
-/// Runs a command. The proofs of the tests have no use for what the house promises, so it ends here.
+/// Runs a command. The proofs of the tests have no use for what the house promises, so it
+/// ends here.
 fn run_words<R: Threads + Wait + Sync, F: Folder, G: Gate>(
     rt: &R,
     alloc: Global,
@@ -39,7 +40,8 @@ fn run_words<R: Threads + Wait + Sync, F: Folder, G: Gate>(
     margin_house(rt, alloc, words, folder, out, desks, retired, gate)
 }
 
-/// Runs the command of a line over a folder, into a sink, with desks and a gate. The only error is want of memory.
+/// Runs the command of a line over a folder, into a sink, with desks and a gate. The only error is
+/// want of memory.
 pub fn run_line<R: Threads + Wait + Sync, F: Folder, G: Gate>(
     rt: &R,
     alloc: Global,
@@ -56,7 +58,8 @@ pub fn run_line<R: Threads + Wait + Sync, F: Folder, G: Gate>(
     Ok(run_words(rt, alloc, &words, folder, out, desks, retired, gate))
 }
 
-/// Adds the lines of the notices that a desk was told; of one that doesn't lend them how many it was told.
+/// Adds the lines of the notices that a desk was told; of one that doesn't lend them how many it
+/// was told.
 pub fn push_told(text: &mut Text, desk: &Box<dyn Desk>) -> Result<(), AllocError> {
     match desk.told_list() {
         Some(told) => {

@@ -1,4 +1,5 @@
-//! Commands with directives: each is run once, and again for each number that their N stands for, over files in memory.
+//! Commands with directives: each is run once, and again for each number that their N stands for,
+//! over files in memory.
 use crate::cases::Case;
 use crate::command::{push_told, run_line};
 use crate::ordered::InOrder;
@@ -16,7 +17,8 @@ use std::str;
 use std::sync::Wait;
 use std::thread::Threads;
 
-/// How a command ended, what it printed, and what desks it left and retired, with the notices that each was told.
+/// How a command ended, what it printed, and what desks it left and retired, with the notices that
+/// each was told.
 #[derive(Drop)]
 pub struct Outcome {
     pub status: Status,
@@ -87,8 +89,8 @@ fn run_told<R: Threads + Wait + Sync>(
     Ok(status)
 }
 
-/// Runs the command of a case over a folder and into a sink, with a desk for each directive of one, and its calls in an
-/// order.
+/// Runs the command of a case over a folder and into a sink, with a desk for each directive of
+/// one, and its calls in an order.
 fn run_over<R: Threads + Wait + Sync>(
     threads: &R,
     alloc: Global,
@@ -164,7 +166,8 @@ pub fn write_outcome<W: Write>(out: &mut W, outcome: &Outcome) -> io::Result<()>
     out.write_all(outcome.told.as_slice())
 }
 
-/// Runs the command of a case for each number from the first to the last, and writes what came of it beside the plain run.
+/// Runs the command of a case for each number from the first to the last, and writes what came of
+/// it beside the plain run.
 fn run_range<R: Threads + Wait + Sync, W: Write>(
     threads: &R,
     rt: HostRuntime,
@@ -185,8 +188,8 @@ fn run_range<R: Threads + Wait + Sync, W: Write>(
     Ok(())
 }
 
-/// Runs the command of a case for each number from the first to the last, and writes what came of it whole, once for those
-/// that follow one another where the same came.
+/// Runs the command of a case for each number from the first to the last, and writes what came of
+/// it whole, once for those that follow one another where the same came.
 fn run_range_in_full<R: Threads + Wait + Sync, W: Write>(
     threads: &R,
     rt: HostRuntime,
@@ -219,8 +222,8 @@ fn callers(alloc: Global, text: &[u8]) -> Result<Vec<u64>> {
     Ok(callers)
 }
 
-/// Runs the command of a case, whose calls come in any order, and again with its calls in that order, and writes whether
-/// the same came.
+/// Runs the command of a case, whose calls come in any order, and again with its calls in that
+/// order, and writes whether the same came.
 fn run_freely<R: Threads + Wait + Sync, W: Write>(
     threads: &R,
     rt: HostRuntime,

@@ -112,7 +112,8 @@ fn with_other_bits(alloc: Global, case: Case<'_>, name: &str, bytes: Bytes) -> R
     Ok(others)
 }
 
-/// The bytes of a file with the changes of the directives. A file of which lines are changed has LF behind each.
+/// The bytes of a file with the changes of the directives. A file of which lines are changed has
+/// LF behind each.
 pub fn edited(alloc: Global, case: Case<'_>, name: &str, bytes: Bytes) -> Result<Bytes> {
     let bytes = with_other_bits(alloc, case, name, bytes)?;
     let changes = Changes::of(alloc, case, name)?;

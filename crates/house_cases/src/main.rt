@@ -1,7 +1,8 @@
-//! Cases that run the whole house: each line of the file `cases`, but for those that begin with `#` or `!`, has the words
-//! of one command, which runs over the files beside it, with one desk. Out go the words, the status, the text that the
-//! command printed, and the notices that the desk was told. Lines that begin with `!` are directives of the command below
-//! them, as what fails in it.
+//! Cases that run the whole house: each line of the file `cases`, but for those that begin with
+//! `#` or `!`, has the words of one command, which runs over the files beside it, with one desk.
+//! Out go the words, the status, the text that the command printed, and the notices that the
+//! desk was told. Lines that begin with `!` are directives of the command below them, as what
+//! fails in it.
 #![tactic(auto)]
 
 mod cases;
@@ -52,7 +53,8 @@ fn write_case<W: Write>(
     out.write_all(notices)
 }
 
-/// Runs the words over the file system, with one desk, and writes them with their status, their text and their notices.
+/// Runs the words over the file system, with one desk, and writes them with their status, their
+/// text and their notices.
 fn run_plain<R: Threads + Wait + Sync, W: Write>(
     threads: &R,
     rt: HostRuntime,

@@ -74,7 +74,8 @@ fn add_made(
     Ok(())
 }
 
-/// A folder with the files that a command names, those that are there and those that directives make.
+/// A folder with the files that a command names, those that are there and those that
+/// directives make.
 pub fn folder(rt: HostRuntime, case: Case<'_>) -> Result<MemFolder> {
     let alloc = rt.alloc();
     let mut folder = MemFolder::new(case.numbers(alloc, "finds that fail: ")?);
@@ -84,7 +85,8 @@ pub fn folder(rt: HostRuntime, case: Case<'_>) -> Result<MemFolder> {
                 let bytes = Bytes::from_slice(alloc, file.as_slice())?;
                 add_file(alloc, &mut folder, word, bytes, case)?;
             }
-            // (a word that is no file's name, and a file that isn't there, are no file of the folder)
+            // (a word that is no file's name, and a file that isn't there, are no file of
+            // the folder)
             Err(error) if error.kind() != ErrorKind::OutOfMemory => {}
             Err(error) => return Err(error.into()),
         }

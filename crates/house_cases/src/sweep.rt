@@ -99,7 +99,8 @@ impl Group {
         Ok(Group::new(number, seen))
     }
 
-    /// Writes a line of the numbers, the status, how many bytes of the plain text there are, and what else differs.
+    /// Writes a line of the numbers, the status, how many bytes of the plain text there are, and
+    /// what else differs.
     pub fn write<W: Write>(self, out: &mut W) -> io::Result<()> {
         write!(out, "N {} to {}: ", self.first, self.last)?;
         write!(out, "status {}, ", self.to.status.code())?;
@@ -130,7 +131,8 @@ pub struct Alike {
 }
 
 impl Alike {
-    /// The numbers with the one that follows, where the same came of it; or they are written, and it begins others.
+    /// The numbers with the one that follows, where the same came of it; or they are written, and
+    /// it begins others.
     pub fn after<W: Write>(
         alike: Option<Alike>,
         number: u64,

@@ -24,8 +24,7 @@ use Rattle.simm_params.specs.SimmRules.Net.{Sensitivity, sensitivity, sensitivit
 use Rattle.simm_params.specs.SimmRules.Range.{Sided, Delta_side, Volatility_side, is_on, on_side, key_count, bucket_keys, range}
 use Rattle.factor_book.specs.declared.place.BookSide.{BookSide}
 use Rattle.factor_book.specs.declared.place.BookSide.TheVariants as side
-use Rattle.factor_book.specs.Place.{book_side}
-use Rattle.factor_book.specs.Places.{same_side}
+use Rattle.factor_book.specs.Address.{book_side, same_side}
 use Rattle.factor_book.proofs.Sorting.{length-different}
 use Rattle.factor_book.proofs.Sums.{total_by-size}
 use Rattle.factor_book.proofs.Rows.{sensitivities-append, length-sensitivities}

@@ -17,7 +17,8 @@ pub(crate) fn set_name(place: u32) -> &'static [u8]
 
 /// Cash in dollars is taken whole, and nothing else at all.
 fn haircuts(alloc: Global) -> Result<HaircutTable, AllocError>
-    ensures { IfOk result (λ table. table ≡ record { class = codes "CASH-USD"; rate = pos 0 } ∷ []) }
+    ensures { IfOk result (λ table.
+        table ≡ record { class = codes "CASH-USD"; rate = pos 0 } ∷ []) }
 {
     let mut haircuts = HaircutTable::new(alloc);
     haircuts.put(Name::of_bytes(alloc, b"CASH-USD")?, Rate4(0))?;
@@ -53,8 +54,8 @@ fn agreements(alloc: Global, name: &[u8]) -> Result<BothTerms, AllocError>
     Ok(BothTerms::new(collect, post))
 }
 
-/// The terms of the two netting sets of the sample, `S0` and `S1`. But for the names they are those of
-/// `examples/terms.toml`.
+/// The terms of the two netting sets of the sample, `S0` and `S1`. But for the names they are
+/// those of `examples/terms.toml`.
 ///
 /// # Errors
 ///

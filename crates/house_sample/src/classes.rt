@@ -4,7 +4,8 @@ ghost use Rattle.simm_params.specs.SimmKinds.BucketNumber.{is_bucket_number};
 ghost use Rattle.simm_params.specs.SimmKinds.declared.bucket.Bucket.TheVariants.{Number};
 ghost use Rattle.simm_params.specs.BucketView.{bucket_view, terms_view};
 ghost use Rattle.simm_params.specs.ClassView.{credit_view, priced_view};
-ghost use Rattle.house_sample.specs.Parameters.{terms, qualifying, non_qualifying, equity, commodity};
+ghost use Rattle.house_sample.specs.Parameters.{terms, qualifying};
+ghost use Rattle.house_sample.specs.Parameters.{non_qualifying, equity, commodity};
 
 use crate::matrices::even;
 use simm_params::mh_units::Rate4;
@@ -14,7 +15,8 @@ use std::alloc::{AllocError, Global};
 
 /// A bucket of a class, with the thresholds and the vega weight that each has.
 fn bucket(weight: Rate4, rho: Rate4, own: Rate4, id: Bucket, curvature: bool) -> ClassBucket
-    ensures { bucket_view result ≡ record { terms = terms weight.0 rho.0 id curvature; own = own.0 } }
+    ensures { bucket_view result
+        ≡ record { terms = terms weight.0 rho.0 id curvature; own = own.0 } }
 {
     ClassBucket {
         terms: BucketTerms {

@@ -2,7 +2,8 @@
 ghost use Rattle.std.specs.Prelude.{◌≡◌, ◌<◌, ◌^◌};
 ghost use Rattle.house_sample.specs.Draws.{first_state, next_state, drawn};
 
-/// A linear congruential generator of 64 bits, of which the upper 31 are drawn. Contracts see its state.
+/// A linear congruential generator of 64 bits, of which the upper 31 are drawn. Contracts see
+/// its state.
 #[derive(Clone, Copy)]
 pub(crate) struct Draws {
     pub state: u64,

@@ -15,8 +15,8 @@ const BATCHES: u32 = 50;
 
 /// Adds a batch as a block of the set of this name, and behind it a question to the set.
 fn push_messages(text: &mut Bytes, set: &[u8], block: &[u8]) -> Result<(), AllocError>
-    ensures { OnOk result (text.new ≡ text.old
-        ++ ((codes "CRIF\t" ++ set.now) ++ (10 ∷ (block.now ++ (codes "END\nASK\t" ++ (set.now ++ 10 ∷ [])))))) }
+    ensures { OnOk result (text.new ≡ text.old ++ ((codes "CRIF\t" ++ set.now)
+        ++ (10 ∷ (block.now ++ (codes "END\nASK\t" ++ (set.now ++ 10 ∷ [])))))) }
 {
     text.extend(b"CRIF\t")?;
     text.extend(set)?;
@@ -27,15 +27,16 @@ fn push_messages(text: &mut Bytes, set: &[u8], block: &[u8]) -> Result<(), Alloc
     text.push(b'\n')
 }
 
-/// The bytes of the feed of this number, which is below 32: fifty drawn batches, in turn for the first and the
-/// second set, and behind each a question to its set.
+/// The bytes of the feed of this number, which is below 32: fifty drawn batches, in turn for the
+/// first and the second set, and behind each a question to its set.
 ///
 /// # Errors
 ///
 /// For want of memory alone.
 pub fn sample_feed(alloc: Global, seed: u32, number: u32) -> Result<Bytes, AllocError>
     requires { number < 32 }
-    ensures { IfOk result (λ bytes. feed bytes true ≡ record { items = messages_of seed number; stop = Whole }) }
+    ensures { IfOk result (λ bytes.
+        feed bytes true ≡ record { items = messages_of seed number; stop = Whole }) }
 {
     let mut draws = Draws::new(seed, number);
     let mut text = Bytes::new(alloc);

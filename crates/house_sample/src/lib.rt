@@ -1,5 +1,5 @@
-//! What a house needs to run by itself: parameters, the terms of two netting sets, and feeds of drawn batches for
-//! them. No file is read.
+//! What a house needs to run by itself: parameters, the terms of two netting sets, and feeds of
+//! drawn batches for them. No file is read.
 #![tactic(auto)]
 
 mod agreements;

@@ -3,7 +3,8 @@ ghost use Rattle.std.specs.Prelude.{◌≡◌, IfOk};
 ghost use Rattle.simm_params.specs.IrView.{curves_view, ir_view};
 ghost use Rattle.simm_params.specs.FxView.{fx_view, volatilities_view};
 ghost use Rattle.simm_params.specs.TablesView.{tables_view};
-ghost use Rattle.house_sample.specs.Parameters.{curves, rates, volatilities, exchange, sample_params};
+ghost use Rattle.house_sample.specs.Parameters.{curves, rates, volatilities};
+ghost use Rattle.house_sample.specs.Parameters.{exchange, sample_params};
 
 use crate::classes::{commodity, equity, non_qualifying, qualifying};
 use crate::matrices::{alike, even};

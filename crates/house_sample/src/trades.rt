@@ -2,7 +2,9 @@
 ghost use Rattle.std.specs.Prelude.{◌≡◌, ◌<◌, ◌++◌, IfOk, OnOk};
 ghost use Rattle.simm_params.specs.SimmKinds.declared.kinds.ProductClass.TheVariants as product;
 ghost use Rattle.simm_params.specs.SimmKinds.declared.row.CrifRow.TheVariants as row;
-ghost use Rattle.house_sample.specs.Trades.{currency, amount, row_from, exchange_rate, curve_point, behind_row, rows_from, behind_batch, trade_name, batch_from};
+ghost use Rattle.house_sample.specs.Trades.{currency, amount, row_from, exchange_rate};
+ghost use Rattle.house_sample.specs.Trades.{curve_point, behind_row, rows_from};
+ghost use Rattle.house_sample.specs.Trades.{behind_batch, trade_name, batch_from};
 
 use crate::draws::Draws;
 use itoa::Buffer;
@@ -35,7 +37,8 @@ fn amount(draw: u32) -> Cents
 
 /// A sensitivity of the product class of rates and foreign exchange.
 fn sensitivity(factor: Factor, amount: Cents) -> CrifRow
-    ensures { result ≡ row.Sensitivity (record { product = product.RatesFX; factor = factor }) amount }
+    ensures { result
+        ≡ row.Sensitivity (record { product = product.RatesFX; factor = factor }) amount }
 {
     let key = FactorKey {
         product: ProductClass::RatesFX,

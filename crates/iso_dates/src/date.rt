@@ -1,5 +1,6 @@
 ghost use Rattle.std.specs.Prelude.{◌≡◌, ◌≤◌, ◌<◌, ◌^◌, length, IfSome};
-ghost use Rattle.iso_dates.specs.Dates.{IsCalendarDay, IsInDigits, number_in, minute_in, minute_of_day, numbers_in, day_of_date, date_in};
+ghost use Rattle.iso_dates.specs.Dates.{IsCalendarDay, IsInDigits, number_in, minute_in};
+ghost use Rattle.iso_dates.specs.Dates.{minute_of_day, numbers_in, day_of_date, date_in};
 
 use jiff::civil::Date;
 
@@ -70,7 +71,8 @@ pub fn numbers_in(text: &[u8]) -> Option<DateNumbers>
     })
 }
 
-/// The day of a date, counted from 1970-01-01; None where the calendar has no such date, or its year is 0.
+/// The day of a date, counted from 1970-01-01; None where the calendar has no such date, or its
+/// year is 0.
 pub fn day_of_date(date: DateNumbers) -> Option<i32>
     requires { IsInDigits date }
     ensures value { result ≡ day_of_date date.year date.month date.day }

@@ -10,10 +10,11 @@ use set_core::Refusal;
 use set_core::bucket_cache::BookFault;
 use std::alloc::Global;
 
-/// The fault that a batch comes to which has no margin: that it is refused, as a set's first submit is, with the line that tells
-/// why; want of memory, for that line too.
+/// The fault that a batch comes to which has no margin: that it is refused, as a set's first
+/// submit is, with the line that tells why; want of memory, for that line too.
 pub fn batch_fault<'a>(alloc: Global, fault: BookFault) -> Fault<'a>
-    ensures { (p : Params) (trades : List TradeRows) → Says p trades fault → BatchFails p trades result }
+    ensures { (p : Params) (trades : List TradeRows) → Says p trades fault
+        → BatchFails p trades result }
 {
     match fault {
         BookFault::BucketUnknown { trade, row } => {

@@ -1,5 +1,5 @@
-//! The program: runs the words of the command line over the file system, prints to standard output, and tells of calls by
-//! lines on standard error.
+//! The program: runs the words of the command line over the file system, prints to standard
+//! output, and tells of calls by lines on standard error.
 #![tactic(auto)]
 
 use call_desk::{Desk, SinkDesk};
@@ -21,7 +21,8 @@ fn words(rt: &(impl Env + AllocGlobal)) -> io::Result<Vec<String>> {
     Ok(words)
 }
 
-/// Runs the words by these threads, with standard error as the one desk. The only error is want of memory.
+/// Runs the words by these threads, with standard error as the one desk. The only error is want
+/// of memory.
 fn run<R: Threads + Wait + Sync>(
     threads: &R,
     rt: HostRuntime,

@@ -9,12 +9,13 @@ use margin_calc::command_files::{Status, end_at_fault, print_text};
 use mh_io::{Folder, Sink};
 use std::alloc::Global;
 
-/// Prints how the margin of one batch comes about, bottom up: its nets, the values of its buckets in each measure, the margins over
-/// them, its additional margins, and the whole. `params` and `crif` name the parameter file and the CRIF file in the folder. It waits
-/// for nobody.
+/// Prints how the margin of one batch comes about, bottom up: its nets, the values of its buckets
+/// in each measure, the margins over them, its additional margins, and the whole. `params` and
+/// `crif` name the parameter file and the CRIF file in the folder. It waits for nobody.
 ///
-/// With status `Done` the sink got the lines that the written rule gives of the two files; with `Write` a front of them, since the
-/// sink failed. Every other status comes as for `calc` on these files, with its line.
+/// With status `Done` the sink got the lines that the written rule gives of the two files; with
+/// `Write` a front of them, since the sink failed. Every other status comes as for `calc` on these
+/// files, with its line.
 pub fn explain<F: Folder, K: Sink>(
     alloc: Global,
     params: &str,
@@ -27,8 +28,8 @@ pub fn explain<F: Folder, K: Sink>(
     ensures ends { ExplainEnds params.now crif.now
         (F.seen folder.old) (F.seen folder.new) (K.seen out.old) (K.seen out.new) result }
     // Where all is well the lines are printed, or memory ran out.
-    ensures complete { IsWell params.now crif.now
-        (F.seen folder.old) (F.seen folder.new) (K.seen out.old) (K.seen out.new) → EndsWell result }
+    ensures complete { IsWell params.now crif.now (F.seen folder.old) (F.seen folder.new)
+        (K.seen out.old) (K.seen out.new) → EndsWell result }
 {
     match text_of_files(alloc, params, crif, folder) {
         Ok(text) => print_text(out, text.as_slice()),

@@ -34,7 +34,8 @@ pub(crate) fn text_of_files<'a, F: Folder>(
     folder: &mut F,
 ) -> Result<Text, Fault<'a>>
     ensures counts { KeepsCounts (F.seen folder.old) (F.seen folder.new) }
-    ensures ends { ExplainedEnds params.now crif.now (F.seen folder.old) (F.seen folder.new) result }
+    ensures ends { ExplainedEnds params.now crif.now (F.seen folder.old)
+        (F.seen folder.new) result }
 {
     let input = read_both(alloc, params, crif, folder)?;
     text_of_batch(alloc, &input.params, &input.batch)

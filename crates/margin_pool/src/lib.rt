@@ -1,5 +1,6 @@
-//! A threshold that the netting sets of a terms file share: the files are read, the feeds of the sets run at the same time, and
-//! what each was replied, what each set holds and what is left are printed; or one fault line is.
+//! A threshold that the netting sets of a terms file share: the files are read, the feeds of the
+//! sets run at the same time, and what each was replied, what each set holds and what is left are
+//! printed; or one fault line is.
 #![tactic(auto)]
 
 mod pool_files;

@@ -63,7 +63,8 @@ fn test_sets<'a>(alloc: Global, sets: usize, feeds: usize) -> Result<(), Fault<'
 ///
 /// # Errors
 ///
-/// A feed isn't there, or memory ran out before the feeds were run. Those that were found are handed back.
+/// A feed isn't there, or memory ran out before the feeds were run. Those that were found are
+/// handed back.
 fn run_feed_files<'a, R: Threads + Wait + Sync, F: Folder, G: Gate>(
     rt: &R,
     alloc: Global,
@@ -76,7 +77,8 @@ fn run_feed_files<'a, R: Threads + Wait + Sync, F: Folder, G: Gate>(
     requires feeds { (1 ≤ length files.feeds.now) × (length files.feeds.now ≤ 32) }
     requires sets { length files.feeds.now ≤ length sets.now }
     ensures counts { KeepsCounts (F.seen folder.old) (F.seen folder.new) }
-    ensures ends { FeedsEnd files.entry.total sets.now (map string_bytes files.entry.feeds.now) (F.seen folder.old) (F.seen folder.new) result }
+    ensures ends { FeedsEnd files.entry.total sets.now (map string_bytes files.entry.feeds.now)
+        (F.seen folder.old) (F.seen folder.new) result }
 {
     let sources = find_feeds(alloc, folder, files.feeds)?;
     match run_on_pool(rt, alloc, files.total, sets, sources, gate) {
@@ -107,7 +109,8 @@ pub(crate) fn run_files<'a, R: Threads + Wait + Sync, F: Folder, G: Gate>(
     requires total { (1 ≤ files.total) × (files.total ≤ 10 ^ 15) }
     requires feeds { (1 ≤ length files.feeds.now) × (length files.feeds.now ≤ 32) }
     ensures counts { KeepsCounts (F.seen folder.old) (F.seen folder.new) }
-    ensures ends { PoolFilesEnd files.entry.total files.entry.terms.now (map string_bytes files.entry.feeds.now) (F.seen folder.old) (F.seen folder.new) result }
+    ensures ends { PoolFilesEnd files.entry.total files.entry.terms.now
+        (map string_bytes files.entry.feeds.now) (F.seen folder.old) (F.seen folder.new) result }
 {
     let terms = match read_terms_file(alloc, folder, files.terms) {
         Ok(terms) => terms,

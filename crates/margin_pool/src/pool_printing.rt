@@ -5,7 +5,8 @@ ghost use Rattle.mh_units.specs.Money.{money_text};
 ghost use Rattle.fault_text.specs.Fields.{field};
 ghost use Rattle.fault_text.specs.FeedFields.{end_field, refused_fields};
 ghost use Rattle.feed_files.specs.CommandFiles.Texts.{TextGoes};
-ghost use Rattle.margin_pool.specs.PoolText.{held_line, pool_text, refused_line, report_text, rest_line, texts_from};
+ghost use Rattle.margin_pool.specs.PoolText.{held_line, pool_text, refused_line};
+ghost use Rattle.margin_pool.specs.PoolText.{report_text, rest_line, texts_from};
 ghost use Rattle.margin_pool.specs.Pool.{PoolLeaves, end_of};
 ghost use Rattle.margin_pool.specs.PoolStages.{status_at_end};
 
@@ -69,7 +70,8 @@ fn rest_text(alloc: Global, rest: u64) -> Result<Text, AllocError>
 /// All that a pool prints, in parts.
 fn outcome_texts(alloc: Global, run: Outcome) -> Result<Vec<Text>, AllocError>
     requires { length run.reports.items ≤ 32 }
-    ensures { IfOk result (λ texts. flat_map (λ t. t) texts.items ≡ pool_text run.reports.items run.rest) }
+    ensures { IfOk result (λ texts.
+        flat_map (λ t. t) texts.items ≡ pool_text run.reports.items run.rest) }
 {
     let Outcome { reports, rest } = run;
     let mut texts = Vec::with_capacity(alloc, reports.len())?;
@@ -104,11 +106,13 @@ fn status_at_end(end: FeedEnd, printed: Printed) -> Status
     }
 }
 
-/// Prints a pool whose feeds were run, and answers its status. Where there is no memory for the text nothing is printed.
+/// Prints a pool whose feeds were run, and answers its status. Where there is no memory for the
+/// text nothing is printed.
 pub(crate) fn end_pool<K: Sink>(alloc: Global, out: &mut K, run: Outcome) -> Status
     requires { length run.reports.items ≤ 32 }
     ensures count { (K.seen out.old).faults ≤ (K.seen out.new).faults }
-    ensures leaves { PoolLeaves run.reports.items run.rest (K.seen out.old) (K.seen out.new) result }
+    ensures leaves { PoolLeaves run.reports.items run.rest (K.seen out.old)
+        (K.seen out.new) result }
 {
     let end = end_of(&run.reports);
     match outcome_texts(alloc, run) {

@@ -56,10 +56,7 @@ module _ (p : Params) (xs ys : List CrifRow) (h : Alike xs ys) where
   same_margin : simm p xs ≡ simm p ys
   unfolding simm
   same_margin = λ i. record {
-    rates_fx = part product.RatesFX i;
-    credit = part product.Credit i;
-    equity = part product.Equity i;
-    commodity = part product.Commodity i;
+    products = record { rates_fx = part product.RatesFX i; credit = part product.Credit i; equity = part product.Equity i; commodity = part product.Commodity i };
     fixed = cents (h.fixed i);
     notional = cents (h.notional i);
     multiplier = cents (multiplied_alike i);

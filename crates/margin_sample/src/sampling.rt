@@ -27,11 +27,12 @@ fn sample_text<R: Threads + Wait + Sync, G: Gate>(
     summary(alloc, plan, sets)
 }
 
-/// Makes feeds, runs them at the same time on two netting sets, asks each set its margin once more, and prints both
-/// answers. The gate is called before and after each call of a feed on a set.
+/// Makes feeds, runs them at the same time on two netting sets, asks each set its margin once
+/// more, and prints both answers. The gate is called before and after each call of a feed on
+/// a set.
 ///
-/// With status `Done` the sink got all of the text; with `Write` a front of it, since the sink failed. `Memory` for
-/// want of memory, in a feed too; then nothing was printed.
+/// With status `Done` the sink got all of the text; with `Write` a front of it, since the sink
+/// failed. `Memory` for want of memory, in a feed too; then nothing was printed.
 pub fn sample<R: Threads + Wait + Sync, K: Sink, G: Gate>(
     rt: &R,
     alloc: Global,

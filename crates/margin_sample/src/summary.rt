@@ -14,8 +14,8 @@ use simm_kinds::MarginSide;
 use std::alloc::{AllocError, Global};
 use std::collections::VecDeque;
 
-/// Asks a set the margin that it collects, in the name of the first caller. The only error is want of memory: a journal of
-/// feeds of a sample has room.
+/// Asks a set the margin that it collects, in the name of the first caller. The only error is want
+/// of memory: a journal of feeds of a sample has room.
 fn ask(set: &mut SetState) -> Result<SharedMargin, AllocError>
     ensures { IfOk result (λ margin. IsAsked set.old set.new margin) }
 {
@@ -49,7 +49,8 @@ fn push_set(
 
 /// Asks a set its margin once more, and adds its text.
 fn push_asked(text: &mut Text, alloc: Global, set: SetState) -> Result<(), AllocError>
-    ensures { OnOk result ((s : Set) × (b : Breakdown) × IsAsked set s b × (text.new ≡ text.old ++ asked_text s b)) }
+    ensures { OnOk result
+        ((s : Set) × (b : Breakdown) × IsAsked set s b × (text.new ≡ text.old ++ asked_text s b)) }
 {
     let mut set = set;
     let margin = ask(&mut set)?;
@@ -59,7 +60,8 @@ fn push_asked(text: &mut Text, alloc: Global, set: SetState) -> Result<(), Alloc
 
 /// Adds the text of sets, each of which is asked its margin once more.
 fn push_sets(text: &mut Text, alloc: Global, sets: Vec<SetState>) -> Result<(), AllocError>
-    ensures { OnOk result ((added : List ℕ) × AreSummed sets.items added × (text.new ≡ text.old ++ added)) }
+    ensures { OnOk result
+        ((added : List ℕ) × AreSummed sets.items added × (text.new ≡ text.old ++ added)) }
 {
     let mut waiting = VecDeque::from_vec(sets);
     while let Some(set) = waiting.pop_front() {
@@ -74,7 +76,8 @@ pub(crate) fn summary(
     plan: SamplePlan,
     sets: Vec<SetState>,
 ) -> Result<Text, AllocError>
-    ensures { IfOk result (λ text. (added : List ℕ) × AreSummed sets.items added × (text ≡ head_text plan.feeds plan.seed ++ added)) }
+    ensures { IfOk result (λ text. (added : List ℕ) × AreSummed sets.items added
+        × (text ≡ head_text plan.feeds plan.seed ++ added)) }
 {
     let mut text = Text::new(alloc);
     push_field(&mut text, b"SAMPLE")?;

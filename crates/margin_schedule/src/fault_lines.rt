@@ -1,7 +1,8 @@
 //! The line of a file that the schedule refuses.
 ghost use Rattle.std.specs.Prelude.{◌≡◌, ◌≢◌, ◌++◌, IfOk, OnOk};
 ghost use Rattle.schedule_reader.specs.declared.fault.ScheduleFault.TheVariants as schedule;
-ghost use Rattle.margin_schedule.specs.FaultLines.{row_fields, schedule_fields, schedule_fault, range_fields, range_fault};
+ghost use Rattle.margin_schedule.specs.FaultLines.{row_fields, schedule_fields};
+ghost use Rattle.margin_schedule.specs.FaultLines.{schedule_fault, range_fields, range_fault};
 
 use fault_text::{begun_line, push_last, push_last_number, push_number};
 use mh_units::Text;

@@ -1,5 +1,5 @@
-//! The margin of a portfolio by the standard schedule: its records are read from a CRIF file, and the margin or one fault line is
-//! printed.
+//! The margin of a portfolio by the standard schedule: its records are read from a CRIF file, and
+//! the margin or one fault line is printed.
 #![tactic(auto)]
 
 mod command;

@@ -26,8 +26,9 @@ pub(crate) fn print_margin<K: Sink>(alloc: Global, out: &mut K, margin: &Schedul
     }
 }
 
-/// The lines of a margin: the whole, the gross margin, the cost net and gross, and each class whose gross margin isn't 0. Amounts
-/// are in units of money with two digits. The only error is want of memory.
+/// The lines of a margin: the whole, the gross margin, the cost net and gross, and each class
+/// whose gross margin isn't 0. Amounts are in units of money with two digits. The only error is
+/// want of memory.
 fn margin_lines(alloc: Global, margin: &ScheduleMargin) -> Result<Text, AllocError>
     ensures { IfOk result (λ text. text ≡ margin_text margin.now) }
 {

@@ -17,7 +17,8 @@ fn read_rows_file<F: Folder>(
     name: &str,
 ) -> Result<Vec<ScheduleRow>, FileFault>
     ensures counts { KeepsCounts (F.seen folder.old) (F.seen folder.new) }
-    ensures ends { ValueEnds (λ bytes rows. GivesRows bytes rows.items) RefusesRows (F.seen folder.old) (F.seen folder.new) name.now result }
+    ensures ends { ValueEnds (λ bytes rows. GivesRows bytes rows.items) RefusesRows
+        (F.seen folder.old) (F.seen folder.new) name.now result }
     ensures scheduled { IfOk result (λ rows. AreScheduled rows.items) }
 {
     let bytes = read_file(alloc, folder, name)?;

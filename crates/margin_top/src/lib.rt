@@ -1,4 +1,5 @@
-//! The top call: words in; a margin, the journals of a run with notices of its calls to desks, or one fault line out.
+//! The top call: words in; a margin, the journals of a run with notices of its calls to desks, or
+//! one fault line out.
 #![tactic(auto)]
 
 mod house;

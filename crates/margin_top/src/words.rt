@@ -1,7 +1,9 @@
 ghost use Rattle.std.specs.Prelude.{◌≡◌, map, length, true, ◌&&◌, IfSome};
 ghost use Rattle.std.specs.List.{list_all};
 ghost use Rattle.std.specs.String.{string_bytes};
-ghost use Rattle.margin_top.specs.Words.{is_name_word, are_feed_words, margin_form, feeds_form, are_trade_words, what_if_form, verify_form, long_form, number_of, sample_form, short_form, form_of};
+ghost use Rattle.margin_top.specs.Words.{is_name_word, are_feed_words, margin_form, feeds_form};
+ghost use Rattle.margin_top.specs.Words.{are_trade_words, what_if_form, verify_form, long_form};
+ghost use Rattle.margin_top.specs.Words.{number_of, sample_form, short_form, form_of};
 ghost use Rattle.margin_whatif.specs.Words.{is_trade_word, words_in};
 ghost use Rattle.margin_top.specs.WordsRead.{IsForm, IsPlan, AreFew, IsWithin};
 
@@ -59,7 +61,8 @@ fn are_feeds(words: &[String]) -> bool
 const MOST_NAMES: usize = 100;
 
 fn are_trade_names(words: &[String]) -> bool
-    ensures { result ≡ list_all (λ word. is_name_word (string_bytes word) && is_trade_word (string_bytes word)) words.now }
+    ensures { result ≡ list_all (λ word. is_name_word (string_bytes word)
+        && is_trade_word (string_bytes word)) words.now }
 {
     words
         .iter()
@@ -155,7 +158,8 @@ fn feeds_command<'a>(
     second: &'a str,
     feeds: &'a [String],
 ) -> Option<Command<'a>>
-    ensures form { IsForm result (feeds_form command.now first.now second.now (map string_bytes feeds.now)) }
+    ensures form { IsForm result
+        (feeds_form command.now first.now second.now (map string_bytes feeds.now)) }
     ensures within { IsWithin result }
 {
     if !is_name(first) || !are_feeds(feeds) {
@@ -229,7 +233,8 @@ fn long_command<'a>(
     second: &'a str,
     rest: &'a [String],
 ) -> Option<Command<'a>>
-    ensures form { IsForm result (long_form command.now first.now second.now (map string_bytes rest.now)) }
+    ensures form { IsForm result
+        (long_form command.now first.now second.now (map string_bytes rest.now)) }
     ensures within { IsWithin result }
 {
     if command == "whatif" {

@@ -21,16 +21,19 @@ pub struct VerifyFiles<'a> {
     pub audit: &'a str,
 }
 
-/// Reads an audit file, works out each reply anew by the written rule over the entries before it, and prints whether all are
-/// right: `VERIFIED` with how many sets and entries there are, or `WRONG` with the set and the number of the first entry whose
-/// reply isn't the rule's. It waits for nobody.
+/// Reads an audit file, works out each reply anew by the written rule over the entries before it,
+/// and prints whether all are right: `VERIFIED` with how many sets and entries there are, or
+/// `WRONG` with the set and the number of the first entry whose reply isn't the rule's. It waits
+/// for nobody.
 ///
-/// With status `Done` the sink got the line that all are right, and what the file tells of each set, in the order of the
-/// terms, is a legal journal, with the written rule's reply in every reply line; with `Write` the sink got a front of that
-/// line, since it failed; with `Wrong` the line that tells the wrong entry, or a front of it where the sink failed. At every
-/// other status but `Memory` the sink got one fault line, or a front of it where the sink failed, and nothing else: `Params`
-/// and `Terms` exactly where a file that was read is too long or refused, `Find` and `Read` only where the folder's count of
-/// such faults rose. `Memory` for want of memory; then there is no verdict.
+/// With status `Done` the sink got the line that all are right, and what the file tells of each
+/// set, in the order of the terms, is a legal journal, with the written rule's reply in every
+/// reply line; with `Write` the sink got a front of that line, since it failed; with `Wrong` the
+/// line that tells the wrong entry, or a front of it where the sink failed. At every other status
+/// but `Memory` the sink got one fault line, or a front of it where the sink failed, and nothing
+/// else: `Params` and `Terms` exactly where a file that was read is too long or refused, `Find`
+/// and `Read` only where the folder's count of such faults rose. `Memory` for want of memory; then
+/// there is no verdict.
 pub fn verify<F: Folder, K: Sink>(
     alloc: Global,
     files: VerifyFiles,
@@ -42,8 +45,9 @@ pub fn verify<F: Folder, K: Sink>(
     ensures ends { VerifyEnds files.entry.params.now files.entry.terms.now files.entry.audit.now
         (F.seen folder.old) (F.seen folder.new) (K.seen out.old) (K.seen out.new) result }
     // Where all is well the file is verified, or memory ran out.
-    ensures complete { IsWellVerify files.entry.params.now files.entry.terms.now files.entry.audit.now
-        (F.seen folder.old) (F.seen folder.new) (K.seen out.old) (K.seen out.new) → EndsWell result }
+    ensures complete { IsWellVerify files.entry.params.now files.entry.terms.now
+        files.entry.audit.now (F.seen folder.old) (F.seen folder.new) (K.seen out.old)
+        (K.seen out.new) → EndsWell result }
 {
     match judge_files(alloc, files, folder) {
         Ok(judged) => print_verdict(alloc, out, &judged.terms, judged.verdict),

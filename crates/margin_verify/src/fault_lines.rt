@@ -10,7 +10,8 @@ use fault_text::{begun_line, push_last_number, push_number};
 use feed_files::command_files::FileFault;
 use std::alloc::{AllocError, Global};
 
-/// What an audit file that has no verdict is to a command: refused, with the line of its fault, or unread.
+/// What an audit file that has no verdict is to a command: refused, with the line of its fault,
+/// or unread.
 pub(crate) fn file_fault(alloc: Global, fault: AuditFault) -> FileFault
     ensures { FaultGives fault result }
 {

@@ -25,7 +25,8 @@ fn judge_file<F: Folder>(
     name: &str,
 ) -> Result<Verdict, FileFault>
     ensures counts { KeepsCounts (F.seen folder.old) (F.seen folder.new) }
-    ensures ends { VerdictEnds inputs.now.params inputs.now.terms (F.seen folder.old) (F.seen folder.new) name.now result }
+    ensures ends { VerdictEnds inputs.now.params inputs.now.terms (F.seen folder.old)
+        (F.seen folder.new) name.now result }
 {
     let source = folder.find(alloc, name)?;
     let mut lines = match lines_of(alloc, source) {

@@ -1,5 +1,5 @@
-//! The verification of an audit file: parameters, terms and the file are read, each of its entries is answered anew, and the
-//! verdict or one fault line is printed.
+//! The verification of an audit file: parameters, terms and the file are read, each of its entries
+//! is answered anew, and the verdict or one fault line is printed.
 #![tactic(auto)]
 
 mod command;

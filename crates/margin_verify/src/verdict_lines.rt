@@ -47,7 +47,8 @@ fn yes_line(alloc: Global, sets: u32, entries: u32) -> Result<Text, AllocError>
     Ok(line)
 }
 
-/// The line of the first entry, in the set of this name, whose reply is wrong. The only error is want of memory.
+/// The line of the first entry, in the set of this name, whose reply is wrong. The only error is
+/// want of memory.
 fn no_line(alloc: Global, name: &[u8], entry: u32) -> Result<Text, AllocError>
     ensures { IfOk result (λ line. line ≡ no_line name.now entry) }
 {

@@ -1,6 +1,7 @@
 //! The lines of a what-if.
 ghost use Rattle.std.specs.Prelude.{◌≡◌, ◌++◌, IfOk, OnOk};
-ghost use Rattle.margin_whatif.specs.Lines.{margin_after, margins_text, without_line, without_lines};
+ghost use Rattle.margin_whatif.specs.Lines.{margin_after, margins_text};
+ghost use Rattle.margin_whatif.specs.Lines.{without_line, without_lines};
 
 use breakdown_text::fault_text::{push_field, push_last_amount};
 use breakdown_text::{push_margin_parts, push_total};

@@ -24,7 +24,8 @@ impl Model for Calls {
 }
 
 impl Calls {
-    /// No call was made yet. `failing` holds the numbers of those that are to fail; the first call is number 1.
+    /// No call was made yet. `failing` holds the numbers of those that are to fail; the first call
+    /// is number 1.
     pub(crate) fn new(failing: Vec<u64>) -> Self
         ensures { result ≡ uncalled failing.items }
     {
@@ -39,7 +40,8 @@ impl Calls {
     pub(crate) fn next_fails(&mut self) -> bool
         ensures counted { IsCount self.new.faults }
         ensures due { result ≡ is_due self.old }
-        ensures after { self.new ≡ (if result then with_fault (with_call self.old) else with_call self.old) }
+        ensures after { self.new
+            ≡ (if result then with_fault (with_call self.old) else with_call self.old) }
         ensures rises { IsTrue result → Rises self.old.faults self.new.faults }
     {
         self.made = self.made.saturating_add(1);

@@ -26,9 +26,10 @@ impl From<AllocError> for FindRefused {
 
 /// Files by name, each found as a source and handed back when it is read.
 ///
-/// A folder counts its faults at finds and those of the sources that came back, each at most to 2^64 - 1. These counts
-/// never fall, and stay at that value once they are there. It counts the sources that were found and have not come back
-/// too. A folder may tell its files, the names that it was asked for, and what was read.
+/// A folder counts its faults at finds and those of the sources that came back, each at most to
+/// 2^64 - 1. These counts never fall, and stay at that value once they are there. It counts the
+/// sources that were found and have not come back too. A folder may tell its files, the names that
+/// it was asked for, and what was read.
 pub trait Folder {
     /// What a find gives.
     type Src: Source + Send;
@@ -39,8 +40,8 @@ pub trait Folder {
     ///
     /// # Errors
     ///
-    /// `Failed` only where the count of find faults rose in this call, as it does for a file that isn't there. `Memory`
-    /// for want of memory; then the name isn't counted as asked for.
+    /// `Failed` only where the count of find faults rose in this call, as it does for a file that
+    /// isn't there. `Memory` for want of memory; then the name isn't counted as asked for.
     fn find(&mut self, alloc: Global, name: &str) -> Result<Self::Src, FindRefused>
         ensures { Finds Self.Src.seen (seen self.old) (seen self.new) name.now result };
 

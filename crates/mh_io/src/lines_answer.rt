@@ -16,8 +16,8 @@ pub enum LineFault {
     ReadFault,
     /// 65,536 bytes were taken with no LF among them.
     LineLong,
-    /// The source gave this many bytes, one more than `MOST_BYTES`, and every line with its LF before the last of them
-    /// was given.
+    /// The source gave this many bytes, one more than `MOST_BYTES`, and every line with its LF
+    /// before the last of them was given.
     TooLong { taken: u64 },
     /// Memory ran out.
     Memory,

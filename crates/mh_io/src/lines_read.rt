@@ -1,7 +1,10 @@
-ghost use Rattle.std.specs.Prelude.{◌≡◌, ℕ, ◌+◌, ◌-◌, ◌<◌, ◌≤◌, [], ◌++◌, take, drop, length, position, Ok, IfOk, IfErr, OnOk, OnErr};
+ghost use Rattle.std.specs.Prelude.{◌≡◌, ℕ, ◌+◌, ◌-◌, ◌<◌, ◌≤◌, [], ◌++◌};
+ghost use Rattle.std.specs.Prelude.{take, drop, length, position, Ok, IfOk, IfErr, OnOk, OnErr};
 ghost use Rattle.mh_io.specs.Lines.{Stop, is_lf, without_cr};
-ghost use Rattle.mh_io.specs.Lined.{Lined, Gave, IsStopped, ComesWhere, IsLineOnly, lines_given, answer_at};
-ghost use Rattle.mh_io.specs.LinesSteps.{HasNoLf, BeginsLine, IsPart, Shows, Reached, TookMore, turns_left, past};
+ghost use Rattle.mh_io.specs.Lined.{Lined, Gave, IsStopped, ComesWhere, IsLineOnly};
+ghost use Rattle.mh_io.specs.Lined.{lines_given, answer_at};
+ghost use Rattle.mh_io.specs.LinesSteps.{HasNoLf, BeginsLine, IsPart, Shows, Reached, TookMore};
+ghost use Rattle.mh_io.specs.LinesSteps.{turns_left, past};
 ghost use Rattle.mh_io.specs.Limits.{most_bytes, line_bytes};
 
 use crate::lines_answer::{Front, LineFault, LineStep, MemoryBack, Supply};
@@ -14,9 +17,9 @@ use std::marker::Model;
 
 /// The lines of a source, one after another, over a window of 65,536 bytes.
 ///
-/// A line ends before LF, and a CR before that LF is left off. The last bytes before the end of input are a line too, as
-/// they are. Contracts see the source, the bytes that were taken and not yet given, how many bytes and lines were given,
-/// and whether more can be taken.
+/// A line ends before LF, and a CR before that LF is left off. The last bytes before the end of
+/// input are a line too, as they are. Contracts see the source, the bytes that were taken and not
+/// yet given, how many bytes and lines were given, and whether more can be taken.
 #[derive(Drop)]
 pub struct Lines<S: Source> {
     source: S,
@@ -33,14 +36,23 @@ impl<S: Source> Model for Lines<S> {
 
     ghost Value = { Lined S };
 
-    ghost view = { λ l. record { source = l.source; pending = l.window; passed = l.passed; given = l.given; supply = l.supply } };
+    ghost view = { λ l. record {
+      source = l.source;
+      pending = l.window;
+      passed = l.passed;
+      given = l.given;
+      supply = l.supply;
+    } };
 
-    ghost invariant = { λ l. (l.passed ≤ most_bytes) × (l.passed + length l.window ≤ most_bytes + 1) × (l.given ≤ l.passed) };
+    ghost invariant = { λ l. (l.passed ≤ most_bytes)
+        × (l.passed + length l.window ≤ most_bytes + 1) × (l.given ≤ l.passed) };
 }
 
-/// The lines of a source, of which nothing was taken here yet. For want of memory the source comes back.
+/// The lines of a source, of which nothing was taken here yet. For want of memory the source
+/// comes back.
 pub fn lines_of<S: Source>(alloc: Global, source: S) -> Result<Lines<S>, MemoryBack<S>>
-    ensures ok { IfOk result (λ lines. lines ≡ record { source = source; pending = []; passed = 0; given = 0; supply = Supply.Open }) }
+    ensures ok { IfOk result (λ lines. lines
+        ≡ record { source = source; pending = []; passed = 0; given = 0; supply = Supply.Open }) }
     ensures memory { IfErr result (λ memory. memory.back ≡ source) }
 {
     let Ok(window) = Window::new(alloc) else {
@@ -73,7 +85,8 @@ fn without_cr(text: &[u8]) -> &[u8]
 }
 
 impl<S: Source> Lines<S> {
-    /// Tells what stands at the front, where no LF is among the first `looked` bytes, or `None` where more is wanted.
+    /// Tells what stands at the front, where no LF is among the first `looked` bytes, or `None`
+    /// where more is wanted.
     fn look(&self, looked: usize) -> Result<Option<Front>, LineFault>
         requires there { looked ≤ length self.now.pending }
         requires near { looked ≤ most_bytes - self.now.passed }
@@ -152,7 +165,8 @@ impl<S: Source> Lines<S> {
     /// Adds the line at the front that an LF ends.
     fn give_line(&mut self, bytes: &mut Bytes, count: usize) -> Result<(), AllocError>
         requires begins { BeginsLine self.old.passed self.old.pending count }
-        ensures ok { OnOk result ((self.new ≡ past self.old (count + 1)) × (bytes.new ≡ bytes.old ++ without_cr (take count self.old.pending))) }
+        ensures ok { OnOk result ((self.new ≡ past self.old (count + 1))
+            × (bytes.new ≡ bytes.old ++ without_cr (take count self.old.pending))) }
         ensures few { OnOk result (self.new.given ≤ most_bytes) }
         ensures bounded { OnOk result (self.new.passed + length self.new.pending ≤ most_bytes + 1) }
         ensures err { OnErr result ((self.new ≡ self.old) × (bytes.new ≡ bytes.old)) }
@@ -166,7 +180,8 @@ impl<S: Source> Lines<S> {
     fn give_last(&mut self, bytes: &mut Bytes) -> Result<(), AllocError>
         requires part { IsPart self.old.passed self.old.pending }
         requires some { 0 < length self.old.pending }
-        ensures ok { OnOk result ((self.new ≡ past self.old (length self.old.pending)) × (bytes.new ≡ bytes.old ++ self.old.pending)) }
+        ensures ok { OnOk result ((self.new ≡ past self.old (length self.old.pending))
+            × (bytes.new ≡ bytes.old ++ self.old.pending)) }
         ensures few { OnOk result (self.new.given ≤ most_bytes) }
         ensures bounded { OnOk result (self.new.passed + length self.new.pending ≤ most_bytes + 1) }
         ensures err { OnErr result ((self.new ≡ self.old) × (bytes.new ≡ bytes.old)) }
@@ -178,17 +193,19 @@ impl<S: Source> Lines<S> {
         Ok(())
     }
 
-    /// Gives the next line, without its LF and a CR before it, into `line`; at every other answer `line` is empty.
+    /// Gives the next line, without its LF and a CR before it, into `line`; at every other answer
+    /// `line` is empty.
     ///
     /// `End` comes where the source gave its end of input and every line was given.
     ///
     /// # Errors
     ///
-    /// `ReadFault` only where the source's count of faults rose since these lines were made, after every line that was
-    /// taken with its LF. `LineLong` exactly where the next line has no LF among its first 65,536 bytes. `TooLong` exactly
-    /// where the source gave one byte more than `MOST_BYTES` and every line with its LF before that byte was given. After
-    /// these three nothing changes, and each further call answers the same. `Memory` for want of memory; the next call
-    /// answers the same line.
+    /// `ReadFault` only where the source's count of faults rose since these lines were made, after
+    /// every line that was taken with its LF. `LineLong` exactly where the next line has no LF
+    /// among its first 65,536 bytes. `TooLong` exactly where the source gave one byte more than
+    /// `MOST_BYTES` and every line with its LF before that byte was given. After these three
+    /// nothing changes, and each further call answers the same. `Memory` for want of memory; the
+    /// next call answers the same line.
     pub fn next_line(&mut self, line: &mut Bytes) -> Result<LineStep, LineFault>
         ensures gave { Gave S.seen self.old self.new (lines_given result line.new) }
         ensures comes { ComesWhere result self.new }
@@ -196,32 +213,38 @@ impl<S: Source> Lines<S> {
         ensures few { result ≡ Ok LineStep.Line → self.new.given ≤ most_bytes }
         // No more bytes were taken in all.
         ensures bounded { self.new.passed + length self.new.pending ≤ most_bytes + 1 }
-        // Where no line is left, and the bytes stop for good, the answer is the one of the way in which they stop.
-        ensures again { (stop : Stop) → IsStopped self.old stop → (self.new ≡ self.old) × (result ≡ answer_at stop) }
+        // Where no line is left, and the bytes stop for good, the answer is the one of the way in
+        // which they stop.
+        ensures again { (stop : Stop) → IsStopped self.old stop
+            → (self.new ≡ self.old) × (result ≡ answer_at stop) }
     {
         line.clear();
         self.append_line(line)
     }
 
-    /// Adds the next line, without its LF and a CR before it, at the end of `bytes`; at every other answer `bytes` stays
-    /// as it was.
+    /// Adds the next line, without its LF and a CR before it, at the end of `bytes`; at every
+    /// other answer `bytes` stays as it was.
     ///
     /// `End` comes where it does at `next_line`.
     ///
     /// # Errors
     ///
-    /// Those of `next_line`, each where it has it. After `Memory` the next call answers the same line.
+    /// Those of `next_line`, each where it has it. After `Memory` the next call answers the
+    /// same line.
     pub fn append_line(&mut self, bytes: &mut Bytes) -> Result<LineStep, LineFault>
         // The line is what was added.
-        ensures gave { Gave S.seen self.old self.new (lines_given result (drop (length bytes.old) bytes.new)) }
+        ensures gave { Gave S.seen self.old self.new
+            (lines_given result (drop (length bytes.old) bytes.new)) }
         ensures added { bytes.new ≡ bytes.old ++ drop (length bytes.old) bytes.new }
         ensures comes { ComesWhere result self.new }
         ensures line_only { IsLineOnly result (drop (length bytes.old) bytes.new) }
         ensures few { result ≡ Ok LineStep.Line → self.new.given ≤ most_bytes }
         // No more bytes were taken in all.
         ensures bounded { self.new.passed + length self.new.pending ≤ most_bytes + 1 }
-        // Where no line is left, and the bytes stop for good, the answer is the one of the way in which they stop.
-        ensures again { (stop : Stop) → IsStopped self.old stop → (self.new ≡ self.old) × (result ≡ answer_at stop) }
+        // Where no line is left, and the bytes stop for good, the answer is the one of the way in
+        // which they stop.
+        ensures again { (stop : Stop) → IsStopped self.old stop
+            → (self.new ≡ self.old) × (result ≡ answer_at stop) }
     {
         match self.reach()? {
             Front::Line { count } => self.give_line(bytes, count)?,
@@ -239,8 +262,8 @@ impl<S: Source> Lines<S> {
         self.given
     }
 
-    /// How many bytes were taken and belong to no line that was given: never more than the window of 65,536 holds. It takes
-    /// no memory.
+    /// How many bytes were taken and belong to no line that was given: never more than the window
+    /// of 65,536 holds. It takes no memory.
     pub fn ahead(&self) -> u32
         ensures value { result ≡ length self.now.pending }
         ensures few { result ≤ line_bytes }

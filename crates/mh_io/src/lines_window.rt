@@ -1,4 +1,5 @@
-ghost use Rattle.std.specs.Prelude.{◌≡◌, ℕ, ◌+◌, ◌-◌, ◌<◌, ◌≤◌, List, [], ◌++◌, take, drop, length, vec_len, IfOk, OnErr};
+ghost use Rattle.std.specs.Prelude.{◌≡◌, ℕ, ◌+◌, ◌-◌, ◌<◌, ◌≤◌, List, [], ◌++◌};
+ghost use Rattle.std.specs.Prelude.{take, drop, length, vec_len, IfOk, OnErr};
 ghost use Rattle.std.specs.Io.KnownBytes.{IsAtEnd};
 ghost use Rattle.mh_io.specs.Faults.{Rises};
 ghost use Rattle.mh_io.specs.Source.{Takes};
@@ -11,7 +12,8 @@ use std::marker::Model;
 /// Among how many bytes a line's LF stands at the latest.
 pub const LINE_BYTES: usize = 65_536;
 
-/// Bytes that were taken and wait to be given: the next ones of a source, as many as a line has at most.
+/// Bytes that were taken and wait to be given: the next ones of a source, as many as a line has
+/// at most.
 #[derive(Drop)]
 pub(crate) struct Window {
     bytes: Vec<u8>,
@@ -27,7 +29,8 @@ impl Model for Window {
 
     ghost view = { λ w. take (w.end - w.start) (drop w.start w.bytes.items) };
 
-    ghost invariant = { λ w. (w.start ≤ w.end) × (w.end ≤ vec_len w.bytes) × (vec_len w.bytes ≡ line_bytes) };
+    ghost invariant = { λ w. (w.start ≤ w.end) × (w.end ≤ vec_len w.bytes)
+        × (vec_len w.bytes ≡ line_bytes) };
 }
 
 /// Moves these bytes to the front.
@@ -35,7 +38,8 @@ fn move_to_front(bytes: &mut Vec<u8>, start: usize, end: usize)
     requires order { start ≤ end }
     requires bounds { end ≤ vec_len bytes.old }
     ensures len { vec_len bytes.new ≡ vec_len bytes.old }
-    ensures front { take (end - start) bytes.new.items ≡ take (end - start) (drop start bytes.old.items) }
+    ensures front { take (end - start) bytes.new.items
+        ≡ take (end - start) (drop start bytes.old.items) }
 {
     if start > 0 {
         bytes.copy_within(start..end, 0);
@@ -71,8 +75,9 @@ impl Window {
         self.start += count;
     }
 
-    /// Takes the next bytes of a source, at most so many, and adds them. The bytes that wait are moved to the front
-    /// first; none is moved twice where each whole line is left off before more is taken.
+    /// Takes the next bytes of a source, at most so many, and adds them. The bytes that wait are
+    /// moved to the front first; none is moved twice where each whole line is left off before more
+    /// is taken.
     pub(crate) fn fill<S: Source>(&mut self, source: &mut S, most: usize) -> Result<usize, Failed>
         requires some { 0 < most }
         requires room { length self.old < line_bytes }
@@ -85,7 +90,8 @@ impl Window {
             × (self.new ≡ self.old ++ more) × (length more ≡ n)) }
         ensures end { IfOk result (λ n. n ≡ 0 → IsAtEnd (S.seen source.new).left) }
 
-        ensures failed { OnErr result (Rises (S.seen source.old).faults (S.seen source.new).faults) }
+        ensures failed { OnErr result
+            (Rises (S.seen source.old).faults (S.seen source.new).faults) }
         ensures gave_stands { OnErr result ((S.seen source.new).gave ≡ (S.seen source.old).gave) }
         ensures left_stands { OnErr result ((S.seen source.new).left ≡ (S.seen source.old).left) }
         ensures stands { OnErr result (self.new ≡ self.old) }

@@ -21,16 +21,19 @@ impl Model for MemFile {
 
     ghost Value = { MemoryFile };
 
-    ghost view = { λ f. record { name = f.name; bytes = f.bytes; most = f.most; failing = f.failing.items } };
+    ghost view = { λ f.
+        record { name = f.name; bytes = f.bytes; most = f.most; failing = f.failing.items } };
 
     ghost invariant = { λ f. 0 < f.most };
 }
 
 impl MemFile {
-    /// A file of these bytes, whose sources give at most `most` of them at one call, and fail at these calls.
+    /// A file of these bytes, whose sources give at most `most` of them at one call, and fail at
+    /// these calls.
     pub(crate) fn new(name: Text, bytes: Bytes, most: usize, failing: Vec<u64>) -> Self
         requires { 0 < most }
-        ensures { result ≡ record { name = name; bytes = bytes; most = most; failing = failing.items } }
+        ensures { result
+            ≡ record { name = name; bytes = bytes; most = most; failing = failing.items } }
     {
         MemFile {
             name,

@@ -1,7 +1,9 @@
-ghost use Rattle.std.specs.Prelude.{◌≡◌, ◌<◌, ◌≤◌, [], Some, Err, false, true, option_map, IfOk, OnOk, OnErr};
+ghost use Rattle.std.specs.Prelude.{◌≡◌, ◌<◌, ◌≤◌, [], Some, Err};
+ghost use Rattle.std.specs.Prelude.{false, true, option_map, IfOk, OnOk, OnErr};
 ghost use Rattle.std.specs.Vec.{vec_len, vec_capacity};
 ghost use Rattle.mh_io.specs.Folder.{Finds, TakesBack};
-ghost use Rattle.mh_io.specs.Memory.{uncalled, with_file, files_but, opened, named_file, find_fails, after_find, after_done, source_seen, folder_seen};
+ghost use Rattle.mh_io.specs.Memory.{uncalled, with_file, files_but, opened, named_file};
+ghost use Rattle.mh_io.specs.Memory.{find_fails, after_find, after_done, source_seen, folder_seen};
 
 use crate::calls::Calls;
 use crate::folder::{FindRefused, Folder};
@@ -11,7 +13,8 @@ use mh_units::{Bytes, Text};
 use std::alloc::{AllocError, Global};
 use std::marker::Model;
 
-/// A folder over memory, for tests: its finds and the takings of its sources fail at the calls that were told to fail.
+/// A folder over memory, for tests: its finds and the takings of its sources fail at the calls
+/// that were told to fail.
 ///
 /// It tells its files, the names that it was asked for, and what was read.
 #[derive(Drop)]
@@ -42,13 +45,22 @@ impl Model for MemFolder {
       due = f.due;
     } };
 
-    ghost invariant = { λ f. (vec_len f.reads + f.due ≤ vec_capacity f.reads) × IsCount f.calls.faults × IsCount f.read_faults };
+    ghost invariant = { λ f. (vec_len f.reads + f.due ≤ vec_capacity f.reads)
+        × IsCount f.calls.faults × IsCount f.read_faults };
 }
 
 impl MemFolder {
-    /// A folder with no files. `failing` holds the numbers of the finds that are to fail; the first find is number 1.
+    /// A folder with no files. `failing` holds the numbers of the finds that are to fail; the
+    /// first find is number 1.
     pub fn new(failing: Vec<u64>) -> Self
-        ensures { result ≡ record { files = []; asked = []; reads = []; calls = uncalled failing.items; read_faults = 0; due = 0 } }
+        ensures { result ≡ record {
+          files = [];
+          asked = [];
+          reads = [];
+          calls = uncalled failing.items;
+          read_faults = 0;
+          due = 0;
+        } }
     {
         let alloc = *failing.allocator();
         MemFolder {
@@ -61,8 +73,9 @@ impl MemFolder {
         }
     }
 
-    /// Adds a file, or replaces the one of this name. Its sources give at most `most` bytes at one call, and fail at the
-    /// calls whose numbers are in `failing`; the first call is number 1. For want of memory nothing changes.
+    /// Adds a file, or replaces the one of this name. Its sources give at most `most` bytes at one
+    /// call, and fail at the calls whose numbers are in `failing`; the first call is number 1. For
+    /// want of memory nothing changes.
     pub fn add(
         &mut self,
         alloc: Global,
@@ -74,7 +87,12 @@ impl MemFolder {
         requires { 0 < most }
         ensures ok { OnOk result (self.new ≡ record self.old {
           files
-              = with_file (record { name = name.now; bytes = bytes; most = most; failing = failing.items }) self.old.files;
+              = with_file (record {
+                name = name.now;
+                bytes = bytes;
+                most = most;
+                failing = failing.items;
+              }) self.old.files;
         }) }
         ensures err { OnErr result (self.new ≡ self.old) }
     {
@@ -89,7 +107,8 @@ impl MemFolder {
 
     /// A source of the file of this name, if there is one.
     fn open(&self, alloc: Global, name: &str) -> Result<Option<MemSource>, AllocError>
-        ensures { IfOk result (λ source. source ≡ option_map opened (named_file self.now name.now)) }
+        ensures { IfOk result (λ source.
+            source ≡ option_map opened (named_file self.now name.now)) }
     {
         match self.files.iter().find(|file| file.is_named(name)) {
             Some(file) => Ok(Some(file.open(alloc)?)),
@@ -116,8 +135,10 @@ impl Folder for MemFolder {
 
     /// It fails exactly at the finds that are to fail and at names that aren't there.
     fn find(&mut self, alloc: Global, name: &str) -> Result<MemSource, FindRefused>
-        ensures finds { Finds source_seen (folder_seen self.old) (folder_seen self.new) name.now result }
-        ensures opens { IfOk result (λ source. option_map opened (named_file self.old name.now) ≡ Some source) }
+        ensures finds { Finds source_seen (folder_seen self.old)
+            (folder_seen self.new) name.now result }
+        ensures opens { IfOk result (λ source.
+            option_map opened (named_file self.old name.now) ≡ Some source) }
         ensures works { OnOk result (find_fails self.old name.now ≡ false) }
         ensures fails { result ≡ Err FindRefused.Failed → find_fails self.old name.now ≡ true }
         ensures after { self.new ≡ after_find result name.now self.old }
@@ -144,7 +165,8 @@ impl Folder for MemFolder {
 
     fn done(&mut self, source: MemSource)
         requires { 0 < self.old.due }
-        ensures takes_back { TakesBack (folder_seen self.old) (folder_seen self.new) (source_seen source) }
+        ensures takes_back { TakesBack (folder_seen self.old)
+            (folder_seen self.new) (source_seen source) }
         ensures after { self.new ≡ after_done source self.old }
     {
         self.read_faults = self.read_faults.saturating_add(source.faults());

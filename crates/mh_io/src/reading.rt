@@ -1,4 +1,5 @@
-ghost use Rattle.std.specs.Prelude.{◌≡◌, ℕ, ◌+◌, ◌-◌, ◌<◌, ◌≤◌, List, ◌++◌, take, length, IfOk, IfErr, OnOk};
+ghost use Rattle.std.specs.Prelude.{◌≡◌, ℕ, ◌+◌, ◌-◌, ◌<◌, ◌≤◌, List};
+ghost use Rattle.std.specs.Prelude.{◌++◌, take, length, IfOk, IfErr, OnOk};
 ghost use Rattle.std.specs.Io.KnownBytes.{IsAtEnd};
 ghost use Rattle.mh_io.specs.Faults.{Rises};
 ghost use Rattle.mh_io.specs.Source.{Takes, StopsAt};
@@ -51,8 +52,8 @@ impl From<Failed> for ReadAllFault {
 ///
 /// # Errors
 ///
-/// `ReadFault` only where the source's count of faults rose. `TooLong` exactly where it gave one byte more than
-/// `MOST_BYTES`. `Memory` for want of memory. What was taken before is taken.
+/// `ReadFault` only where the source's count of faults rose. `TooLong` exactly where it gave one
+/// byte more than `MOST_BYTES`. `Memory` for want of memory. What was taken before is taken.
 pub fn read_all<S: Source>(alloc: Global, source: &mut S) -> Result<Bytes, ReadAllFault>
     ensures count { (S.seen source.old).faults ≤ (S.seen source.new).faults }
     ensures name { (S.seen source.new).name ≡ (S.seen source.old).name }
@@ -64,7 +65,8 @@ pub fn read_all<S: Source>(alloc: Global, source: &mut S) -> Result<Bytes, ReadA
     // At a fault some bytes were taken, so many as the fault tells.
     ensures stops { IfErr result (λ fault. (taken : List ℕ)
         × Takes (S.seen source.old) (S.seen source.new) taken × StopsAt fault (length taken)) }
-    ensures failed { result ≡ Err ReadAllFault.ReadFault → Rises (S.seen source.old).faults (S.seen source.new).faults }
+    ensures failed { result ≡ Err ReadAllFault.ReadFault
+        → Rises (S.seen source.old).faults (S.seen source.new).faults }
 {
     let mut chunk = vec![in alloc; 0u8; CHUNK_BYTES]?;
     let mut bytes = Bytes::new(alloc);
@@ -76,7 +78,8 @@ pub fn read_all<S: Source>(alloc: Global, source: &mut S) -> Result<Bytes, ReadA
     }
 }
 
-/// Takes what comes next, by way of a buffer that has room for one byte too many at most, and adds it to `bytes`.
+/// Takes what comes next, by way of a buffer that has room for one byte too many at most, and adds
+/// it to `bytes`.
 fn take_chunk<S: Source>(
     source: &mut S,
     chunk: &mut [u8],
@@ -88,15 +91,18 @@ fn take_chunk<S: Source>(
     ensures count { (S.seen source.old).faults ≤ (S.seen source.new).faults }
     ensures name { (S.seen source.new).name ≡ (S.seen source.old).name }
 
-    ensures takes { IfOk result (λ n. Takes (S.seen source.old) (S.seen source.new) (take n chunk.new)) }
+    ensures takes { IfOk result (λ n.
+        Takes (S.seen source.old) (S.seen source.new) (take n chunk.new)) }
     ensures added { IfOk result (λ n. bytes.new ≡ bytes.old ++ take n chunk.new) }
     ensures grown { IfOk result (λ n. length bytes.new ≡ length bytes.old + n) }
     ensures still_few { OnOk result (length bytes.new ≤ most_bytes) }
     ensures end { IfOk result (λ n. n ≡ 0 → IsAtEnd (S.seen source.new).left) }
 
-    ensures stops { IfErr result (λ fault. (taken : List ℕ)
-        × Takes (S.seen source.old) (S.seen source.new) taken × StopsAt fault (length bytes.old + length taken)) }
-    ensures failed { result ≡ Err ReadAllFault.ReadFault → Rises (S.seen source.old).faults (S.seen source.new).faults }
+    ensures stops { IfErr result (λ fault.
+        (taken : List ℕ) × Takes (S.seen source.old) (S.seen source.new) taken
+        × StopsAt fault (length bytes.old + length taken)) }
+    ensures failed { result ≡ Err ReadAllFault.ReadFault
+        → Rises (S.seen source.old).faults (S.seen source.new).faults }
 {
     let taken = source.take(chunk)?;
     let most = MOST_BYTES - bytes.as_slice().len();

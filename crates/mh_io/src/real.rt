@@ -114,7 +114,12 @@ impl<R: Files> Model for RealFolder<R> {
     /// All that is seen of it.
     ghost Value = { FolderSeen };
 
-    ghost view = { λ f. record { told = None; find_faults = f.find_faults; read_faults = f.read_faults; due = f.due } };
+    ghost view = { λ f. record {
+      told = None;
+      find_faults = f.find_faults;
+      read_faults = f.read_faults;
+      due = f.due;
+    } };
 
     ghost invariant = { λ f. IsCount f.find_faults × IsCount f.read_faults };
 }

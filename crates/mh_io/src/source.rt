@@ -7,13 +7,14 @@ pub struct Failed;
 
 /// Bytes that come in, in pieces.
 ///
-/// A source counts its faults, at most to 2^64 - 1. The count never falls, and stays at that value once it is there. A
-/// source may tell its name, what it gave so far and what is left; each of these stands at every answer that doesn't say
-/// otherwise, and the name never changes.
+/// A source counts its faults, at most to 2^64 - 1. The count never falls, and stays at that value
+/// once it is there. A source may tell its name, what it gave so far and what is left; each of
+/// these stands at every answer that doesn't say otherwise, and the name never changes.
 pub trait Source: Drop {
     ghost seen: { Self → SourceSeen };
 
-    /// Takes the next bytes into the front of `buf`, and answers how many they are. 0 is the end of input.
+    /// Takes the next bytes into the front of `buf`, and answers how many they are. 0 is the end
+    /// of input.
     ///
     /// # Errors
     ///

@@ -13,7 +13,8 @@ pub struct PutFault {
 ///
 /// # Errors
 ///
-/// `PutFault` only where the sink's count of faults rose: then a front of `put` bytes went out, and not all.
+/// `PutFault` only where the sink's count of faults rose: then a front of `put` bytes went out,
+/// and not all.
 pub fn put_all<K: Sink>(sink: &mut K, bytes: &[u8]) -> Result<(), PutFault>
     ensures { PutsAll (K.seen sink.old) (K.seen sink.new) bytes.now result }
 {

@@ -58,7 +58,8 @@ impl Bytes {
         self.bytes.clear();
     }
 
-    /// Keeps the first `len` bytes, or all where there are no more, and the room. It takes no memory.
+    /// Keeps the first `len` bytes, or all where there are no more, and the room. It takes
+    /// no memory.
     pub fn truncate(&mut self, len: usize)
         ensures { self.new ≡ take len self.old }
     {

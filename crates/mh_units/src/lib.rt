@@ -1,4 +1,5 @@
-//! Units, rounding and numerals: the exact arithmetic that every margin and call amount rests on; and bytes with their parts.
+//! Units, rounding and numerals: the exact arithmetic that every margin and call amount rests on;
+//! and bytes with their parts.
 #![tactic(auto)]
 
 mod bytes;

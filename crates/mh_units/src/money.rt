@@ -6,8 +6,8 @@ use crate::quantities::Cents;
 use itoa::Buffer;
 use std::alloc::{AllocError, Global};
 
-/// Writes the cents as an amount of money: an optional minus, whole units, a point and two digits, as in `-1.00`.
-/// The only error is want of memory.
+/// Writes the cents as an amount of money: an optional minus, whole units, a point and two digits,
+/// as in `-1.00`. The only error is want of memory.
 pub fn write_cents(alloc: Global, c: Cents) -> Result<Text, AllocError>
     ensures { IfOk result (λ text. text ≡ money_text c.0) }
 {
@@ -16,8 +16,8 @@ pub fn write_cents(alloc: Global, c: Cents) -> Result<Text, AllocError>
     Ok(text)
 }
 
-/// Adds the cents to a text, as `write_cents` writes them. The only error is want of memory; a front of them may have been added
-/// then.
+/// Adds the cents to a text, as `write_cents` writes them. The only error is want of memory; a
+/// front of them may have been added then.
 #[tactic(auto, unfolding(crate::specs::Money::money_text))]
 pub fn push_cents(text: &mut Text, c: Cents) -> Result<(), AllocError>
     ensures { OnOk result (text.new ≡ text.old ++ money_text c.0) }

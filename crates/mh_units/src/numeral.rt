@@ -1,6 +1,8 @@
-ghost use Rattle.std.specs.Prelude.{◌≡◌, true, ◌^◌, ◌<◌, ◌≤◌, length, unsigned_abs, IfOk, IfSome, MatchOption};
+ghost use Rattle.std.specs.Prelude.{◌≡◌, true, ◌^◌, ◌<◌, ◌≤◌, length, unsigned_abs};
+ghost use Rattle.std.specs.Prelude.{IfOk, IfSome, MatchOption};
 ghost use Rattle.mh_units.specs.Scan.{is_numeral};
-ghost use Rattle.mh_units.specs.Numeral.{fault_number, number_of, cents_of, rate4_of, fixed_of, with_sign, IsAnswer, IsRounded, IsFixed, IsExact};
+ghost use Rattle.mh_units.specs.Numeral.{fault_number, number_of, cents_of, rate4_of, fixed_of};
+ghost use Rattle.mh_units.specs.Numeral.{with_sign, IsAnswer, IsRounded, IsFixed, IsExact};
 
 use crate::parts::take_apart;
 use crate::quantities::{Cents, Rate4};
@@ -41,7 +43,8 @@ impl NumeralFault {
     }
 }
 
-/// Reads an amount of money in USD. The value is rounded to the nearest cent, halves away from zero.
+/// Reads an amount of money in USD. The value is rounded to the nearest cent, halves away
+/// from zero.
 #[tactic(auto, unfolding(crate::specs::Numeral::cents_of))]
 pub fn read_cents(text: &[u8]) -> Result<Cents, NumeralFault>
     ensures value { result ≡ cents_of text.now }
@@ -63,12 +66,14 @@ pub fn read_rate4(text: &[u8]) -> Result<Rate4, NumeralFault>
     number_of(text, 4, MOST_RATE).map(Rate4)
 }
 
-/// Reads a numeral of at most 64 bytes without an exponent and with at most `places` digits behind the point, exactly, in units of the
-/// last of those places. None for every other text, and where the value is above 10^12 in size in these units.
+/// Reads a numeral of at most 64 bytes without an exponent and with at most `places` digits behind
+/// the point, exactly, in units of the last of those places. None for every other text, and where
+/// the value is above 10^12 in size in these units.
 pub fn read_fixed(text: &[u8], places: u8) -> Option<i64>
     requires { places ≤ 6 }
     ensures value { result ≡ fixed_of places text.now }
-    ensures answer { MatchOption result (¬ IsFixed places text.now) (λ n. IsFixed places text.now × IsExact places text.now n) }
+    ensures answer { MatchOption result (¬ IsFixed places text.now)
+        (λ n. IsFixed places text.now × IsExact places text.now n) }
     ensures size { IfSome result (λ n. unsigned_abs n ≤ 10 ^ 12) }
 {
     let parts = take_apart(text);

@@ -2,7 +2,9 @@ ghost use Rattle.std.specs.Prelude.{◌≡◌, ◌+◌, ◌^◌, ◌<◌, ◌≤
 ghost use Rattle.std.specs.List.{AllByRecursion, prefix_len};
 ghost use Rattle.mh_units.specs.Grammar.{IsDigit};
 ghost use Rattle.std.specs.Char.{is_ascii_digit};
-ghost use Rattle.mh_units.specs.Numeral.{is_minus, after_sign, after_point, after_mark, digits, after_digits, scaled, whole, fraction, after_mantissa, exponent, exponent_digits};
+ghost use Rattle.mh_units.specs.Numeral.{is_minus, after_sign, after_point, after_mark};
+ghost use Rattle.mh_units.specs.Numeral.{digits, after_digits, scaled, whole, fraction};
+ghost use Rattle.mh_units.specs.Numeral.{after_mantissa, exponent, exponent_digits};
 
 use crate::value::{capped_number, shifted};
 
@@ -27,12 +29,14 @@ pub struct Parts<'a> {
 }
 
 impl Parts<'_> {
-    /// The value times `10^places`, rounded to the nearest, without its sign, counted up to `ENOUGH`.
+    /// The value times `10^places`, rounded to the nearest, without its sign, counted up
+    /// to `ENOUGH`.
     pub fn magnitude(&self, places: usize) -> u64
         requires digits { AllByRecursion IsDigit (self.now.whole.now ++ self.now.fraction.now) }
         requires room { length self.now.whole.now + length self.now.fraction.now ≤ 64 }
         requires few { places ≤ 6 }
-        ensures { result ≡ min (scaled places self.now.whole.now self.now.fraction.now self.now.exponent_negative self.now.exponent.now) (10 ^ 16) }
+        ensures { result ≡ min (scaled places self.now.whole.now self.now.fraction.now
+            self.now.exponent_negative self.now.exponent.now) (10 ^ 16) }
     {
         let exponent = capped_number(0, self.exponent, FAR) as usize;
         let down = self.fraction.len();

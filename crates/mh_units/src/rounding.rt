@@ -1,5 +1,7 @@
-ghost use Rattle.std.specs.Prelude.{◌≡◌, ◌+◌, ◌*◌, ◌<◌, ◌≤◌, ◌^◌, pos, neg_ℤ, ◌≤ℤ◌, ◌<ℤ◌, ◌*ℤ◌, unsigned_abs};
-ghost use Rattle.mh_units.specs.Rounding.{up, down, away, trunc, root, clamp, IsUp, IsDown, IsAway, IsTrunc, IsRoot};
+ghost use Rattle.std.specs.Prelude.{◌≡◌, ◌+◌, ◌*◌, ◌<◌, ◌≤◌, ◌^◌, pos, neg_ℤ};
+ghost use Rattle.std.specs.Prelude.{◌≤ℤ◌, ◌<ℤ◌, ◌*ℤ◌, unsigned_abs};
+ghost use Rattle.mh_units.specs.Rounding.{up, down, away, trunc, root, clamp};
+ghost use Rattle.mh_units.specs.Rounding.{IsUp, IsDown, IsAway, IsTrunc, IsRoot};
 
 use crate::quantities::Corr6;
 
@@ -43,7 +45,8 @@ pub fn div_trunc(a: i128, b: i128) -> i128
     a / b
 }
 
-/// The product of two correlations of -1,000,000 to 1,000,000 each, rounded towards zero. It is a correlation again.
+/// The product of two correlations of -1,000,000 to 1,000,000 each, rounded towards zero. It is a
+/// correlation again.
 pub fn mul_corr(a: Corr6, b: Corr6) -> Corr6
     requires first { unsigned_abs a.0 ≤ 1000000 }
     requires second { unsigned_abs b.0 ≤ 1000000 }

@@ -68,7 +68,8 @@ impl Phase {
 
 /// Whether the text is a numeral. If not, how many bytes at its front some numeral begins with.
 pub fn check(text: &[u8]) -> Result<(), usize>
-    ensures { MatchResult result (λ _. is_numeral text.now ≡ true) (λ place. (is_numeral text.now ≡ false) × (place ≡ reach Start text.now)) }
+    ensures { MatchResult result (λ _. is_numeral text.now ≡ true)
+        (λ place. (is_numeral text.now ≡ false) × (place ≡ reach Start text.now)) }
 {
     let mut phase = Phase::Start;
     for (place, byte) in text.iter().enumerate() {
@@ -84,7 +85,8 @@ pub fn check(text: &[u8]) -> Result<(), usize>
     }
 }
 
-// The phase after one more byte, if a numeral can go on with it. Where it may end, a digit leaves the phase as it is.
+// The phase after one more byte, if a numeral can go on with it. Where it may end, a digit leaves
+// the phase as it is.
 fn after(phase: Phase, byte: u8) -> Option<Phase>
     ensures { result ≡ next phase (kind_of byte) }
 {

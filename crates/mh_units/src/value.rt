@@ -1,4 +1,5 @@
-ghost use Rattle.std.specs.Prelude.{◌≡◌, ◌+◌, ◌*◌, ◌^◌, ◌<◌, ◌≤◌, ◌++◌, min, length, take, slice_index};
+ghost use Rattle.std.specs.Prelude.{◌≡◌, ◌+◌, ◌*◌, ◌^◌, ◌<◌, ◌≤◌, ◌++◌};
+ghost use Rattle.std.specs.Prelude.{min, length, take, slice_index};
 ghost use Rattle.std.specs.List.{AllByRecursion};
 ghost use Rattle.mh_units.specs.Grammar.{IsDigit};
 ghost use Rattle.mh_units.specs.Numeral.{number_after, number, nearest};
@@ -33,11 +34,13 @@ pub fn with_zeros(number: u64, zeros: u64) -> u64
     size
 }
 
-/// The number that the two parts write together, times `10^up`, divided by `10^down`, rounded to the nearest, counted up to `ENOUGH`.
+/// The number that the two parts write together, times `10^up`, divided by `10^down`, rounded to
+/// the nearest, counted up to `ENOUGH`.
 pub fn shifted(whole: &[u8], fraction: &[u8], up: usize, down: usize) -> u64
     requires digits { AllByRecursion IsDigit (whole.now ++ fraction.now) }
     requires room { length whole.now + length fraction.now ≤ 64 }
-    ensures { result ≡ min (nearest (number (whole.now ++ fraction.now) * 10 ^ up) (10 ^ down)) (10 ^ 16) }
+    ensures { result
+        ≡ min (nearest (number (whole.now ++ fraction.now) * 10 ^ up) (10 ^ down)) (10 ^ 16) }
 {
     if down <= up {
         let all = leading(whole, fraction, whole.len() + fraction.len());
@@ -47,7 +50,8 @@ pub fn shifted(whole: &[u8], fraction: &[u8], up: usize, down: usize) -> u64
     }
 }
 
-// The number that the two parts write together, without the last `dropped` digits, rounded to the nearest.
+// The number that the two parts write together, without the last `dropped` digits, rounded to
+// the nearest.
 fn rounded(whole: &[u8], fraction: &[u8], dropped: usize) -> u64
     requires digits { AllByRecursion IsDigit (whole.now ++ fraction.now) }
     requires room { length whole.now + length fraction.now ≤ 64 }

@@ -1,4 +1,5 @@
-ghost use Rattle.std.specs.Prelude.{◌≡◌, ◌+◌, ◌*◌, ◌^◌, ◌<◌, ◌≤◌, length, map, sum_by, ◌*ℤ◌, unsigned_abs};
+ghost use Rattle.std.specs.Prelude.{◌≡◌, ◌+◌, ◌*◌, ◌^◌, ◌<◌, ◌≤◌};
+ghost use Rattle.std.specs.Prelude.{length, map, sum_by, ◌*ℤ◌, unsigned_abs};
 ghost use Rattle.pair_sum.specs.PairTotal.{at_place, sum_below, term};
 ghost use Rattle.pair_sum.specs.Marked.{beside};
 
@@ -9,8 +10,8 @@ use crate::row::correlated;
 use crate::steps::Steps;
 use std::sync::ledger::Ledger;
 
-// The terms of one row with all other places but the marked ones before it, which are fewer steps than there are places. The
-// row's own amount is multiplied once.
+// The terms of one row with all other places but the marked ones before it, which are fewer steps
+// than there are places. The row's own amount is multiplied once.
 pub(crate) fn row_beside<T: Weighted, C: Correlation, M: Marks, L: Ledger>(
     items: &[T],
     row: usize,
@@ -41,8 +42,8 @@ fn correlated_beside<T: Weighted, C: Correlation, M: Marks, L: Ledger>(
     requires size { C.size corr.now ≡ length items.now }
     requires marks { M.size marked.now ≡ length items.now }
     requires in_range { sum_by (λ item. unsigned_abs (T.weight item)) items.now < 84 * 10 ^ 14 }
-    ensures value { let apart = beside (M.is_marked marked.now) (C.corr corr.now) in
-        result ≡ sum_below (λ j. apart row j *ℤ at_place (map T.weight items.now) j) (length items.now) }
+    ensures value { let apart = beside (M.is_marked marked.now) (C.corr corr.now) in result
+        ≡ sum_below (λ j. apart row j *ℤ at_place (map T.weight items.now) j) (length items.now) }
     ensures steps { steps.new + 1 ≤ steps.old + length items.now }
 {
     let mut sum = 0;
@@ -52,7 +53,8 @@ fn correlated_beside<T: Weighted, C: Correlation, M: Marks, L: Ledger>(
     sum
 }
 
-// The amount of one place times its correlation with the row, where it is beside the row, and else 0.
+// The amount of one place times its correlation with the row, where it is beside the row, and
+// else 0.
 fn amount_beside<T: Weighted, C: Correlation, M: Marks, L: Ledger>(
     items: &[T],
     row: usize,

@@ -3,8 +3,8 @@ ghost use Rattle.simm_rules.specs.Concentration.{one};
 
 use simm_rules::mh_units::Corr6;
 
-/// The correlations of a list of factors or of buckets, by their places: 1 of each with itself, the same both ways round, and
-/// between -1 and 1.
+/// The correlations of a list of factors or of buckets, by their places: 1 of each with itself,
+/// the same both ways round, and between -1 and 1.
 pub trait Correlation {
     ghost size: { Self → ℕ };
 
@@ -22,7 +22,8 @@ pub trait Correlation {
 
     ghost symmetric: { (x : Self) (i j : ℕ) → i < size x → j < size x → corr x i j ≡ corr x j i };
 
-    ghost at_most_one: { (x : Self) (i j : ℕ) → i < size x → j < size x → unsigned_abs (corr x i j) ≤ 1000000 };
+    ghost at_most_one: { (x : Self) (i j : ℕ) → i < size x → j < size x
+        → unsigned_abs (corr x i j) ≤ 1000000 };
 
     ghost one_with_itself: { (x : Self) (i : ℕ) → i < size x → corr x i i ≡ one };
 }

@@ -1,5 +1,5 @@
-//! Sums over all ordered pairs of weighted amounts, and the roots of such sums: the value of a bucket, and the margin over
-//! buckets. Nothing here takes memory.
+//! Sums over all ordered pairs of weighted amounts, and the roots of such sums: the value of a
+//! bucket, and the margin over buckets. Nothing here takes memory.
 //! (ISDA SIMM methodology, aggregation within a bucket and across buckets.)
 #![tactic(auto)]
 

@@ -1,4 +1,5 @@
-ghost use Rattle.std.specs.Prelude.{◌≡◌, ℕ, ◌+◌, ◌*◌, ◌^◌, ◌<◌, ◌≤◌, length, map, sum_by, ℤ, ◌+ℤ◌, unsigned_abs, if◌then◌else◌};
+ghost use Rattle.std.specs.Prelude.{◌≡◌, ℕ, ◌+◌, ◌*◌, ◌^◌, ◌<◌, ◌≤◌, length, map, sum_by};
+ghost use Rattle.std.specs.Prelude.{ℤ, ◌+ℤ◌, unsigned_abs, if◌then◌else◌};
 ghost use Rattle.pair_sum.specs.Marked.{count_marked, marked_before, marked_total};
 
 use crate::beside::row_beside;
@@ -9,8 +10,8 @@ use crate::pairs::pair_at;
 use crate::steps::Steps;
 use std::sync::ledger::Ledger;
 
-// The sum over all ordered pairs of items of which at least one is marked. A pair of two different items is multiplied once
-// and counted twice.
+// The sum over all ordered pairs of items of which at least one is marked. A pair of two different
+// items is multiplied once and counted twice.
 pub(crate) fn marked_sum<T: Weighted, C: Correlation, M: Marks, L: Ledger>(
     items: &[T],
     corr: &C,
@@ -33,7 +34,8 @@ pub(crate) fn marked_sum<T: Weighted, C: Correlation, M: Marks, L: Ledger>(
     sum
 }
 
-// What a place adds to the pairs of the marked ones before it, if it is marked: at most a step for each place.
+// What a place adds to the pairs of the marked ones before it, if it is marked: at most a step for
+// each place.
 fn marked_terms<T: Weighted, C: Correlation, M: Marks, L: Ledger>(
     items: &[T],
     row: usize,

@@ -1,4 +1,5 @@
-ghost use Rattle.std.specs.Prelude.{◌≡◌, ◌+◌, ◌-◌, ◌*◌, ◌^◌, ◌<◌, ◌≤◌, length, map, sum_by, ◌*ℤ◌, unsigned_abs};
+ghost use Rattle.std.specs.Prelude.{◌≡◌, ◌+◌, ◌-◌, ◌*◌, ◌^◌, ◌<◌, ◌≤◌};
+ghost use Rattle.std.specs.Prelude.{length, map, sum_by, ◌*ℤ◌, unsigned_abs};
 ghost use Rattle.pair_sum.specs.PairTotal.{pair_total, term};
 
 use crate::correlation::Correlation;
@@ -20,8 +21,8 @@ pub fn pair_term<L: Ledger>(a: i128, b: i128, corr: Corr6, steps: &mut Steps<L>)
     i128::from(corr.0) * a * b
 }
 
-/// The sum over all ordered pairs of items of their correlation and both amounts, in cents squared times 10^6. A pair of two
-/// different items is multiplied once and counted twice.
+/// The sum over all ordered pairs of items of their correlation and both amounts, in cents squared
+/// times 10^6. A pair of two different items is multiplied once and counted twice.
 pub fn pair_sum<T: Weighted, C: Correlation, L: Ledger>(
     items: &[T],
     corr: &C,

@@ -1,4 +1,5 @@
-ghost use Rattle.std.specs.Prelude.{◌≡◌, ℕ, ◌+◌, ◌*◌, ◌^◌, ◌<◌, ◌≤◌, false, length, map, sum_by, ◌+ℤ◌, ◌-ℤ◌, unsigned_abs};
+ghost use Rattle.std.specs.Prelude.{◌≡◌, ℕ, ◌+◌, ◌*◌, ◌^◌, ◌<◌, ◌≤◌};
+ghost use Rattle.std.specs.Prelude.{false, length, map, sum_by, ◌+ℤ◌, ◌-ℤ◌, unsigned_abs};
 ghost use Rattle.pair_sum.specs.PairTotal.{at_place, pair_total};
 ghost use Rattle.pair_sum.specs.Marked.{count_marked, marked_total};
 
@@ -9,8 +10,8 @@ use crate::marks::Marks;
 use crate::steps::Steps;
 use std::sync::ledger::Ledger;
 
-/// A sum less that over all ordered pairs of items of which at least one is marked, in cents squared times 10^6. It takes at
-/// most a step for each marked item and each item.
+/// A sum less that over all ordered pairs of items of which at least one is marked, in cents
+/// squared times 10^6. It takes at most a step for each marked item and each item.
 pub fn take_out<T: Weighted, C: Correlation, M: Marks, L: Ledger>(
     q: i128,
     items: &[T],
@@ -32,8 +33,8 @@ pub fn take_out<T: Weighted, C: Correlation, M: Marks, L: Ledger>(
     q - marked_sum(items, corr, marked, steps)
 }
 
-/// A sum and that over all ordered pairs of items of which at least one is marked, in cents squared times 10^6. It takes at
-/// most a step for each marked item and each item.
+/// A sum and that over all ordered pairs of items of which at least one is marked, in cents
+/// squared times 10^6. It takes at most a step for each marked item and each item.
 pub fn put_in<T: Weighted, C: Correlation, M: Marks, L: Ledger>(
     q: i128,
     items: &[T],
@@ -55,9 +56,10 @@ pub fn put_in<T: Weighted, C: Correlation, M: Marks, L: Ledger>(
     q + marked_sum(items, corr, marked, steps)
 }
 
-/// The sum over all ordered pairs of items as they are after a change, from that before it, in cents squared times 10^6. Both
-/// lists are of the same places; those that aren't marked have the same amounts and correlations in both. It takes at most two
-/// steps for each marked place and each place.
+/// The sum over all ordered pairs of items as they are after a change, from that before it, in
+/// cents squared times 10^6. Both lists are of the same places; those that aren't marked have the
+/// same amounts and correlations in both. It takes at most two steps for each marked place and
+/// each place.
 pub fn renew_sum<T: Weighted, B: Correlation, A: Correlation, M: Marks, L: Ledger>(
     q: i128,
     before: &[T],
@@ -72,8 +74,10 @@ pub fn renew_sum<T: Weighted, B: Correlation, A: Correlation, M: Marks, L: Ledge
     requires before_size { B.size before_corr.now ≡ length before.now }
     requires after_size { A.size after_corr.now ≡ length after.now }
     requires marks { M.size marked.now ≡ length after.now }
-    requires before_in_range { sum_by (λ item. unsigned_abs (T.weight item)) before.now < 84 * 10 ^ 14 }
-    requires after_in_range { sum_by (λ item. unsigned_abs (T.weight item)) after.now < 84 * 10 ^ 14 }
+    requires before_in_range { sum_by (λ item. unsigned_abs (T.weight item)) before.now
+        < 84 * 10 ^ 14 }
+    requires after_in_range { sum_by (λ item. unsigned_abs (T.weight item)) after.now
+        < 84 * 10 ^ 14 }
     requires sum { q ≡ pair_total (B.corr before_corr.now) (map T.weight before.now) }
 
     // places that aren't marked

@@ -16,16 +16,16 @@ pub struct FedLine {
     pub request: Option<Request>,
 }
 
-/// Gives the next line that isn't passed over, or `None` where the input ended. `room` is what a line is read into; it takes
-/// memory for no more than the longest line.
+/// Gives the next line that isn't passed over, or `None` where the input ended. `room` is what a
+/// line is read into; it takes memory for no more than the longest line.
 ///
 /// An empty line and one that begins with `#` is passed over. Lines are counted from 1.
 ///
 /// # Errors
 ///
-/// Those of `mh_io::Lines`: `ReadFault` only where the source's count of faults rose since these lines were made, `LineLong`
-/// and `TooLong` exactly by the bytes, each after every line before. `Memory` for want of memory, at the line that was to be
-/// given next.
+/// Those of `mh_io::Lines`: `ReadFault` only where the source's count of faults rose since these
+/// lines were made, `LineLong` and `TooLong` exactly by the bytes, each after every line before.
+/// `Memory` for want of memory, at the line that was to be given next.
 pub fn next_fed_line<S: Source>(
     lines: &mut Lines<S>,
     room: &mut Bytes,

@@ -13,8 +13,8 @@ pub enum Request {
     Allot { amount: u64 },
     /// `GIVE` and an amount of what it holds: as much less. From 1 to 10^15.
     Give { amount: u64 },
-    /// `CALL`, a margin of 0 to 10^15, and what is booked, at most 10^15 in size: what is called for at the threshold that
-    /// it holds.
+    /// `CALL`, a margin of 0 to 10^15, and what is booked, at most 10^15 in size: what is called
+    /// for at the threshold that it holds.
     Call { margin: i64, booked: i64 },
 }
 

@@ -17,7 +17,8 @@ pub(crate) fn margin_in(field: &[u8]) -> Option<i64>
     Some(cents)
 }
 
-/// The cents of a numeral of at least one cent, at most 10^15; `None` of another text. It takes no memory.
+/// The cents of a numeral of at least one cent, at most 10^15; `None` of another text. It takes
+/// no memory.
 pub fn amount_in(field: &[u8]) -> Option<u64>
     ensures value { result ≡ some_amount field.now }
     ensures from { IfSome result (λ cents. 1 ≤ cents) }

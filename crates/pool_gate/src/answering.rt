@@ -26,7 +26,8 @@ fn add_message(
     message: Message,
     reply: Reply,
 ) -> Result<(), AllocError>
-    ensures ok { OnOk result (text.new ≡ text.old ++ message_line message.feed message.line message.request reply) }
+    ensures ok { OnOk result
+        (text.new ≡ text.old ++ message_line message.feed message.line message.request reply) }
     ensures err { OnErr result (text.new ≡ text.old) }
 {
     room.clear();
@@ -49,8 +50,8 @@ impl<S: Source> PoolJob<S> {
     }
 }
 
-/// Replies to a message in the name of the feed's set, whose terms these are. For want of memory nothing moved, and there is
-/// no line of it.
+/// Replies to a message in the name of the feed's set, whose terms these are. For want of memory
+/// nothing moved, and there is no line of it.
 pub(crate) fn answer<R: Wait, S: Source>(
     rt: &R,
     pool: &Pool,
@@ -71,8 +72,8 @@ pub(crate) fn answer<R: Wait, S: Source>(
     }
 }
 
-/// Takes an amount of the rest, or tells that it isn't there. The line is that of the amount got, until it is known not to
-/// be; where it isn't there nothing moves.
+/// Takes an amount of the rest, or tells that it isn't there. The line is that of the amount got,
+/// until it is known not to be; where it isn't there nothing moves.
 fn allot<R: Wait, S: Source>(
     rt: &R,
     pool: &Pool,
@@ -82,7 +83,8 @@ fn allot<R: Wait, S: Source>(
 ) -> Result<(), AllocError>
     requires seat { IsSeatOf pool.now job.old.seat }
     requires amount { (1 ≤ amount) × (amount ≤ 10 ^ 15) }
-    ensures ok { (terms : Agreement) → OnOk result (Replies terms line (request.Allot amount) job.old job.new) }
+    ensures ok { (terms : Agreement)
+        → OnOk result (Replies terms line (request.Allot amount) job.old job.new) }
     ensures err { OnErr result (RepliesNothing job.old job.new) }
 {
     let request = Request::Allot { amount };
@@ -107,7 +109,8 @@ fn give<S: Source>(
 ) -> Result<(), AllocError>
     requires seat { IsSeatOf pool.now job.old.seat }
     requires amount { 1 ≤ amount }
-    ensures ok { (terms : Agreement) → OnOk result (Replies terms line (request.Give amount) job.old job.new) }
+    ensures ok { (terms : Agreement)
+        → OnOk result (Replies terms line (request.Give amount) job.old job.new) }
     ensures err { OnErr result (RepliesNothing job.old job.new) }
 {
     let request = Request::Give { amount };

@@ -19,8 +19,8 @@ use pool_feed::{FedLine, next_fed_line};
 use std::sync::Wait;
 use threshold_pool::Pool;
 
-/// Takes the messages of a feed one after another, each as a call of its set on the pool, until the feed ends. A line that is
-/// no message is reported, and the feed goes on.
+/// Takes the messages of a feed one after another, each as a call of its set on the pool, until
+/// the feed ends. A line that is no message is reported, and the feed goes on.
 pub(crate) fn run_feed<R: Wait, S: Source, G: Gate>(
     rt: &R,
     pool: &Pool,
@@ -63,7 +63,8 @@ fn take_line<R: Wait, S: Source, G: Gate>(
     job: &mut PoolJob<S>,
 ) -> Option<FeedEnd>
     requires seat { IsSeatOf pool.now job.old.seat }
-    ensures takes { (first : Lined S) (told : List FedLine) → Told S.seen first job.old.lines told → Takes S.seen terms.now first told job.old job.new result }
+    ensures takes { (first : Lined S) (told : List FedLine) → Told S.seen first job.old.lines told
+        → Takes S.seen terms.now first told job.old job.new result }
     ensures forward { result ≡ None → job.old.lines.given < job.new.lines.given }
 {
     match next_fed_line(&mut job.lines, &mut job.room) {
@@ -101,7 +102,8 @@ fn meet<R: Wait, S: Source, G: Gate>(
 
 /// Reports a line that is no message, or tells that there was no memory for it.
 fn refuse<S: Source>(job: &mut PoolJob<S>, line: u32) -> Option<FeedEnd>
-    ensures { (terms : Agreement) → Meets terms (record { line = line; request = None }) job.old job.new result }
+    ensures { (terms : Agreement)
+        → Meets terms (record { line = line; request = None }) job.old job.new result }
 {
     match job.report.refused.push(line) {
         Ok(()) => None,

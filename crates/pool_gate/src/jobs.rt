@@ -12,8 +12,9 @@ use std::sync::Wait;
 use std::thread::{Threads, for_each_mut};
 use threshold_pool::Pool;
 
-/// Runs feeds at the same time, each in a thread of its own; where a thread can't be started this one runs the feed itself.
-/// The feed of each number is of the set at that place, and is called for by the terms by which that set collects margin.
+/// Runs feeds at the same time, each in a thread of its own; where a thread can't be started this
+/// one runs the feed itself. The feed of each number is of the set at that place, and is called
+/// for by the terms by which that set collects margin.
 pub(crate) fn run_jobs<R: Threads + Wait + Sync, S: Source + Send, G: Gate>(
     rt: &R,
     pool: &Pool,

@@ -29,7 +29,8 @@ pub(crate) fn push_message(
     message: Message,
     reply: Reply,
 ) -> Result<(), AllocError>
-    ensures { OnOk result (text.new ≡ text.old ++ message_line message.feed message.line message.request reply) }
+    ensures { OnOk result
+        (text.new ≡ text.old ++ message_line message.feed message.line message.request reply) }
 {
     push_number(text, message.feed)?;
     push_number(text, message.line)?;
@@ -62,7 +63,8 @@ fn push_request(text: &mut Text, request: Request) -> Result<(), AllocError>
 
 /// Adds a word and an amount that end a line.
 fn push_last_word(text: &mut Text, word: &[u8], cents: i128) -> Result<(), AllocError>
-    ensures { OnOk result (text.new ≡ text.old ++ (field word.now ++ last_field (money_text cents))) }
+    ensures { OnOk result
+        (text.new ≡ text.old ++ (field word.now ++ last_field (money_text cents))) }
 {
     push_field(text, word)?;
     push_last_amount(text, cents)

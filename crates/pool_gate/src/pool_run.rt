@@ -1,5 +1,6 @@
 //! Feeds from their first byte to their end, on a total that they share.
-ghost use Rattle.std.specs.Prelude.{◌≡◌, ◌<◌, ◌≤◌, ◌^◌, [], ◌∷◌, ◌++◌, length, map, All, IfOk, IfErr};
+ghost use Rattle.std.specs.Prelude.{◌≡◌, ◌<◌, ◌≤◌, ◌^◌, [], ◌∷◌, ◌++◌};
+ghost use Rattle.std.specs.Prelude.{length, map, All, IfOk, IfErr};
 ghost use Rattle.std.specs.List.{AllByRecursion};
 ghost use Rattle.std.specs.Vec.{vec_len, vec_capacity};
 ghost use Rattle.threshold_pool.specs.Seats.{fresh_seat};
@@ -29,13 +30,15 @@ pub struct PoolRun<S: Source> {
     pub rest: u64,
 }
 
-/// Runs feeds at the same time on a total of 1 to 10^15 cents that they share, each from its first byte to its end. There are 1
-/// to 32 feeds; each is of the set at its place, of which there is one at least for each feed, and what it calls for is by the
-/// terms by which that set collects margin. The gate is called before and after each message, with the feed's number and its
-/// set's place.
+/// Runs feeds at the same time on a total of 1 to 10^15 cents that they share, each from its
+/// first byte to its end. There are 1 to 32 feeds; each is of the set at its place, of which
+/// there is one at least for each feed, and what it calls for is by the terms by which that set
+/// collects margin. The gate is called before and after each message, with the feed's number and
+/// its set's place.
 ///
-/// A line that is no message is reported, and its feed goes on. A feed that ends early has its whole messages done; for want of
-/// memory it ends in the message for which there was none, which moved nothing.
+/// A line that is no message is reported, and its feed goes on. A feed that ends early has its
+/// whole messages done; for want of memory it ends in the message for which there was none, which
+/// moved nothing.
 ///
 /// # Errors
 ///
@@ -51,7 +54,8 @@ pub fn run_on_pool<R: Threads + Wait + Sync, S: Source + Send, G: Gate>(
     requires total { (1 ≤ total) × (total ≤ 10 ^ 15) }
     requires feeds { (1 ≤ vec_len sources) × (vec_len sources ≤ 32) }
     requires sets { vec_len sources ≤ length sets.now }
-    ensures ran { IfOk result (λ run. RanOnPool S.seen total sets.now sources.items run.sources.items run.reports.items run.rest) }
+    ensures ran { IfOk result (λ run. RanOnPool S.seen total sets.now sources.items
+        run.sources.items run.reports.items run.rest) }
     ensures back { IfErr result (λ memory. memory.back.items ≡ sources.items) }
 {
     let feeds = sources.len();
@@ -112,8 +116,10 @@ struct Room<S: Source> {
 
 impl<S: Source> Room<S> {
     fn new(alloc: Global, feeds: usize) -> Result<Room<S>, AllocError>
-        ensures sources { IfOk result (λ room. (room.sources.items ≡ []) × (feeds ≤ vec_capacity room.sources)) }
-        ensures reports { IfOk result (λ room. (room.reports.items ≡ []) × (feeds ≤ vec_capacity room.reports)) }
+        ensures sources { IfOk result (λ room.
+            (room.sources.items ≡ []) × (feeds ≤ vec_capacity room.sources)) }
+        ensures reports { IfOk result (λ room.
+            (room.reports.items ≡ []) × (feeds ≤ vec_capacity room.reports)) }
     {
         Ok(Room {
             sources: Vec::with_capacity(alloc, feeds)?,
@@ -150,7 +156,8 @@ impl<S: Source> Room<S> {
     }
 }
 
-/// Takes a job apart: its source and its report go into the room that is there, and its seat comes back.
+/// Takes a job apart: its source and its report go into the room that is there, and its seat
+/// comes back.
 fn apart<S: Source>(
     sources: &mut Vec<S>,
     reports: &mut Vec<PoolReport>,
@@ -160,7 +167,8 @@ fn apart<S: Source>(
     requires reports { vec_len reports.old < vec_capacity reports.old }
     ensures sources { sources.new.items ≡ sources.old.items ++ job.lines.source ∷ [] }
     ensures reports { reports.new.items ≡ reports.old.items ++ reported job ∷ [] }
-    ensures room { (vec_capacity sources.new ≡ vec_capacity sources.old) × (vec_capacity reports.new ≡ vec_capacity reports.old) }
+    ensures room { (vec_capacity sources.new ≡ vec_capacity sources.old)
+        × (vec_capacity reports.new ≡ vec_capacity reports.old) }
     ensures seat { result ≡ job.seat }
 {
     let PoolJob {

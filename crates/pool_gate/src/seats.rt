@@ -6,7 +6,8 @@ ghost use Rattle.threshold_pool.specs.Seats.{fresh_seat};
 use std::alloc::{AllocError, Global};
 use threshold_pool::{Pool, PoolSeat};
 
-/// A seat for each feed, of the one that has them all and made no move. The only error is want of memory.
+/// A seat for each feed, of the one that has them all and made no move. The only error is want
+/// of memory.
 pub(crate) fn share_seats(
     alloc: Global,
     pool: &Pool,

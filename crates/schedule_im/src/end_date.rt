@@ -26,8 +26,8 @@ impl Model for EndDate {
 }
 
 impl EndDate {
-    /// The day of a text `YYYY-MM-DD`; None exactly where the text isn't of that form, or the calendar has no such day in the years
-    /// 0001 to 9999.
+    /// The day of a text `YYYY-MM-DD`; None exactly where the text isn't of that form, or the
+    /// calendar has no such day in the years 0001 to 9999.
     #[tactic(auto, unfolding(crate::specs::EndDates::end_date_of))]
     pub fn read(text: &[u8]) -> Option<EndDate>
         ensures { result ≡ end_date_of text.now }

@@ -1,6 +1,7 @@
 //! The gross margin of each class.
 ghost use Rattle.std.specs.Prelude.{◌≡◌, ◌≤◌};
-ghost use Rattle.schedule_im.specs.Margin.{IsPart, IsShare, AreParts, class_gross, class_total, gross_by_class};
+ghost use Rattle.schedule_im.specs.Margin.{IsPart, IsShare, AreParts};
+ghost use Rattle.schedule_im.specs.Margin.{class_gross, class_total, gross_by_class};
 ghost use Rattle.schedule_im.specs.Rule.{gross_of, sizes, most_sizes};
 
 use crate::class::ScheduleClass;

@@ -1,5 +1,5 @@
-//! Margin by the standard schedule: a rate of the notional by product class and remaining term, and of the gross so found the
-//! part that the ratio of net to gross replacement cost leaves.
+//! Margin by the standard schedule: a rate of the notional by product class and remaining term,
+//! and of the gross so found the part that the ratio of net to gross replacement cost leaves.
 #![tactic(auto)]
 
 mod class;

@@ -1,6 +1,8 @@
 ghost use Rattle.std.specs.Prelude.{◌≡◌, ◌≤◌, length, pos, ◌<ℤ◌, unsigned_abs};
-ghost use Rattle.schedule_im.specs.Margin.{AreScheduled, IsPart, IsShare, schedule_margin, margin_by_rule};
-ghost use Rattle.schedule_im.specs.Rule.{present_value, net_cost, gross_cost, ratio_of, margin_of, sizes, most_sizes};
+ghost use Rattle.schedule_im.specs.Margin.{AreScheduled, IsPart, IsShare};
+ghost use Rattle.schedule_im.specs.Margin.{schedule_margin, margin_by_rule};
+ghost use Rattle.schedule_im.specs.Rule.{present_value, net_cost, gross_cost};
+ghost use Rattle.schedule_im.specs.Rule.{ratio_of, margin_of, sizes, most_sizes};
 
 use crate::end_date::EndDate;
 use crate::gross::ClassGross;
@@ -33,8 +35,9 @@ pub struct ScheduleRange {
 /// The greatest sum of the amounts' sizes, in cents.
 const MOST_SIZES: i128 = 100_000_000_000_000_000;
 
-/// The margin of the rows on a day, by the standard schedule: of the gross margin 0.4, and 0.6 times the ratio of net to gross
-/// replacement cost; all of it where no present value is positive. It takes no memory.
+/// The margin of the rows on a day, by the standard schedule: of the gross margin 0.4, and 0.6
+/// times the ratio of net to gross replacement cost; all of it where no present value is positive.
+/// It takes no memory.
 ///
 /// # Errors
 ///

@@ -9,7 +9,8 @@ use crate::end_date::EndDate;
 use crate::row::ScheduleRow;
 use simm_rules::mh_units::div_up;
 
-/// The rate by the years up to the end: up to two, above two and up to five, above five, which it is without an end too.
+/// The rate by the years up to the end: up to two, above two and up to five, above five, which it
+/// is without an end too.
 fn rate_by_end(short: u8, middle: u8, long: u8, day: EndDate, end: Option<EndDate>) -> u8
     requires short { short ≤ 15 }
     requires middle { middle ≤ 15 }

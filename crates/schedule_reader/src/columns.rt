@@ -26,7 +26,8 @@ fn required(header: &Records, column: ScheduleColumn) -> Result<usize, ScheduleF
     place_named(header, column.name()).ok_or(ScheduleFault::MissingColumn(column))
 }
 
-/// The places of the columns in a header, the newest record; the fault is the first column that it lacks.
+/// The places of the columns in a header, the newest record; the fault is the first column that
+/// it lacks.
 #[tactic(auto, unfolding(crate::specs::Columns::columns_of))]
 pub fn columns_of(header: &Records) -> Result<Columns, ScheduleFault>
     ensures { result ≡ columns_of (newest header.now) }

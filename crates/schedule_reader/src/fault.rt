@@ -41,8 +41,8 @@ impl ScheduleRowFault {
     }
 }
 
-/// Why the bytes of a CRIF file give no rows of the schedule: the first fault in reading order. Records are counted from 1, and the
-/// header is the first.
+/// Why the bytes of a CRIF file give no rows of the schedule: the first fault in reading order.
+/// Records are counted from 1, and the header is the first.
 #[derive(Clone, Copy, PartialEq, Eq)]
 pub enum ScheduleFault {
     /// There is no record at all.

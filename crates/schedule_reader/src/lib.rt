@@ -1,4 +1,5 @@
-//! Reads the rows of the standard schedule from a CRIF file: the records whose margin model is `Schedule`.
+//! Reads the rows of the standard schedule from a CRIF file: the records whose margin model
+//! is `Schedule`.
 #![tactic(auto)]
 
 mod column;

@@ -11,7 +11,8 @@ use crif_records::Records;
 use schedule_im::ScheduleRow;
 use std::alloc::Global;
 
-/// The number of the first record that is one too many: the header is the first, and 100,000 may follow it.
+/// The number of the first record that is one too many: the header is the first, and 100,000 may
+/// follow it.
 const TOO_MANY: u32 = 100_002;
 
 /// Reads the records behind the header.
@@ -21,7 +22,8 @@ fn read_rows(
     columns: &Columns,
 ) -> Result<Vec<ScheduleRow>, ScheduleFault>
     requires { IsReading records.old }
-    ensures value { Gives (λ rows. rows.items) result (rows_of columns.now (records_left records.old)) }
+    ensures value { Gives (λ rows. rows.items) result
+        (rows_of columns.now (records_left records.old)) }
     ensures scheduled { IfOk result (λ rows. AreScheduled rows.items) }
 {
     let mut rows = Vec::new(alloc);
@@ -43,11 +45,12 @@ fn read_rows(
     Ok(rows)
 }
 
-/// Reads the rows of the standard schedule from a CRIF file: a header and 1 to 100,000 records, in comma- or tab-separated text
-/// with or without quotes, as csv reads them. The first line decides which of the two parts the fields. Columns stand in any order
-/// and are named in any case; those that are not read are passed over, and so are records whose margin model is another. Each
-/// other record is the notional or the present value of a trade, in USD cents. The end is read on a notional of rates or credit
-/// alone, and each such row has one.
+/// Reads the rows of the standard schedule from a CRIF file: a header and 1 to 100,000 records, in
+/// comma- or tab-separated text with or without quotes, as csv reads them. The first line decides
+/// which of the two parts the fields. Columns stand in any order and are named in any case; those
+/// that are not read are passed over, and so are records whose margin model is another. Each other
+/// record is the notional or the present value of a trade, in USD cents. The end is read on a
+/// notional of rates or credit alone, and each such row has one.
 ///
 /// The fault is the first in reading order; `Memory` may come at any text.
 pub fn read_schedule(alloc: Global, bytes: &[u8]) -> Result<Vec<ScheduleRow>, ScheduleFault>

@@ -5,7 +5,9 @@ ghost use Rattle.crif_records.specs.Reading.{newest, IsReading};
 ghost use Rattle.crif_records.specs.SimmKinds.NameText.{IsName};
 ghost use Rattle.schedule_im.specs.Parts.{has_end};
 ghost use Rattle.schedule_reader.specs.Fields.{texts};
-ghost use Rattle.schedule_reader.specs.Row.{entry_row, class_named, kind_of, trade_of, class_of, amount_of, end_of, scheduled_of, model_of, row_of, IsGoodEntry};
+ghost use Rattle.schedule_reader.specs.Row.{entry_row, class_named, kind_of, trade_of, class_of};
+ghost use Rattle.schedule_reader.specs.Row.{amount_of, end_of, scheduled_of, model_of, row_of};
+ghost use Rattle.schedule_reader.specs.Row.{IsGoodEntry};
 
 use crate::ScheduleRowFault;
 use crate::columns::Columns;
@@ -61,7 +63,8 @@ fn kind_of(fields: &Fields) -> Result<ScheduleKind, ScheduleRowFault>
 
 /// The name of the row's trade: it isn't empty.
 fn trade_of<'a>(fields: &Fields<'a>) -> Result<&'a [u8], ScheduleRowFault>
-    ensures value { result_map_both (λ trade. trade.now) (λ fault. fault) result ≡ trade_of (texts fields.now) }
+    ensures value { result_map_both (λ trade. trade.now) (λ fault. fault) result
+        ≡ trade_of (texts fields.now) }
     ensures name { IfOk result (λ trade. IsName trade.now) }
 {
     if Name::is_full_name(fields.trade_id) {
@@ -121,7 +124,8 @@ fn end_of(
 /// The row of a record of the schedule.
 #[tactic(auto, unfolding(crate::specs::Row::scheduled_of))]
 fn scheduled_of<'a>(fields: &Fields<'a>) -> Result<Entry<'a>, ScheduleRowFault>
-    ensures value { result_map_both entry_row (λ fault. fault) result ≡ scheduled_of (texts fields.now) }
+    ensures value { result_map_both entry_row (λ fault. fault) result
+        ≡ scheduled_of (texts fields.now) }
     ensures good { IfOk result (λ entry. IsGoodEntry entry) }
 {
     let kind = kind_of(fields)?;
@@ -140,7 +144,8 @@ fn scheduled_of<'a>(fields: &Fields<'a>) -> Result<Entry<'a>, ScheduleRowFault>
 
 /// The row of a record, or `None` where it is of another margin model and passed over.
 fn model_of<'a>(fields: &Fields<'a>) -> Result<Option<Entry<'a>>, ScheduleRowFault>
-    ensures value { result_map_both (λ o. option_map entry_row o) (λ fault. fault) result ≡ model_of (texts fields.now) }
+    ensures value { result_map_both (λ o. option_map entry_row o) (λ fault. fault) result
+        ≡ model_of (texts fields.now) }
     ensures good { IfOk result (λ o. IfSome o IsGoodEntry) }
 {
     if !is_word("Schedule", fields.im_model) {
@@ -152,13 +157,15 @@ fn model_of<'a>(fields: &Fields<'a>) -> Result<Option<Entry<'a>>, ScheduleRowFau
     }
 }
 
-/// The row of the newest record, or `None` where the record is of another margin model and passed over.
+/// The row of the newest record, or `None` where the record is of another margin model and
+/// passed over.
 pub fn row_of<'a>(
     columns: &Columns,
     records: &'a Records,
 ) -> Result<Option<Entry<'a>>, ScheduleRowFault>
     requires { IsReading records.now }
-    ensures value { result_map_both (λ o. option_map entry_row o) (λ fault. fault) result ≡ row_of columns.now (newest records.now) }
+    ensures value { result_map_both (λ o. option_map entry_row o) (λ fault. fault) result
+        ≡ row_of columns.now (newest records.now) }
     ensures good { IfOk result (λ o. IfSome o IsGoodEntry) }
 {
     if records.field_count() > columns.count {

@@ -1,4 +1,5 @@
-//! What is asked of a netting set beside its trades. Messages of feeds and events of sets hold the same type.
+//! What is asked of a netting set beside its trades. Messages of feeds and events of sets hold the
+//! same type.
 #![tactic(auto)]
 
 mod side_event;

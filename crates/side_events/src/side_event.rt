@@ -1,7 +1,8 @@
 use csa_terms::simm_kinds::Name;
 use csa_terms::{LotCurrency, Moment};
 
-/// What is asked of a netting set about its lots of collateral, its calls and its margin. Values are in cents.
+/// What is asked of a netting set about its lots of collateral, its calls and its margin. Values
+/// are in cents.
 #[derive(Drop)]
 pub enum SideEvent {
     /// Puts a lot of a class, with its value, in the agreement's currency or another.
@@ -26,7 +27,8 @@ pub enum SideEvent {
     },
     /// Asks the margin of all current trades.
     AskMargin,
-    /// Demands collateral at a local time: a call is made where the margin and what is booked want one.
+    /// Demands collateral at a local time: a call is made where the margin and what is booked
+    /// want one.
     AskCall {
         moment: Moment,
     },

@@ -7,9 +7,10 @@ use std::alloc::{AllocError, Global};
 use std::marker::Model;
 use std::sync::Arc;
 
-/// The rows of one file, by trade: 1 to 100,000 rows, trades with different names and at least one row each,
-/// parameters of add-ons under the empty name alone, at most one multiplier of a product class and one factor of a
-/// qualifier, and each amount in its range. They stand once for all that hold the batch. Contracts see the list of trades.
+/// The rows of one file, by trade: 1 to 100,000 rows, trades with different names and at least one
+/// row each, parameters of add-ons under the empty name alone, at most one multiplier of a product
+/// class and one factor of a qualifier, and each amount in its range. They stand once for all that
+/// hold the batch. Contracts see the list of trades.
 #[derive(Drop)]
 pub struct Batch {
     trades: Arc<Listed<TradeRows>, Global>,
@@ -29,7 +30,8 @@ impl Model for Batch {
 }
 
 impl Batch {
-    /// The batch of these trades. The faults are tested in the order of `MakeFault`; the tests and the batch take memory.
+    /// The batch of these trades. The faults are tested in the order of `MakeFault`; the tests and
+    /// the batch take memory.
     pub fn make(alloc: Global, trades: Listed<TradeRows>) -> Result<Batch, MakeFault>
         ensures { MakesBatch trades result }
     {
@@ -48,7 +50,8 @@ impl Batch {
         Ok(Batch { trades })
     }
 
-    /// The same batch for one more holder. It takes no memory. The only error comes at 2^63 holders.
+    /// The same batch for one more holder. It takes no memory. The only error comes at
+    /// 2^63 holders.
     pub fn share(&self) -> Result<Batch, AllocError>
         ensures { IfOk result (λ batch. batch ≡ self.now) }
     {

@@ -3,7 +3,8 @@ ghost use Rattle.std.specs.Prelude.{◌≡◌, ◌&&◌, ◌||◌, ◌==◌, len
 ghost use Rattle.std.specs.List.{flat_map, list_any, list_all};
 ghost use Rattle.simm_kinds.specs.Order.{same_name, same_product};
 ghost use Rattle.simm_kinds.specs.Repeats.{repeats};
-ghost use Rattle.simm_kinds.specs.Batch.{rows_of, is_param, factor_names, multiplied, has_repeats, is_misplaced, is_amount, is_in_range, batch_fault};
+ghost use Rattle.simm_kinds.specs.Batch.{rows_of, is_param, factor_names, multiplied, has_repeats};
+ghost use Rattle.simm_kinds.specs.Batch.{is_misplaced, is_amount, is_in_range, batch_fault};
 
 use crate::repeats::repeats;
 use crate::{CrifRow, FullName, MakeFault, Name, ProductClass, TradeRows};
@@ -59,14 +60,16 @@ fn names_repeat(alloc: Global, trades: &[TradeRows]) -> Result<bool, AllocError>
 }
 
 fn factors_repeat(alloc: Global, trades: &[TradeRows]) -> Result<bool, AllocError>
-    ensures { IfOk result (λ found. found ≡ repeats same_name (flat_map factor_names (rows_of trades.now))) }
+    ensures { IfOk result (λ found.
+        found ≡ repeats same_name (flat_map factor_names (rows_of trades.now))) }
 {
     let names = factor_names(alloc, trades)?;
     repeats(alloc, names.as_slice())
 }
 
 fn multipliers_repeat(alloc: Global, trades: &[TradeRows]) -> Result<bool, AllocError>
-    ensures { IfOk result (λ found. found ≡ repeats same_product (flat_map multiplied (rows_of trades.now))) }
+    ensures { IfOk result (λ found.
+        found ≡ repeats same_product (flat_map multiplied (rows_of trades.now))) }
 {
     let products = multiplied(alloc, trades)?;
     repeats(alloc, products.as_slice())
@@ -84,7 +87,8 @@ fn names_of(alloc: Global, trades: &[TradeRows]) -> Result<Vec<&Name>, AllocErro
 
 /// The qualifiers of the factors.
 fn factor_names(alloc: Global, trades: &[TradeRows]) -> Result<Vec<&FullName>, AllocError>
-    ensures { IfOk result (λ names. map (λ n. n.now) names.items ≡ flat_map factor_names (rows_of trades.now)) }
+    ensures { IfOk result (λ names.
+        map (λ n. n.now) names.items ≡ flat_map factor_names (rows_of trades.now)) }
 {
     let mut names = Vec::new(alloc);
     for trade in trades {
@@ -96,7 +100,8 @@ fn factor_names(alloc: Global, trades: &[TradeRows]) -> Result<Vec<&FullName>, A
 }
 
 fn add_factor_name<'a>(names: &mut Vec<&'a FullName>, row: &'a CrifRow) -> Result<(), AllocError>
-    ensures { OnOk result (map (λ n. n.now) names.new.items ≡ map (λ n. n.now) names.old.items ++ factor_names row.now) }
+    ensures { OnOk result (map (λ n. n.now) names.new.items
+        ≡ map (λ n. n.now) names.old.items ++ factor_names row.now) }
 {
     match row {
         CrifRow::NotionalFactor { qualifier, .. } => Ok(names.push(qualifier)?),

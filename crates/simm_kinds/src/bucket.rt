@@ -6,7 +6,8 @@ ghost use Rattle.simm_kinds.specs.Factors.{bucket_id_of};
 use crate::words::is_word;
 use crate::{BucketId, BucketNumber};
 
-/// The bucket of an issuer or an index: one of the numbered ones, or the residual one, which comes last.
+/// The bucket of an issuer or an index: one of the numbered ones, or the residual one, which
+/// comes last.
 #[derive(Clone, Copy, PartialEq, Eq, PartialOrd, Ord, Hash)]
 pub enum Bucket {
     /// A bucket with a number, from 1.
@@ -16,8 +17,8 @@ pub enum Bucket {
 }
 
 impl Bucket {
-    /// The bucket that a text names: `Residual` in any case, or a number as `BucketNumber::read` takes it. `None` for
-    /// another text.
+    /// The bucket that a text names: `Residual` in any case, or a number as `BucketNumber::read`
+    /// takes it. `None` for another text.
     pub fn read(text: &[u8]) -> Option<Bucket>
         ensures { result ≡ bucket_named text.now }
     {

@@ -43,7 +43,8 @@ impl BucketNumber {
         self.number
     }
 
-    /// The bucket that a decimal from 1 to 64 without a leading zero names, or `None` for another text.
+    /// The bucket that a decimal from 1 to 64 without a leading zero names, or `None` for
+    /// another text.
     pub fn read(text: &[u8]) -> Option<BucketNumber>
         ensures { result ≡ bucket_number_named text.now }
     {

@@ -1,6 +1,7 @@
 //! The vertices of credit spreads.
 ghost use Rattle.std.specs.Prelude.{◌≡◌};
-ghost use Rattle.simm_kinds.specs.Tenors.{tenor_word, tenor_at, credit_tenor_at, credit_tenor_named};
+ghost use Rattle.simm_kinds.specs.Tenors.{tenor_word, tenor_at};
+ghost use Rattle.simm_kinds.specs.Tenors.{credit_tenor_at, credit_tenor_named};
 
 use crate::Tenor;
 
@@ -64,7 +65,8 @@ impl CreditTenor {
         self.tenor().word()
     }
 
-    /// The credit vertex that a text names as `Tenor::read` takes it, or `None` for another text or tenor.
+    /// The credit vertex that a text names as `Tenor::read` takes it, or `None` for another text
+    /// or tenor.
     pub fn read(text: &[u8]) -> Option<CreditTenor>
         ensures { result ≡ credit_tenor_named text.now }
     {

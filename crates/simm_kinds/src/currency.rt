@@ -10,8 +10,8 @@ ghost use Rattle.simm_kinds.specs.Currency.{currency_text};
 use std::cmp::Ordering;
 use std::marker::Model;
 
-/// A currency: three ASCII letters in upper case. Currencies are equal, ordered and hashed by their letters; contracts
-/// see just these.
+/// A currency: three ASCII letters in upper case. Currencies are equal, ordered and hashed by
+/// their letters; contracts see just these.
 #[derive(Clone, Copy, Debug, PartialEq, Eq, Hash)]
 pub struct Currency {
     letters: [u8; 3],
@@ -96,7 +96,8 @@ impl Ord for Currency {
 impl PartialOrd for Currency {
     ghost partial_cmp = { as_partial_cmp (slice_cmp nat_cmp) };
 
-    ghost laws = { partial_order_from_own_ties (Prim.search (comparing, rules)) (Prim.search (comparing, rules)) };
+    ghost laws = { partial_order_from_own_ties (Prim.search (comparing, rules))
+        (Prim.search (comparing, rules)) };
 
     fn partial_cmp(&self, other: &Currency) -> Option<Ordering> {
         Some(self.cmp(other))

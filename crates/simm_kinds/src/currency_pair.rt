@@ -4,8 +4,8 @@ ghost use Rattle.simm_kinds.specs.Pair.{Pair, is_pair, pair_of, pair_named};
 use crate::Currency;
 use std::marker::Model;
 
-/// A pair of two different currencies, the alphabetically smaller one first: an exchange rate has one pair, whichever
-/// way round a file writes it. Contracts see the two currencies.
+/// A pair of two different currencies, the alphabetically smaller one first: an exchange rate has
+/// one pair, whichever way round a file writes it. Contracts see the two currencies.
 #[derive(Clone, Copy, Debug, PartialEq, Eq, PartialOrd, Ord, Hash)]
 pub struct CurrencyPair {
     first: Currency,
@@ -26,7 +26,8 @@ impl Model for CurrencyPair {
 }
 
 impl CurrencyPair {
-    /// The pair of two currencies, given in either order, or `None` where they are one and the same.
+    /// The pair of two currencies, given in either order, or `None` where they are one and
+    /// the same.
     pub fn new(a: Currency, b: Currency) -> Option<CurrencyPair>
         ensures { result ≡ pair_of a b }
     {
@@ -47,7 +48,8 @@ impl CurrencyPair {
         }
     }
 
-    /// The pair that a text of six letters in either case names, or `None` for another text or twice the same currency.
+    /// The pair that a text of six letters in either case names, or `None` for another text or
+    /// twice the same currency.
     pub fn read(text: &[u8]) -> Option<CurrencyPair>
         ensures { result ≡ pair_named text.now }
     {

@@ -7,8 +7,9 @@ use crate::{
 };
 use std::alloc::{AllocError, Global};
 
-/// A risk factor: a variant for each risk type of a sensitivity, in the order of the standard's table, with just the parts
-/// that this type has. Factors are ordered by their variants, and those of one variant part by part.
+/// A risk factor: a variant for each risk type of a sensitivity, in the order of the standard's
+/// table, with just the parts that this type has. Factors are ordered by their variants, and those
+/// of one variant part by part.
 #[derive(Drop, PartialEq, Eq, PartialOrd, Ord, Hash)]
 pub enum Factor {
     /// Yield curve of a currency at a tenor.
@@ -168,8 +169,9 @@ impl Factor {
         }
     }
 
-    /// The bucket that sensitivities to the factor are summed in: that of its currency for an interest rate, the one that it
-    /// has for credit, equity and commodity, and the only one for exchange rates and base correlations.
+    /// The bucket that sensitivities to the factor are summed in: that of its currency for an
+    /// interest rate, the one that it has for credit, equity and commodity, and the only one for
+    /// exchange rates and base correlations.
     pub fn bucket(&self) -> BucketId
         ensures { result ≡ bucket_of self.now }
     {
@@ -192,7 +194,8 @@ impl Factor {
         }
     }
 
-    /// An equal factor. The only error is want of memory, and a factor of interest or exchange rates takes none.
+    /// An equal factor. The only error is want of memory, and a factor of interest or exchange
+    /// rates takes none.
     pub fn copy(&self, alloc: Global) -> Result<Factor, AllocError>
         ensures { IfOk result (λ copy. copy ≡ self.now) }
     {

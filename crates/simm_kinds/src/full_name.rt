@@ -5,8 +5,8 @@ use crate::Name;
 use std::alloc::{AllocError, Global};
 use std::marker::Model;
 
-/// A name that isn't empty: of an issuer, an index, a commodity. Full names are equal, ordered and hashed by their
-/// bytes; contracts see just these.
+/// A name that isn't empty: of an issuer, an index, a commodity. Full names are equal, ordered and
+/// hashed by their bytes; contracts see just these.
 #[derive(Drop, PartialEq, Eq, PartialOrd, Ord, Hash)]
 pub struct FullName {
     name: Name,
@@ -37,7 +37,8 @@ impl FullName {
         }
     }
 
-    /// The name of these bytes, which the caller knows to be one that isn't empty. The only error is want of memory.
+    /// The name of these bytes, which the caller knows to be one that isn't empty. The only error
+    /// is want of memory.
     pub fn of_bytes(alloc: Global, bytes: &[u8]) -> Result<FullName, AllocError>
         requires { is_full_name bytes.now ≡ true }
         ensures { IfOk result (λ name. name ≡ bytes.now) }

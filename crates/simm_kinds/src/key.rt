@@ -4,8 +4,8 @@ ghost use Rattle.simm_kinds.specs.Factors.{kind_of, class_of, side_of, bucket_of
 use crate::{BucketId, Factor, ProductClass, RiskClass, RiskType, Side};
 use std::alloc::{AllocError, Global};
 
-/// The key of a sensitivity: what it is to, in a trade of which product class. Sensitivities with equal keys net. Keys are
-/// ordered by the product class, and then by the factor.
+/// The key of a sensitivity: what it is to, in a trade of which product class. Sensitivities with
+/// equal keys net. Keys are ordered by the product class, and then by the factor.
 #[derive(Drop, PartialEq, Eq, PartialOrd, Ord, Hash)]
 pub struct FactorKey {
     /// The product class of the trade.
@@ -43,7 +43,8 @@ impl FactorKey {
         self.factor.bucket()
     }
 
-    /// An equal key. The only error is want of memory, and a key of interest or exchange rates takes none.
+    /// An equal key. The only error is want of memory, and a key of interest or exchange rates
+    /// takes none.
     pub fn copy(&self, alloc: Global) -> Result<FactorKey, AllocError>
         ensures { IfOk result (λ copy. copy ≡ self.now) }
     {

@@ -1,7 +1,9 @@
-//! The kinds of the standard: product classes, risk classes, risk types, tenors, sub-curves, buckets; and their words.
+//! The kinds of the standard: product classes, risk classes, risk types, tenors, sub-curves,
+//! buckets; and their words.
 ghost use Rattle.std.specs.Prelude.{◌≡◌};
 ghost use Rattle.simm_kinds.specs.Factors.{listed_id};
-ghost use Rattle.simm_kinds.specs.Kinds.{product_word, class_word, kind_word, sub_word, product_named, class_named, kind_named, sub_named};
+ghost use Rattle.simm_kinds.specs.Kinds.{product_word, class_word, kind_word, sub_word};
+ghost use Rattle.simm_kinds.specs.Kinds.{product_named, class_named, kind_named, sub_named};
 ghost use Rattle.simm_kinds.specs.Tenors.{tenor_word, tenor_named};
 
 use crate::words::{Worded, first_worded, is_word};
@@ -41,8 +43,8 @@ impl ProductClass {
         }
     }
 
-    /// The product class that a text names: its word in any case, or `Rates` or `FX`, which are one class together.
-    /// `None` for another text.
+    /// The product class that a text names: its word in any case, or `Rates` or `FX`, which are
+    /// one class together. `None` for another text.
     pub fn read(text: &[u8]) -> Option<ProductClass>
         ensures { result ≡ product_named text.now }
     {
@@ -136,8 +138,8 @@ pub enum Measure {
     BaseCorr,
 }
 
-/// The side of a risk class that a sensitivity is on: the value's own change, its volatility's, or that of a base
-/// correlation. Vega and curvature are both margins of the volatility side.
+/// The side of a risk class that a sensitivity is on: the value's own change, its volatility's, or
+/// that of a base correlation. Vega and curvature are both margins of the volatility side.
 #[derive(Clone, Copy, PartialEq, Eq, PartialOrd, Ord)]
 pub enum Side {
     /// The value's own change.
@@ -148,7 +150,8 @@ pub enum Side {
     BaseCorr,
 }
 
-/// The risk type of a CRIF record, in the order of the standard's table. `Pv` never stands in a row that is kept.
+/// The risk type of a CRIF record, in the order of the standard's table. `Pv` never stands in a
+/// row that is kept.
 #[derive(Clone, Copy, Debug, PartialEq, Eq, PartialOrd, Ord)]
 pub enum RiskType {
     /// A point of an interest rate curve.
@@ -334,7 +337,8 @@ impl Tenor {
         }
     }
 
-    /// The tenor that a text names: its word in any case, or `12m` for the year. `None` for another text.
+    /// The tenor that a text names: its word in any case, or `12m` for the year. `None` for
+    /// another text.
     pub fn read(text: &[u8]) -> Option<Tenor>
         ensures { result ≡ tenor_named text.now }
     {
@@ -419,8 +423,8 @@ impl Worded for SubCurve {
     }
 }
 
-/// The bucket that a sensitivity is summed in: one of the numbered ones, the residual one, that of a currency (interest
-/// rates), or the one bucket of a class that has no others.
+/// The bucket that a sensitivity is summed in: one of the numbered ones, the residual one, that of
+/// a currency (interest rates), or the one bucket of a class that has no others.
 #[derive(Clone, Copy, PartialEq, Eq, PartialOrd, Ord, Hash)]
 pub enum BucketId {
     /// A bucket with a number, from 1.

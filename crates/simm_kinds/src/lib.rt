@@ -1,4 +1,5 @@
-//! The kinds, keys, rows and batches of margin sensitivities, after the columns of the CRIF standard.
+//! The kinds, keys, rows and batches of margin sensitivities, after the columns of the
+//! CRIF standard.
 #![tactic(auto)]
 
 mod batch;

@@ -6,7 +6,8 @@ ghost use Rattle.std.specs.Cmp.Lexicographic.{slice_cmp, pointwise};
 ghost use Rattle.std.specs.Ordering.{nat_cmp, as_partial_cmp};
 ghost use Rattle.std.specs.List.{list_all};
 ghost use Rattle.std.specs.Str.{is_utf8};
-ghost use Rattle.simm_kinds.specs.NameText.{IsName, ReadsName, name_fault, is_full_name, is_printable, is_trimmed};
+ghost use Rattle.simm_kinds.specs.NameText.{IsName, ReadsName};
+ghost use Rattle.simm_kinds.specs.NameText.{name_fault, is_full_name, is_printable, is_trimmed};
 
 use crate::NameFault;
 use smallvec::SmallVec;
@@ -15,8 +16,9 @@ use std::cmp::Ordering;
 use std::hash::{Hash, Hasher};
 use std::marker::Model;
 
-/// A name in a file: at most 64 bytes of UTF-8, no control byte, no space at either end. It may be empty unless a
-/// rule says otherwise. Names are equal, ordered and hashed by their bytes; contracts see just these.
+/// A name in a file: at most 64 bytes of UTF-8, no control byte, no space at either end. It may be
+/// empty unless a rule says otherwise. Names are equal, ordered and hashed by their bytes;
+/// contracts see just these.
 #[derive(Drop)]
 pub struct Name {
     bytes: SmallVec<u8, INLINE>,
@@ -79,7 +81,8 @@ fn is_printable_text(bytes: &[u8]) -> bool
 }
 
 impl Name {
-    /// Why a text is no name: the first fault in the order of `NameFault`, or `None` for a name. It takes no memory.
+    /// Why a text is no name: the first fault in the order of `NameFault`, or `None` for a name.
+    /// It takes no memory.
     pub fn fault(text: &[u8]) -> Option<NameFault>
         ensures { result ≡ name_fault text.now }
     {
@@ -99,7 +102,8 @@ impl Name {
         !text.is_empty() && Name::fault(text).is_none()
     }
 
-    /// Reads a name. Where the text is none, the fault is the first in the order of `NameFault`; `Memory` comes last.
+    /// Reads a name. Where the text is none, the fault is the first in the order of `NameFault`;
+    /// `Memory` comes last.
     pub fn read(alloc: Global, text: &[u8]) -> Result<Name, NameFault>
         ensures { ReadsName text.now result }
     {
@@ -189,7 +193,8 @@ impl Ord for Name {
 impl PartialOrd for Name {
     ghost partial_cmp = { as_partial_cmp (slice_cmp nat_cmp) };
 
-    ghost laws = { partial_order_from_own_ties (Prim.search (comparing, rules)) (Prim.search (comparing, rules)) };
+    ghost laws = { partial_order_from_own_ties (Prim.search (comparing, rules))
+        (Prim.search (comparing, rules)) };
 
     fn partial_cmp(&self, other: &Name) -> Option<Ordering> {
         Some(self.cmp(other))

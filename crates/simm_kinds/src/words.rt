@@ -34,7 +34,8 @@ pub fn first_worded<T: Worded>(all: &[T], text: &[u8]) -> Option<T>
     None
 }
 
-// Whether two texts of one length are the same in any ASCII case. Many words begin alike, so the last bytes come first.
+// Whether two texts of one length are the same in any ASCII case. Many words begin alike, so the
+// last bytes come first.
 fn are_alike(text: &[u8], word: &[u8]) -> bool
     requires { length text.now ≡ length word.now }
     ensures { IsTrue result ↔ (map to_ascii_lowercase text.now ≡ map to_ascii_lowercase word.now) }
@@ -47,7 +48,8 @@ fn are_alike(text: &[u8], word: &[u8]) -> bool
     true
 }
 
-// Whether two bytes are the same in any ASCII case. Equal ones, as most are, need no look at their case.
+// Whether two bytes are the same in any ASCII case. Equal ones, as most are, need no look at
+// their case.
 fn is_same_letter(a: u8, b: u8) -> bool
     ensures { result ≡ eq_ignore_ascii_case a b }
 {

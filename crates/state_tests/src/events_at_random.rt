@@ -1,5 +1,6 @@
-//! Batches, withdrawals, tables and questions at random on one set. Each is answered as a new set answers it that was given the same
-//! trades at once under the same tables; what the set keeps of its buckets is by the rule of what an event touches.
+//! Batches, withdrawals, tables and questions at random on one set. Each is answered as a new set
+//! answers it that was given the same trades at once under the same tables; what the set keeps of
+//! its buckets is by the rule of what an event touches.
 use crate::expected_book::{Book, Mark};
 use crate::makers::{both_terms, read_tables};
 use crate::random::Random;
@@ -75,8 +76,9 @@ fn margin_on(rt: &(impl Abort + AllocGlobal), set: &mut SetState, side: MarginSi
     margin_told(&reply).expect(rt, "a margin")
 }
 
-/// Behind a question the margins of both sides are known, and asking for them changes nothing. What is posted is what a new set
-/// collects whose rows are all negated, and what is collected is what that one posts.
+/// Behind a question the margins of both sides are known, and asking for them changes nothing.
+/// What is posted is what a new set collects whose rows are all negated, and what is collected is
+/// what that one posts.
 fn tells_both_sides(
     rt: &(impl Abort + AllocGlobal),
     files: &Files,
@@ -96,8 +98,8 @@ fn tells_both_sides(
     drop(negated);
 }
 
-/// What is asked of the set is answered as a new set answers it, and accepted where the book accepts it. After a question both keep
-/// the same.
+/// What is asked of the set is answered as a new set answers it, and accepted where the book
+/// accepts it. After a question both keep the same.
 fn ask(
     rt: &(impl Abort + AllocGlobal),
     files: &Files,

@@ -50,7 +50,8 @@ pub struct Mark {
     pub is_kept: bool,
 }
 
-/// What a set is to hold: its tables by their place in `TABLES`, its trades, and which values it keeps.
+/// What a set is to hold: its tables by their place in `TABLES`, its trades, and which values
+/// it keeps.
 #[derive(Drop)]
 pub struct Book {
     pub tables: usize,
@@ -224,8 +225,9 @@ impl Book {
         }
     }
 
-    /// Whether what is asked is accepted: of a withdrawal each name is of a trade; of a batch each row is in a bucket that the
-    /// tables list, and of tables each row of the trades in one that these list.
+    /// Whether what is asked is accepted: of a withdrawal each name is of a trade; of a batch each
+    /// row is in a bucket that the tables list, and of tables each row of the trades in one that
+    /// these list.
     pub fn accepts(&self, request: &Request) -> bool {
         match request {
             Request::Margin(_) => true,

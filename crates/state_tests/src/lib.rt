@@ -1,6 +1,6 @@
-//! Tests of the libraries from parameters and terms up to a netting set, over calls that no command reaches: what a netting
-//! set answers and keeps of its buckets at random, each of its sides as a set of its own, room that is put by for entries, what-ifs
-//! of a live margin.
+//! Tests of the libraries from parameters and terms up to a netting set, over calls that no
+//! command reaches: what a netting set answers and keeps of its buckets at random, each of its
+//! sides as a set of its own, room that is put by for entries, what-ifs of a live margin.
 #![tactic(auto)]
 
 #[cfg(test)]

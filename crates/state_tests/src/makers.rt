@@ -13,7 +13,8 @@ pub struct Tables {
     pub lists_equities: bool,
 }
 
-/// Weights, volatility ratios and the bucket of equities, each of which differs. The first are those of `params`.
+/// Weights, volatility ratios and the bucket of equities, each of which differs. The first are
+/// those of `params`.
 pub static TABLES: [Tables; 3] = [
     Tables {
         lines: r#"fx.weight = ["7.4", "10"]
@@ -53,8 +54,8 @@ equity.bucket = [
     },
 ];
 
-/// The other lines of parameters. The correlation of two regular currencies is 0.5, of a regular one and one of high volatility
-/// 0.25, of two of high volatility -1.
+/// The other lines of parameters. The correlation of two regular currencies is 0.5, of a regular
+/// one and one of high volatility 0.25, of two of high volatility -1.
 const PARAMS: &str = r#"calculation_currency = "USD"
 lambda_base = "5.634897"
 psi = [
@@ -152,7 +153,8 @@ fn read(rt: &(impl Abort + AllocGlobal), file: &str) -> Batch {
         .batch
 }
 
-/// The batch of these rows, each a line of its trade, product class, risk type, qualifier, bucket, labels and amounts.
+/// The batch of these rows, each a line of its trade, product class, risk type, qualifier, bucket,
+/// labels and amounts.
 pub fn rows(rt: &(impl Abort + AllocGlobal), lines: &str) -> Batch {
     let text = format!(in rt.alloc(); "{HEADER}\n{lines}");
     let text = text.ok().expect(rt, "memory");

@@ -1,5 +1,6 @@
-//! Room that is put by for entries of a set. Under `rt try --test --fail-alloc N` the Nth request for memory is refused: where it
-//! comes behind the room that is put by, each of the events that want no other is answered all the same.
+//! Room that is put by for entries of a set. Under `rt try --test --fail-alloc N` the Nth request
+//! for memory is refused: where it comes behind the room that is put by, each of the events that
+//! want no other is answered all the same.
 use crate::makers::name;
 use crate::set_core_calls::{Step, apply, is_text, set};
 use crif_reader::simm_kinds::MarginSide;

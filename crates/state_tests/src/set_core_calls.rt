@@ -77,7 +77,8 @@ pub fn is_text(rt: &(impl Abort + AllocGlobal), reply: &Reply, text: &str) -> bo
     printed.as_slice() == text.as_bytes()
 }
 
-/// Steps, their replies in printed text, how many values of buckets are not kept then, and whether the margin is known.
+/// Steps, their replies in printed text, how many values of buckets are not kept then, and whether
+/// the margin is known.
 static STEPS: [(Step, &str, u32, bool); 9] = [
     (Step::Submit("EUR", "1000"), "OK", 1, false),
     (Step::Withdraw("T9"), "REFUSED\t1\t1", 1, false),

@@ -1,5 +1,6 @@
-//! Trades, tables, lots, calls and questions at random on one set. On each side it answers as a set of its own does: what it posts
-//! is what a set collects whose rows are all negated, by the terms by which the first one posts.
+//! Trades, tables, lots, calls and questions at random on one set. On each side it answers as a
+//! set of its own does: what it posts is what a set collects whose rows are all negated, by the
+//! terms by which the first one posts.
 use crate::expected_book::Trade;
 use crate::makers::{COLLECTED, POSTED, both_terms, name, params, read_tables, terms_of};
 use crate::random::Random;

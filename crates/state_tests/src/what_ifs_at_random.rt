@@ -1,5 +1,6 @@
-//! What-ifs at random of one live margin, which changes at random between them. Each figure is that of a new live margin which was
-//! given just the trades of that book, and what the live margin keeps stands.
+//! What-ifs at random of one live margin, which changes at random between them. Each figure is
+//! that of a new live margin which was given just the trades of that book, and what the live
+//! margin keeps stands.
 use crate::expected_book::{Book, Trade, first_equity};
 use crate::makers::read_tables;
 use crate::random::Random;
@@ -14,7 +15,8 @@ use set_core::bucket_cache::LiveMargin;
 use std::process::Abort;
 use whatif::{WhatIf, WhatIfFault};
 
-/// What is asked of a book: without the trades of some names, and with a candidate, where there is one.
+/// What is asked of a book: without the trades of some names, and with a candidate, where there
+/// is one.
 #[derive(Drop)]
 struct Asked {
     leave: Vec<&'static str>,
@@ -135,7 +137,8 @@ fn candidate(asked: &Asked) -> &[Trade] {
     }
 }
 
-/// A what-if is answered by the book: the first name that isn't known, then the first row that isn't listed, else both margins.
+/// A what-if is answered by the book: the first name that isn't known, then the first row that
+/// isn't listed, else both margins.
 fn is_answered(
     rt: &(impl Abort + AllocGlobal),
     tables: &[ParamText],

@@ -1,6 +1,7 @@
-//! What a what-if takes of memory, and that nothing changes where there isn't enough. Under `rt try --test --fail-alloc N` the Nth
-//! request is refused: where a what-if makes it, want of memory is told, and the next one is answered as ever. That of one trade
-//! over a book of 100,000 rows makes at most one request for each trade and for each key of the book.
+//! What a what-if takes of memory, and that nothing changes where there isn't enough. Under
+//! `rt try --test --fail-alloc N` the Nth request is refused: where a what-if makes it, want of
+//! memory is told, and the next one is answered as ever. That of one trade over a book of 100,000
+//! rows makes at most one request for each trade and for each key of the book.
 use crate::makers::{batch, name, params, rows};
 use crate::whatif_makers::{live_of, margin_of, margins, totals};
 use crif_reader::simm_kinds::{Batch, MarginSide, Name};
@@ -25,7 +26,8 @@ fn asked(
     }
 }
 
-/// Whether the first total without each of these trades is so many cents; `None` for want of memory.
+/// Whether the first total without each of these trades is so many cents; `None` for want
+/// of memory.
 fn is_first_total(
     rt: &impl AllocGlobal,
     live: &LiveMargin,
@@ -89,7 +91,8 @@ fn totals_that_find_no_memory_change_nothing(rt: HostRuntime) {
     drop(live);
 }
 
-/// Four rows of rates for each tenor, and one of foreign exchange: the rates of the one sign and the other cancel.
+/// Four rows of rates for each tenor, and one of foreign exchange: the rates of the one sign and
+/// the other cancel.
 const TENORS: [&str; 12] = [
     "2w", "1m", "3m", "6m", "1y", "2y", "3y", "5y", "10y", "15y", "20y", "30y",
 ];

@@ -29,8 +29,8 @@ pub enum Allot {
 }
 
 impl Pool {
-    /// Takes an amount of at most 10^15 out of the rest, if it is there. It waits for nobody: it loads the rest once, and
-    /// exchanges it at most once. It takes no memory.
+    /// Takes an amount of at most 10^15 out of the rest, if it is there. It waits for nobody: it
+    /// loads the rest once, and exchanges it at most once. It takes no memory.
     pub fn try_allot(&self, seat: &mut PoolSeat, amount: u64) -> TryAllot
         requires seat { IsSeatOf self.now seat.old }
         requires amount { (1 ≤ amount) × (amount ≤ 10 ^ 15) }
@@ -50,8 +50,8 @@ impl Pool {
         TryAllot::Got { held: seat.held }
     }
 
-    /// Takes an amount of at most 10^15 out of the rest, or says that it isn't there. It tries while others change the rest,
-    /// and nothing says that it ever ends. It takes no memory.
+    /// Takes an amount of at most 10^15 out of the rest, or says that it isn't there. It tries
+    /// while others change the rest, and nothing says that it ever ends. It takes no memory.
     pub fn allot(&self, rt: &impl Wait, seat: &mut PoolSeat, amount: u64) -> Allot
         requires seat { IsSeatOf self.now seat.old }
         requires amount { (1 ≤ amount) × (amount ≤ 10 ^ 15) }

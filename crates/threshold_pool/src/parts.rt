@@ -34,8 +34,8 @@ impl Join<View> for Both {
 }
 
 impl Pool {
-    /// Two seats of one: the first keeps `left` of the parts and all that the one held and did, and the second has the other
-    /// parts and holds nothing. It takes no memory.
+    /// Two seats of one: the first keeps `left` of the parts and all that the one held and did,
+    /// and the second has the other parts and holds nothing. It takes no memory.
     pub fn split(&self, seat: PoolSeat, left: u32) -> (PoolSeat, PoolSeat)
         requires seat { IsSeatOf self.now seat }
         requires some { (1 ≤ left) × (left < seat.parts) }
@@ -68,8 +68,8 @@ impl Pool {
         )
     }
 
-    /// One seat of two, with the parts, the allotments, the moves and the tops of both, and the lesser of the rests that they
-    /// were told. It takes no memory.
+    /// One seat of two, with the parts, the allotments, the moves and the tops of both, and the
+    /// lesser of the rests that they were told. It takes no memory.
     pub fn join(&self, a: PoolSeat, b: PoolSeat) -> PoolSeat
         requires seats { IsSeatOf self.now a × IsSeatOf self.now b }
         ensures seat { IsSeatOf self.now result }

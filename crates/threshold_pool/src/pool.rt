@@ -30,7 +30,8 @@ impl TableRule<(), View, Start> for OneTotal {
 
 /// The rest of a total that threads share.
 ///
-/// Contracts see which pool it is, its total and its number of seats; what its rest is at a moment no contract can say.
+/// Contracts see which pool it is, its total and its number of seats; what its rest is at a moment
+/// no contract can say.
 #[derive(Drop)]
 pub struct Pool {
     pub(crate) table: Table<(), View, Start, OneTotal, Global>,
@@ -47,8 +48,8 @@ impl Model for Pool {
 }
 
 impl Pool {
-    /// A pool whose rest is the total, from 1 to 10^15, and the seat that has all of its parts, of which there are 1 to 32,
-    /// and holds nothing. The only error is want of memory.
+    /// A pool whose rest is the total, from 1 to 10^15, and the seat that has all of its parts, of
+    /// which there are 1 to 32, and holds nothing. The only error is want of memory.
     pub fn start(alloc: Global, total: u64, seats: u32) -> Result<(Pool, PoolSeat), AllocError>
         requires total { (1 ≤ total) × (total ≤ 10 ^ 15) }
         requires seats { (1 ≤ seats) × (seats ≤ 32) }
@@ -60,8 +61,8 @@ impl Pool {
         Ok((Pool { table }, PoolSeat { held: 0, pass }))
     }
 
-    /// The rest, by the seat that has all parts. No rest that a seat was told as too little was below what the total has
-    /// above all tops. It takes no memory.
+    /// The rest, by the seat that has all parts. No rest that a seat was told as too little was
+    /// below what the total has above all tops. It takes no memory.
     pub fn close(self, seat: PoolSeat) -> u64
         requires seat { IsSeatOf self seat }
         requires all { seat.parts ≡ self.seats }

@@ -6,9 +6,10 @@ use std::marker::Model;
 
 /// Some parts of a pool, and an allotment of it.
 ///
-/// Contracts see its parts; what it holds, which is the sum of its moves; `top`, which a Got raises to what is then held,
-/// where that is more; `least`, which a Short lowers to the rest that it shows; and a count of its steps. A seat that is
-/// dropped takes its allotment with it, and the pool can then be dropped, but not closed.
+/// Contracts see its parts; what it holds, which is the sum of its moves; `top`, which a Got
+/// raises to what is then held, where that is more; `least`, which a Short lowers to the rest that
+/// it shows; and a count of its steps. A seat that is dropped takes its allotment with it, and the
+/// pool can then be dropped, but not closed.
 #[derive(Drop)]
 pub struct PoolSeat {
     pub(crate) held: u64,

@@ -1,4 +1,5 @@
-//! The single steps of a seat on the word of its pool. What each tells is an equation on the seat's view.
+//! The single steps of a seat on the word of its pool. What each tells is an equation on the
+//! seat's view.
 ghost use Rattle.std.specs.Prelude.{◌≡◌, ◌-◌, ◌<◌, ◌≤◌, ◌==◌, MatchBool};
 ghost use Rattle.threshold_pool.specs.Views.{won, missed, gave};
 ghost use Rattle.threshold_pool.specs.Rule.{Looks};
@@ -70,7 +71,8 @@ impl Pool {
         self.table.shared.load::<Look<N>>(pass, 0)
     }
 
-    // Takes `loaded - left` if the word is still the one that was loaded, and answers the word that it found.
+    // Takes `loaded - left` if the word is still the one that was loaded, and answers the word
+    // that it found.
     pub(crate) fn take(&self, pass: &mut Pass, loaded: u64, left: u64) -> u64
         requires table { pass.old.table_id ≡ self.now.table }
         requires some_parts { 0 < pass.old.me.0.parts }

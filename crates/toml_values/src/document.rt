@@ -5,7 +5,8 @@ ghost use Rattle.toml_values.specs.Document.{document_of};
 use std::alloc::{AllocError, Global};
 use toml::Table;
 
-/// The TOML document of UTF-8 text, or `None` where the bytes are none. The only error is want of memory.
+/// The TOML document of UTF-8 text, or `None` where the bytes are none. The only error is want
+/// of memory.
 pub fn read_document(alloc: Global, bytes: &[u8]) -> Result<Option<Table>, AllocError>
     ensures { IfOk result (λ t. option_map table_view t ≡ document_of bytes.now) }
 {

@@ -3,7 +3,8 @@ ghost use Rattle.std.specs.Prelude.{◌≡◌};
 use simm_kinds::mh_units::Text;
 use std::alloc::{AllocError, AllocFailed};
 
-/// Why a value of a file was not taken, with its path: the keys joined by points, places counted from 1.
+/// Why a value of a file was not taken, with its path: the keys joined by points, places counted
+/// from 1.
 #[derive(Drop)]
 pub enum ValueFault {
     /// The value is not there, or is of another type, or an array of another length.

@@ -33,7 +33,8 @@ pub fn flag(alloc: Global, path: &[Part<'_>], value: Option<&Value>) -> Result<b
     }
 }
 
-/// A currency, which the text has in either case. A text that is none is `BadNumber`, any other value `Missing`.
+/// A currency, which the text has in either case. A text that is none is `BadNumber`, any other
+/// value `Missing`.
 #[tactic(auto, unfolding(crate::specs::Values::currency_of))]
 pub fn currency(
     alloc: Global,

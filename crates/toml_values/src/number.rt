@@ -2,7 +2,8 @@ ghost use Rattle.std.specs.Prelude.{◌≡◌, ◌≤◌, IfOk, OnOk};
 ghost use Rattle.toml_values.specs.Paths.{path_of};
 ghost use Rattle.toml_values.specs.Answers.{Gives};
 ghost use Rattle.toml_values.specs.Ranges.{IsWithin, dollars_in_cents};
-ghost use Rattle.toml_values.specs.Values.{found, in_range, fixed_at, rate_of, six_of, money_of, usd_of};
+ghost use Rattle.toml_values.specs.Values.{found, in_range, fixed_at};
+ghost use Rattle.toml_values.specs.Values.{rate_of, six_of, money_of, usd_of};
 
 use crate::fault::ValueFault;
 use crate::kind::text;
@@ -39,7 +40,8 @@ fn fixed(
     places: u8,
 ) -> Result<i64, ValueFault>
     requires { places ≤ 6 }
-    ensures value { Gives (λ n. n) result (fixed_at places (path_of path.now) range (found value.entry)) }
+    ensures value { Gives (λ n. n) result
+        (fixed_at places (path_of path.now) range (found value.entry)) }
     ensures within { IfOk result (IsWithin range) }
 {
     let text = text(alloc, path, value)?;
@@ -50,8 +52,9 @@ fn fixed(
     Ok(number)
 }
 
-/// A rate in the range: a text that is a numeral without an exponent, with at most four digits behind the point.
-/// Another text is `BadNumber`, a number out of the range `OutOfRange` in ten-thousandths, any other value `Missing`.
+/// A rate in the range: a text that is a numeral without an exponent, with at most four digits
+/// behind the point. Another text is `BadNumber`, a number out of the range `OutOfRange` in
+/// ten-thousandths, any other value `Missing`.
 pub fn rate(
     alloc: Global,
     path: &[Part<'_>],
@@ -77,8 +80,9 @@ pub fn six(
     Ok(Corr6(fixed(alloc, path, value, range, 6)?))
 }
 
-/// An amount of money in the range: a text that is any numeral. Another text is `BadNumber`, one too large to read
-/// too; an amount out of the range is `OutOfRange` in cents, any other value `Missing`.
+/// An amount of money in the range: a text that is any numeral. Another text is `BadNumber`,
+/// one too large to read too; an amount out of the range is `OutOfRange` in cents, any other
+/// value `Missing`.
 #[tactic(auto, unfolding(crate::specs::Values::money_of))]
 pub fn money(
     alloc: Global,
@@ -86,7 +90,8 @@ pub fn money(
     value: Option<&Value>,
     range: Range,
 ) -> Result<Cents, ValueFault>
-    ensures value { Gives (λ c. c.0) result (money_of (path_of path.now) range (found value.entry)) }
+    ensures value { Gives (λ c. c.0) result
+        (money_of (path_of path.now) range (found value.entry)) }
     ensures within { IfOk result (λ c. IsWithin range c.0) }
 {
     let text = text(alloc, path, value)?;
@@ -97,8 +102,8 @@ pub fn money(
     Ok(cents)
 }
 
-/// An amount of USD in cents, which the file has as an integer of 1 to 10,000,000,000,000 whole dollars. Another
-/// integer is `OutOfRange` in whole dollars, any other value `Missing`.
+/// An amount of USD in cents, which the file has as an integer of 1 to 10,000,000,000,000 whole
+/// dollars. Another integer is `OutOfRange` in whole dollars, any other value `Missing`.
 #[tactic(auto, unfolding(crate::specs::Values::usd_of))]
 pub fn usd(alloc: Global, path: &[Part<'_>], value: Option<&Value>) -> Result<i64, ValueFault>
     ensures value { Gives (λ c. c) result (usd_of (path_of path.now) (found value.entry)) }

@@ -24,7 +24,8 @@ fn push_part(alloc: Global, text: &mut String, part: Part<'_>) -> Result<(), All
 }
 
 fn push_behind(alloc: Global, text: &mut String, parts: &[Part<'_>]) -> Result<(), AllocError>
-    ensures { OnOk result (string_bytes text.new ≡ string_bytes text.old ++ behind_points (map word_of parts.now)) }
+    ensures { OnOk result
+        (string_bytes text.new ≡ string_bytes text.old ++ behind_points (map word_of parts.now)) }
 {
     for part in parts {
         text.push_str(".")?;

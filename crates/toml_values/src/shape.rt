@@ -3,7 +3,8 @@ ghost use Rattle.toml.specs.Data.{get_member, get_item};
 ghost use Rattle.toml.specs.View.{items_view, table_view};
 ghost use Rattle.toml_values.specs.Paths.{path_of};
 ghost use Rattle.toml_values.specs.Answers.{Gives};
-ghost use Rattle.toml_values.specs.Values.{found, members_count, items_count, array_of, array_of_length, table_of};
+ghost use Rattle.toml_values.specs.Values.{found, members_count, items_count};
+ghost use Rattle.toml_values.specs.Values.{array_of, array_of_length, table_of};
 
 use crate::fault::ValueFault;
 use crate::path::{Part, path_text};
@@ -44,7 +45,8 @@ pub fn table<'a>(
     path: &[Part<'_>],
     value: Option<&'a Value>,
 ) -> Result<&'a Table, ValueFault>
-    ensures { Gives (λ t. table_view t.now) result (table_of (path_of path.now) (found value.entry)) }
+    ensures { Gives (λ t. table_view t.now) result
+        (table_of (path_of path.now) (found value.entry)) }
 {
     match value.and_then(Value::as_table) {
         Some(table) => Ok(table),
@@ -58,7 +60,8 @@ pub fn array<'a>(
     path: &[Part<'_>],
     value: Option<&'a Value>,
 ) -> Result<&'a [Value], ValueFault>
-    ensures { Gives (λ a. items_view a.now) result (array_of (path_of path.now) (found value.entry)) }
+    ensures { Gives (λ a. items_view a.now) result
+        (array_of (path_of path.now) (found value.entry)) }
 {
     match value.and_then(Value::as_array) {
         Some(array) => Ok(array.as_slice()),
@@ -66,7 +69,8 @@ pub fn array<'a>(
     }
 }
 
-/// The places of an array that has `count` of them. Any other value is `Missing`, an array of another length too.
+/// The places of an array that has `count` of them. Any other value is `Missing`, an array of
+/// another length too.
 #[tactic(auto, unfolding(crate::specs::Values::array_of_length))]
 pub fn array_of_length<'a>(
     alloc: Global,
@@ -74,7 +78,8 @@ pub fn array_of_length<'a>(
     value: Option<&'a Value>,
     count: usize,
 ) -> Result<&'a [Value], ValueFault>
-    ensures { Gives (λ a. items_view a.now) result (array_of_length (path_of path.now) count (found value.entry)) }
+    ensures { Gives (λ a. items_view a.now) result
+        (array_of_length (path_of path.now) count (found value.entry)) }
 {
     let places = array(alloc, path, value)?;
     if place_count(places) == count {

@@ -24,7 +24,8 @@ pub struct Correlated<'a, R: Rho, W: Way> {
     ghost from_one: { All (λ factor. one ≤ℤ factor.cr.0) factors.now },
     ghost below: { All (λ factor. factor.cr.0 <ℤ pos 347000000) factors.now },
     ghost symmetric: { (i j : ℕ) → i < length factors.now → j < length factors.now →
-        correlation W.scaling factors.now (R.rho rho.now) i j ≡ correlation W.scaling factors.now (R.rho rho.now) j i },
+        correlation W.scaling factors.now (R.rho rho.now) i j
+        ≡ correlation W.scaling factors.now (R.rho rho.now) j i },
     ghost at_most_one: { (i j : ℕ) → i < length factors.now → j < length factors.now →
         unsigned_abs (correlation W.scaling factors.now (R.rho rho.now) i j) ≤ 1000000 },
 }
@@ -38,7 +39,8 @@ impl<R: Rho, W: Way> Correlation for Correlated<'_, R, W> {
 
     ghost at_most_one = { λ x. x.at_most_one };
 
-    ghost one_with_itself = { λ x i _. with_itself-one (scaled_at W.scaling x.factors.now (R.rho x.rho.now)) i };
+    ghost one_with_itself = { λ x i _.
+        with_itself-one (scaled_at W.scaling x.factors.now (R.rho x.rho.now)) i };
 
     fn size(&self) -> usize {
         self.factors.len()

@@ -1,6 +1,7 @@
-//! The value of a bucket, for every risk class and measure: the correlations of its factors are made of a class's table and
-//! of how concentrated the factors are, and the weighted values of all ordered pairs are summed. A class adds only what is
-//! its own: which factors there are, their groups, weights, thresholds and correlations.
+//! The value of a bucket, for every risk class and measure: the correlations of its factors are
+//! made of a class's table and of how concentrated the factors are, and the weighted values of all
+//! ordered pairs are summed. A class adds only what is its own: which factors there are, their
+//! groups, weights, thresholds and correlations.
 //! (ISDA SIMM methodology, weighted sensitivities and aggregation within a bucket.)
 #![tactic(auto)]
 

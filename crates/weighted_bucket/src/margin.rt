@@ -1,4 +1,5 @@
-ghost use Rattle.std.specs.Prelude.{◌≡◌, ◌+◌, ◌*◌, ◌^◌, ◌<◌, ◌≤◌, All, length, sum_by, pos, ◌≤ℤ◌, ◌<ℤ◌, unsigned_abs};
+ghost use Rattle.std.specs.Prelude.{◌≡◌, ◌+◌, ◌*◌, ◌^◌, ◌<◌, ◌≤◌, All};
+ghost use Rattle.std.specs.Prelude.{length, sum_by, pos, ◌≤ℤ◌, ◌<ℤ◌, unsigned_abs};
 ghost use Rattle.concentration.specs.SimmRules.Concentration.{one};
 ghost use Rattle.weighted_bucket.specs.Bucket.{bucket_value, pairs_of, value_of};
 ghost use Rattle.weighted_bucket.specs.Changed.{changed};
@@ -15,9 +16,10 @@ use concentration::simm_rules::BucketMargin;
 use pair_sum::{Steps, bucket_root};
 use std::sync::ledger::Ledger;
 
-/// The value of the bucket of these factors, whose correlations are made of `rho`. `cr` is the bucket's concentration factor:
-/// the currency's in interest rates, 1 elsewhere. A pair of two different factors is multiplied once and counted twice, so
-/// that `n` factors take `n * (n + 1) / 2` steps.
+/// The value of the bucket of these factors, whose correlations are made of `rho`. `cr` is the
+/// bucket's concentration factor: the currency's in interest rates, 1 elsewhere. A pair of two
+/// different factors is multiplied once and counted twice, so that `n` factors take
+/// `n * (n + 1) / 2` steps.
 pub fn bucket_margin<R: Rho, L: Ledger>(
     factors: &[Weighed],
     rho: &R,
@@ -42,9 +44,10 @@ pub fn bucket_margin<R: Rho, L: Ledger>(
     margin_of(q, factors, cr)
 }
 
-/// The same value after a change of factors, from the sum `q` of the pairs as they were before it. Both lists are over the same
-/// places: a factor that isn't there weighs 0. Where up to a quarter of the factors changed it takes at most two steps for each
-/// of them and each factor, and elsewhere it is worked out from scratch.
+/// The same value after a change of factors, from the sum `q` of the pairs as they were before it.
+/// Both lists are over the same places: a factor that isn't there weighs 0. Where up to a quarter
+/// of the factors changed it takes at most two steps for each of them and each factor, and
+/// elsewhere it is worked out from scratch.
 pub fn bucket_margin_after<R: Rho, L: Ledger>(
     q: i128,
     before: &[Weighed],

@@ -1,4 +1,5 @@
-ghost use Rattle.std.specs.Prelude.{◌≡◌, ◌+◌, ◌*◌, ◌^◌, ◌<◌, ◌≤◌, All, length, sum_by, pos, ◌≤ℤ◌, ◌<ℤ◌, unsigned_abs};
+ghost use Rattle.std.specs.Prelude.{◌≡◌, ◌+◌, ◌*◌, ◌^◌, ◌<◌, ◌≤◌, All};
+ghost use Rattle.std.specs.Prelude.{length, sum_by, pos, ◌≤ℤ◌, ◌<ℤ◌, unsigned_abs};
 ghost use Rattle.std.specs.Bool.{OnTrue};
 ghost use Rattle.concentration.specs.SimmRules.Concentration.{one};
 ghost use Rattle.weighted_bucket.specs.Bucket.{pairs_of};
@@ -13,7 +14,8 @@ use crate::weighed::Weighed;
 use pair_sum::{Steps, pair_sum};
 use std::sync::ledger::Ledger;
 
-/// The sum over all ordered pairs of these factors of their correlation and both weighted values, in cents squared times 10^6.
+/// The sum over all ordered pairs of these factors of their correlation and both weighted values,
+/// in cents squared times 10^6.
 pub fn scaled_pairs<R: Rho, L: Ledger>(
     factors: &[Weighed],
     rho: &R,
@@ -37,8 +39,9 @@ pub fn scaled_pairs<R: Rho, L: Ledger>(
     }
 }
 
-// The sum of the pairs, each scaled by the ratio of its concentrations. Where all factors share one concentration, as where no
-// net is above its threshold, each ratio is 1: no pair looks at one.
+// The sum of the pairs, each scaled by the ratio of its concentrations. Where all factors
+// share one concentration, as where no net is above its threshold, each ratio is 1: no pair
+// looks at one.
 fn concentrated_pairs<R: Rho, L: Ledger>(factors: &[Weighed], rho: &R, steps: &mut Steps<L>) -> i128
     requires size { R.size rho.now ≡ length factors.now }
     requires from_one { All (λ factor. one ≤ℤ factor.cr.0) factors.now }

@@ -1,4 +1,5 @@
-ghost use Rattle.std.specs.Prelude.{◌≡◌, ℕ, ◌+◌, ◌*◌, ◌^◌, ◌<◌, ◌≤◌, false, All, length, sum_by, pos, ◌≤ℤ◌, ◌<ℤ◌, unsigned_abs};
+ghost use Rattle.std.specs.Prelude.{◌≡◌, ℕ, ◌+◌, ◌*◌, ◌^◌, ◌<◌, ◌≤◌, false, All};
+ghost use Rattle.std.specs.Prelude.{length, sum_by, pos, ◌≤ℤ◌, ◌<ℤ◌, unsigned_abs};
 ghost use Rattle.concentration.specs.SimmRules.Concentration.{one};
 ghost use Rattle.weighted_bucket.specs.Bucket.{pairs_of};
 ghost use Rattle.weighted_bucket.specs.Changed.{changed, changed_at};
@@ -15,7 +16,8 @@ use crate::weighed::Weighed;
 use pair_sum::{Steps, renew_sum};
 use std::sync::ledger::Ledger;
 
-/// The sum over all ordered pairs of the factors after a change, from that before it, in cents squared times 10^6.
+/// The sum over all ordered pairs of the factors after a change, from that before it, in cents
+/// squared times 10^6.
 pub fn renewed_pairs<R: Rho, L: Ledger>(
     q: i128,
     before: &[Weighed],
@@ -53,8 +55,8 @@ pub fn renewed_pairs<R: Rho, L: Ledger>(
     }
 }
 
-// The same, each pair scaled by the ratio of its concentrations. Where all factors of a list share one concentration, no pair
-// of it looks at a ratio.
+// The same, each pair scaled by the ratio of its concentrations. Where all factors of a list share
+// one concentration, no pair of it looks at a ratio.
 fn renewed_concentrated<R: Rho, L: Ledger>(
     q: i128,
     before: &[Weighed],
@@ -123,7 +125,8 @@ fn renewed_in<R: Rho, V: Way, W: Way, L: Ledger>(
     requires in_range { sum_by (λ factor. unsigned_abs factor.w) after.now < 84 * 10 ^ 14 }
     requires same { (i j : ℕ) → i < length after.now → j < length after.now →
         changed_at before.now after.now i ≡ false → changed_at before.now after.now j ≡ false →
-        correlation V.scaling before.now (R.rho rho.now) i j ≡ correlation W.scaling after.now (R.rho rho.now) i j }
+        correlation V.scaling before.now (R.rho rho.now) i j
+        ≡ correlation W.scaling after.now (R.rho rho.now) i j }
 
     // as from scratch
     ensures value { result ≡ pairs_of W.scaling after.now (R.rho rho.now) }

@@ -21,8 +21,8 @@ impl Weighted for Weighed {
     }
 }
 
-/// The weighted value of an amount in cents: its risk weight times the amount times the concentration factor of its group,
-/// rounded away from zero to the cent.
+/// The weighted value of an amount in cents: its risk weight times the amount times the
+/// concentration factor of its group, rounded away from zero to the cent.
 pub fn weigh(weight: Rate4, x: i128, cr: Corr6) -> i128
     requires small { unsigned_abs x * unsigned_abs weight.0 ≤ 10 ^ 28 }
     requires below { unsigned_abs cr.0 < 347000000 }
