@@ -1,4 +1,6 @@
-pub mod OnSide
+pub mod delta
+pub mod vega
+pub mod volatility
 pub mod Valued
 pub mod Alone
 pub use Rattle.class_rates.proofs.MhUnits as MhUnits

@@ -5,8 +5,5 @@ pub mod Totals
 pub mod Listed
 pub mod Owned
 pub mod Sizes
-pub mod InBook
 pub mod Classes
-pub mod Margined
-pub mod Currencies
-pub mod OneBucket
+pub mod Base

@@ -3,4 +3,3 @@ pub mod Empty
 pub mod Shrinking
 pub mod ValueSized
 pub mod Told
-pub mod ByClass

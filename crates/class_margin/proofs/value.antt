@@ -1,5 +1,5 @@
-pub mod Own
 pub mod Counts
 pub mod Ready
-pub mod Gathered
 pub mod Parts
+pub mod Sorts
+pub mod Admitted

@@ -1,4 +1,6 @@
 pub mod Table
+pub mod Parts
+pub mod Across
 pub mod value
 pub mod rates_delta
 pub mod names_delta

@@ -1,5 +1,4 @@
 pub mod Values
-pub mod Curvature
 pub mod Part
 pub mod Listed
 pub mod Numbered

@@ -1,5 +1,1 @@
 pub mod Class
-pub mod At
-pub mod Buckets
-pub mod Values
-pub mod Delta

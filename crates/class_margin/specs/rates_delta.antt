@@ -1,4 +1,3 @@
-pub mod Bucket
 pub mod Range
 pub mod Gamma
 pub mod Parts

@@ -1,22 +1,20 @@
-//! The margins of a risk class in a product class, bucket by bucket: the delta, vega and curvature
-//! values of a bucket, by its class, and the margins over the values of all buckets that have a
-//! factor in a book; and base correlation, which stands in a bucket of its own. (ISDA SIMM
-//! methodology, delta, vega and curvature margin; base correlation margin.)
+//! The margins of a risk class in a product class: the values of a place, by what stands there,
+//! and the delta, vega and curvature margins over the values of all places that have a factor in a
+//! book; and base correlation. (ISDA SIMM methodology, delta, vega and curvature margin; base
+//! correlation margin.)
 #![tactic(auto)]
 
-mod class_at;
+mod across;
 mod curvature;
-mod delta;
 mod listed;
 mod margins;
 mod names_delta;
 mod negation;
+mod parts;
 mod rates_delta;
 mod ratios;
 mod table;
 mod value;
-mod vega;
-mod volatility;
 
 pub use margins::{
     base_margin, curvature_margin, delta_margin, posted_curvature_margin, vega_margin,

@@ -1,18 +1,18 @@
-//! The classes of which the file lists buckets, and the numbered ones of these side by side.
+//! What the buckets of a class are; and of a class of which the file lists them, the numbered ones
+//! side by side.
 ghost use Rattle.std.specs.Prelude.{◌≡◌, ◌≤◌, true, unsigned_abs, IfOk};
-ghost use Rattle.std.specs.List.{AllByRecursion};
-ghost use Rattle.class_rates.specs.SimmKinds.Factors.{listed_id};
 ghost use Rattle.class_rates.specs.SimmParams.ListedBuckets.{listed_place};
 ghost use Rattle.class_rates.specs.SimmParams.Weighed.{AreCorrelations};
 ghost use Rattle.class_rates.specs.SimmRules.Across.{numbered, place_among};
 ghost use Rattle.class_rates.specs.SimmRules.Admits.{lists};
 ghost use Rattle.class_rates.specs.SimmRules.Lookups.{at_row};
-ghost use Rattle.class_margin.specs.names_delta.Combine.{listed_in, gamma_in, parts_in};
+ghost use Rattle.class_margin.specs.Across.{buckets_of};
+ghost use Rattle.class_margin.specs.Parts.{as_parts};
+ghost use Rattle.class_margin.specs.names_delta.Combine.{listed_in, gamma_in, AreListed};
 ghost use Rattle.class_margin.specs.names_delta.Combine.{margins_of, places_of, number_place};
-ghost use Rattle.class_margin.specs.names_delta.Combine.{IsListed};
 
 use class_rates::mh_units::Rate4;
-use class_rates::simm_kinds::{Bucket, BucketId};
+use class_rates::simm_kinds::{Bucket, RiskClass};
 use class_rates::simm_params::Params;
 use class_rates::simm_rules::{BucketMargin, CreditClass, PricedClass};
 use std::alloc::{AllocError, Global};
@@ -24,6 +24,39 @@ pub enum ListedClass {
     Credit(CreditClass),
     /// Equity or commodities.
     Priced(PricedClass),
+}
+
+/// What the buckets of a class are.
+#[derive(Clone, Copy)]
+pub enum ClassBuckets {
+    /// Those of interest rates: currencies.
+    Currencies,
+    /// Buckets that the file lists.
+    Listed(ListedClass),
+    /// That of foreign exchange: one.
+    Single,
+}
+
+impl ClassBuckets {
+    /// Those of a risk class.
+    pub fn of(class: RiskClass) -> ClassBuckets
+        ensures { result ≡ buckets_of class }
+    {
+        match class {
+            RiskClass::IR => ClassBuckets::Currencies,
+            RiskClass::CreditQ => {
+                ClassBuckets::Listed(ListedClass::Credit(CreditClass::Qualifying))
+            }
+            RiskClass::CreditNonQ => {
+                ClassBuckets::Listed(ListedClass::Credit(CreditClass::NonQualifying))
+            }
+            RiskClass::Equity => ClassBuckets::Listed(ListedClass::Priced(PricedClass::Equities)),
+            RiskClass::Commodity => {
+                ClassBuckets::Listed(ListedClass::Priced(PricedClass::Commodities))
+            }
+            RiskClass::FX => ClassBuckets::Single,
+        }
+    }
 }
 
 impl ListedClass {
@@ -82,19 +115,18 @@ pub fn number_parts(
     alloc: Global,
     params: &Params,
     class: ListedClass,
-    parts: &[(BucketId, BucketMargin)],
+    parts: &[(Bucket, BucketMargin)],
 ) -> Result<Numbered, AllocError>
-    requires { AllByRecursion
-        (λ part. IsListed (listed_in params.now class) (listed_id part.0)) parts.now }
+    requires { AreListed (listed_in params.now class) parts.now }
     ensures margins { IfOk result (λ n.
-        n.margins.items ≡ margins_of (numbered (parts_in parts.now))) }
+        n.margins.items ≡ margins_of (numbered (as_parts parts.now))) }
     ensures places { IfOk result (λ n.
-        n.places.items ≡ places_of (listed_in params.now class) (numbered (parts_in parts.now))) }
+        n.places.items ≡ places_of (listed_in params.now class) (numbered (as_parts parts.now))) }
 {
     let mut margins = Vec::with_capacity(alloc, parts.len())?;
     let mut places = Vec::with_capacity(alloc, parts.len())?;
     for part in parts {
-        if let Some(place) = number_place(params, class, &part.0) {
+        if let Some(place) = number_place(params, class, part.0) {
             margins.push(part.1)?;
             places.push(place)?;
         }
@@ -103,13 +135,12 @@ pub fn number_parts(
 }
 
 // The place of a numbered bucket among those that the file lists.
-fn number_place(params: &Params, class: ListedClass, id: &BucketId) -> Option<usize>
-    requires { IsListed (listed_in params.now class) (listed_id id.now) }
-    ensures { result ≡ number_place (listed_in params.now class) id.now }
+fn number_place(params: &Params, class: ListedClass, bucket: Bucket) -> Option<usize>
+    requires { lists (listed_in params.now class) bucket ≡ true }
+    ensures { result ≡ number_place (listed_in params.now class) bucket }
 {
-    if let BucketId::Number(number) = id {
-        Some(class.place(params, Bucket::Number(*number)))
-    } else {
-        None
+    match bucket {
+        Bucket::Number(_) => Some(class.place(params, bucket)),
+        Bucket::Residual => None,
     }
 }

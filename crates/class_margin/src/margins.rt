@@ -7,19 +7,19 @@ ghost use Rattle.class_rates.specs.SimmRules.BaseCorrelation.{base_margin};
 ghost use Rattle.class_rates.specs.FactorBook.declared.holding.Holding.{Holding};
 ghost use Rattle.book_range.specs.Bounded.{IsMarginable};
 ghost use Rattle.negated_book.specs.Negated.{negated_factors};
+ghost use Rattle.class_margin.specs.Parts.{first_k};
 ghost use Rattle.class_margin.specs.names_delta.Values.{nets_in};
 ghost use Rattle.class_margin.specs.delta.Class.{class_delta_of};
 ghost use Rattle.class_margin.specs.volatility.Vega.{class_vega_of};
 ghost use Rattle.class_margin.specs.volatility.Curvature.{class_curvature_of};
-ghost use Rattle.class_margin.specs.value.Values.{curvature_parts, delta_parts, vega_parts};
 ghost use Rattle.class_margin.specs.value.Values.{AreBookValues, AreClassValues};
 
-use crate::class_at::ClassAt;
-use crate::delta::{base_from, delta_from};
-use crate::volatility::{curvature_from, curvature_post, vega_from};
-use class_rates::factor_book::PlaceValue;
+use crate::across::combine;
+use crate::listed::ClassBuckets;
+use crate::parts::{base_values, curvature_parts, delta_parts, negated_parts, vega_parts};
+use class_rates::factor_book::{PlaceValue, factors_are_netted};
 use class_rates::mh_units::Cents;
-use class_rates::simm_kinds::{BucketId, ProductClass, RiskClass};
+use class_rates::simm_kinds::{ProductClass, RiskClass};
 use class_rates::simm_params::Params;
 use class_rates::simm_rules::BucketMargin;
 use std::alloc::{AllocError, Global};
@@ -42,8 +42,11 @@ pub fn delta_margin(
     ensures low { IfOk result (λ m. pos 0 ≤ℤ m.0) }
     ensures size { IfOk result (λ m. m.0 ≤ℤ pos (84 * 10 ^ 14)) }
 {
+    params.facts();
+    params.rate_facts();
+    factors_are_netted();
     let parts = delta_parts(alloc, values)?;
-    delta_from(alloc, params, ClassAt { product, class }, parts.as_slice())
+    combine(alloc, params, ClassBuckets::of(class), parts.as_slice())
 }
 
 /// The base correlation margin of credit that qualifies, in cents, over the values of its places,
@@ -61,12 +64,10 @@ pub fn base_margin(
     ensures low { IfOk result (λ m. pos 0 ≤ℤ m.0) }
     ensures size { IfOk result (λ m. m.0 ≤ℤ pos (10 ^ 14)) }
 {
-    let parts = delta_parts(alloc, values)?;
-    let at = ClassAt {
-        product,
-        class: RiskClass::CreditQ,
-    };
-    Ok(base_from(params, at, parts.as_slice()))
+    params.facts();
+    factors_are_netted();
+    let bases = base_values(alloc, values)?;
+    Ok(Cents(first_margin(bases.as_slice())))
 }
 
 /// The vega margin, in cents, over the values of the places of the class, as `delta_margin` takes
@@ -85,8 +86,11 @@ pub fn vega_margin(
     ensures low { IfOk result (λ m. pos 0 ≤ℤ m.0) }
     ensures size { IfOk result (λ m. m.0 ≤ℤ pos (84 * 10 ^ 14)) }
 {
+    params.facts();
+    params.rate_facts();
+    factors_are_netted();
     let parts = vega_parts(alloc, values)?;
-    vega_from(alloc, params, ClassAt { product, class }, parts.as_slice())
+    combine(alloc, params, ClassBuckets::of(class), parts.as_slice())
 }
 
 /// The curvature margin, in cents, over the values of the places of the class, as `delta_margin`
@@ -105,8 +109,10 @@ pub fn curvature_margin(
     ensures low { IfOk result (λ m. pos 0 ≤ℤ m.0) }
     ensures size { IfOk result (λ m. m.0 ≤ℤ pos (14 * 10 ^ 14)) }
 {
+    params.facts();
+    factors_are_netted();
     let parts = curvature_parts(alloc, values)?;
-    curvature_from(alloc, params, ClassAt { product, class }, parts.as_slice())
+    crate::curvature::combine(alloc, params, ClassBuckets::of(class), parts.as_slice())
 }
 
 /// The curvature margin of the negated book, in cents, over the values of the places of the book
@@ -125,56 +131,16 @@ pub fn posted_curvature_margin(
     ensures low { IfOk result (λ m. pos 0 ≤ℤ m.0) }
     ensures size { IfOk result (λ m. m.0 ≤ℤ pos (14 * 10 ^ 14)) }
 {
+    params.facts();
+    factors_are_netted();
     let parts = curvature_parts(alloc, values)?;
-    curvature_post(alloc, params, ClassAt { product, class }, parts.as_slice())
+    let negated = negated_parts(alloc, parts.as_slice())?;
+    crate::curvature::combine(alloc, params, ClassBuckets::of(class), negated.as_slice())
 }
 
-// The values on the side of delta, bucket by bucket.
-fn delta_parts(
-    alloc: Global,
-    values: &[PlaceValue],
-) -> Result<Vec<(BucketId, BucketMargin)>, AllocError>
-    ensures { IfOk result (λ parts. parts.items ≡ delta_parts values.now) }
+// The margin of the first value, in cents; 0 without one.
+fn first_margin(values: &[BucketMargin]) -> i128
+    ensures { result ≡ first_k values.now }
 {
-    let mut parts = Vec::with_capacity(alloc, values.len())?;
-    for value in values {
-        match value {
-            PlaceValue::Delta(slot, delta) => parts.push((slot.bucket(), *delta))?,
-            PlaceValue::BaseCorrelation(base) => parts.push((BucketId::Single, *base))?,
-            PlaceValue::Volatility(..) => {}
-        }
-    }
-    Ok(parts)
-}
-
-// The vega values, bucket by bucket.
-fn vega_parts(
-    alloc: Global,
-    values: &[PlaceValue],
-) -> Result<Vec<(BucketId, BucketMargin)>, AllocError>
-    ensures { IfOk result (λ parts. parts.items ≡ vega_parts values.now) }
-{
-    let mut parts = Vec::with_capacity(alloc, values.len())?;
-    for value in values {
-        if let PlaceValue::Volatility(slot, margins) = value {
-            parts.push((slot.bucket(), margins.vega))?;
-        }
-    }
-    Ok(parts)
-}
-
-// The curvature values, bucket by bucket.
-fn curvature_parts(
-    alloc: Global,
-    values: &[PlaceValue],
-) -> Result<Vec<(BucketId, BucketMargin)>, AllocError>
-    ensures { IfOk result (λ parts. parts.items ≡ curvature_parts values.now) }
-{
-    let mut parts = Vec::with_capacity(alloc, values.len())?;
-    for value in values {
-        if let PlaceValue::Volatility(slot, margins) = value {
-            parts.push((slot.bucket(), margins.curvature))?;
-        }
-    }
-    Ok(parts)
+    values.first().map_or(0, |value| value.k)
 }

@@ -24,7 +24,7 @@ use Rattle.class_rates.specs.SimmRules.Credit.{as_credit_volatility, same_point,
 use Rattle.class_rates.specs.SimmRules.Priced.{as_price_volatility, name_rho, listed_priced, price_curvature_value, price_curvature_parts, price_curvature}
 use Rattle.class_rates.specs.SimmRules.ForeignExchange.{as_pair_volatility, pair_rho, fx_curvature_value, fx_curvature}
 use Rattle.class_rates.proofs.PairSums.Sums.{total_by-ext}
-use Rattle.class_margin.specs.rates_delta.Parts.{parts_of}
+use Rattle.class_margin.specs.Parts.{as_parts}
 use Rattle.class_rates.proofs.MeasuredBucket.Lists.{each_always, each_weaker, each_map, each_kept}
 use Rattle.class_margin.proofs.names_delta.Empty.{no_value, IsKeptOrIdle}
 use Rattle.class_margin.specs.curvature.Combine.{gamma_across, over_currencies, over_ratio, currency_buckets}
@@ -36,7 +36,7 @@ module _ (p : Params) (ss : List Sensitivity) where
   abbrev value_at : List ℕ → BucketMargin
   value_at currency = currency_curvature_value p (volatilities_in currency ss)
 
-  parts_at : (currencies : List (List ℕ)) → parts_of (map {B = BucketId × BucketMargin} (λ currency. (id.Currency currency, value_at currency)) currencies) ≡ map (λ currency. record { at = currency; value = value_at currency }) currencies
+  parts_at : (currencies : List (List ℕ)) → as_parts (map {B = List ℕ × BucketMargin} (λ currency. (currency, value_at currency)) currencies) ≡ map (λ currency. record { at = currency; value = value_at currency }) currencies
   parts_at [] = refl
   parts_at (currency ∷ currencies) = ap (λ rest. record { at = currency; value = value_at currency } ∷ rest) (parts_at currencies)
 

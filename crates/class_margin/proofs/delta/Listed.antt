@@ -1,5 +1,6 @@
 -- A class of which the file lists buckets: the one of an id.
-use Rattle.std.proofs.Common.{◌≡◌, ◌<◌, ◌≤◌, List, [], ◌∷◌, map, Some, Bool, true, false, ◌||◌, cond, refl, sym, ap, ◌∙◌, ℤ, pos, ◌+ℤ◌, ◌≤ℤ◌, arith, le_refl}
+use Rattle.std.proofs.Common.{◌≡◌, ◌<◌, ◌≤◌, List, [], ◌∷◌, map, Option, Some, None, Bool, true, false, ◌||◌, cond, refl, sym, ap, ◌∙◌, ℤ, pos, ◌+ℤ◌, ◌≤ℤ◌, arith, le_refl}
+use Rattle.std.specs.Prelude.{is_some, option_map}
 use Rattle.std.specs.declared.cmp.Ordering.TheVariants.{Less}
 use Rattle.std.specs.Ordering.{is_eq}
 use Rattle.std.specs.List.{filter, find, AllByRecursion}
@@ -13,12 +14,10 @@ use Rattle.class_rates.specs.SimmKinds.declared.bucket.Bucket.TheVariants as buc
 use Rattle.class_rates.specs.SimmKinds.Factors.{bucket_id_of}
 use Rattle.class_rates.specs.SimmKinds.Order.{bucket_numbers, same_bucket, bucket_id_cmp, same_bucket_id}
 use Rattle.class_rates.proofs.SimmKinds.Variants.{is_eq-Equal}
-use Rattle.class_rates.specs.SimmRules.declared.values.BucketMargin.{BucketMargin}
 use Rattle.class_rates.specs.SimmRules.Sums.{total_by}
 use Rattle.class_rates.specs.SimmRules.Admits.{lists}
 use Rattle.class_rates.specs.SimmParams.Buckets.{bucket_slot, AreInOrder}
 use Rattle.book_range.proofs.Buckets.{id_total}
-use Rattle.class_margin.specs.names_delta.Combine.{part_in}
 use Rattle.class_rates.proofs.MeasuredBucket.Keys.{bucket_ids}
 use Rattle.class_rates.proofs.MeasuredBucket.Lists.{each_weaker}
 use Rattle.class_margin.proofs.delta.Bounds.{total_low}
@@ -40,10 +39,6 @@ not_same a b h = by (same_bucket a b) refl
     by : (t : Bool) → same_bucket a b ≡ t → same_bucket a b ≡ false
     by true e = absurd (omega (arith, ap bucket_slot (exact a b e)))
     by false e = e
-
-pub part_of_listed : (b : Bucket) (m : BucketMargin) → part_in (bucket_id_of b, m) ≡ record { at = b; value = m } ∷ []
-part_of_listed (bucket.Number n) m = refl
-part_of_listed bucket.Residual m = refl
 
 -- one that is the first of two in order is not the second
 pub not_later : (k l m : BucketId) → bucket_id_cmp k l ≡ Less → same_bucket_id k m ≡ true → same_bucket_id l m ≡ false
@@ -121,3 +116,16 @@ module _ {X : Type 0} (id : X → Bucket) where
             is = rest.is;
             alone = here false e ∙ rest.alone;
           }
+
+  -- one that is found is listed
+  pub some_listed : (b : Bucket) (xs : List X) → is_some (find (λ y. same_bucket b (id y)) xs) ≡ true → lists (map id xs) b ≡ true
+  some_listed b [] h = absurd (false≢true h)
+  some_listed b (x ∷ xs) h = by (same_bucket b (id x)) h (some_listed b xs)
+    where
+      by : (t : Bool) → is_some (cond t (Some x) (find (λ y. same_bucket b (id y)) xs)) ≡ true → (is_some (find (λ y. same_bucket b (id y)) xs) ≡ true → lists (map id xs) b ≡ true) → (t || lists (map id xs) b) ≡ true
+      by true h later = refl
+      by false h later = later h
+
+pub some_mapped : {X Y : Type 0} (y : Y) (f : X → Y) (o : Option X) → Some y ≡ option_map f o → is_some o ≡ true
+some_mapped y f None e = absurd (cc)
+some_mapped y f (Some x) e = refl

@@ -1,6 +1,6 @@
 -- A class of which the file lists buckets: each bucket of the book is one of them, and those alone add to a margin, however
 -- buckets are valued.
-use Rattle.std.proofs.Common.{◌≡◌, ◌^◌, List, [], ◌∷◌, ◌++◌, map, Some, Bool, true, false, ◌||◌, refl, sym, ap, ◌∙◌, subst, ℤ, pos, ◌+ℤ◌, ◌≤ℤ◌, arith}
+use Rattle.std.proofs.Common.{◌≡◌, ◌^◌, List, [], ◌∷◌, map, Some, Bool, true, false, ◌||◌, refl, sym, ap, ◌∙◌, subst, ℤ, pos, ◌+ℤ◌, ◌≤ℤ◌, arith}
 use Rattle.std.specs.Prelude.{option_map, IsSomeAnd}
 use Rattle.std.specs.declared.cmp.Ordering.TheVariants.{Less}
 use Rattle.std.specs.List.{filter, find, list_any, AllByRecursion}
@@ -17,14 +17,14 @@ use Rattle.class_rates.specs.SimmRules.Risks.{Amount}
 use Rattle.class_rates.specs.SimmRules.Across.{Part}
 use Rattle.class_rates.specs.SimmRules.Admits.{lists}
 use Rattle.class_rates.specs.SimmRules.Gross.{size_by}
-use Rattle.class_margin.specs.names_delta.Combine.{part_in, parts_in}
+use Rattle.class_margin.specs.Parts.{as_parts}
 use Rattle.class_margin.specs.names_delta.Values.{IsInRange}
 use Rattle.class_rates.proofs.MeasuredBucket.Listed.{found}
 use Rattle.class_rates.proofs.MeasuredBucket.Lists.{each_weaker, map-filter}
 use Rattle.class_margin.proofs.delta.Bounds.{size_low, HasClass}
-use Rattle.class_margin.proofs.delta.Listed.{part_of_listed, not_later, filter_none, never, each_within, total_kept, is_at, find_listed}
+use Rattle.class_margin.proofs.delta.Listed.{not_later, filter_none, never, each_within, total_kept, is_at, find_listed, some_listed, some_mapped}
 use Rattle.class_margin.proofs.delta.Totals.{Alike, alike_map, total_split}
-use Rattle.class_margin.proofs.Valued.{Whole, ids}
+use Rattle.class_margin.proofs.Valued.{Whole, listed_ids}
 
 -- a bucket is among these
 abbrev pub has : List BucketId → Bucket → Bool
@@ -50,22 +50,30 @@ module _ {X A : Type 0} (id : X → Bucket) (weight : X → ℤ) (amounts : Buck
   module _ (V : X → List (Amount A) → BucketMargin) (IsKnown : X → List (Amount A) → BucketMargin → Type 0) where
     pub record IsOwned (part : Whole) : Type 0 where
       pub of : X
-      alone : filter (is_at id part.0) xs ≡ of ∷ []
-      is : part_in part ≡ record { at = id of; value = V of (amounts (id of)) } ∷ []
+      alone : filter (is_at id (bucket_id_of part.0)) xs ≡ of ∷ []
+      at : part.0 ≡ id of
+      value : part.1 ≡ V of (amounts (id of))
+      pub listed : lists (map id xs) part.0 ≡ true
       pub known : IsKnown of (amounts (id of)) part.1
 
-    pub owned : (b : Bucket) (m : BucketMargin) → lists (map id xs) b ≡ true → Some m ≡ option_map (λ x. V x (amounts b)) (find (λ y. same_bucket b (id y)) xs) → IsSomeAnd (find (λ y. same_bucket b (id y)) xs) (λ x. IsKnown x (amounts b) m) → IsOwned (bucket_id_of b, m)
-    owned b m h value known =
-        let f = find_listed id b xs its.in_order h in
+    -- one that has a value is one that is listed
+    pub owned : (b : Bucket) (m : BucketMargin) → Some m ≡ option_map (λ x. V x (amounts b)) (find (λ y. same_bucket b (id y)) xs) → IsSomeAnd (find (λ y. same_bucket b (id y)) xs) (λ x. IsKnown x (amounts b) m) → IsOwned (b, m)
+    owned b m value known =
+        let listed = some_listed id b xs (some_mapped m (λ x. V x (amounts b)) (find (λ y. same_bucket b (id y)) xs) value) in
+        let f = find_listed id b xs its.in_order listed in
         let there : Some m ≡ Some (V f.of (amounts b)) = value ∙ ap (option_map (λ x. V x (amounts b))) f.found in
         let same : m ≡ V f.of (amounts (id f.of)) = cc (there, ap (λ a. V f.of (amounts a)) f.is) in
-        let part : Bucket → BucketMargin → List (Part Bucket) = λ a v. record { at = a; value = v } ∷ [] in
         record {
           of = f.of;
           alone = f.alone;
-          is = part_of_listed b m ∙ ap (λ a. part a m) f.is ∙ ap (part (id f.of)) same;
+          at = f.is;
+          value = same;
+          listed = listed;
           known = subst (λ a. IsKnown f.of (amounts a) m) f.is (subst (λ o. IsSomeAnd o (λ x. IsKnown x (amounts b) m)) f.found known);
         }
+
+    pub each_listed : (parts : List Whole) → AllByRecursion IsOwned parts → AllByRecursion (λ part. lists (map id xs) part.0 ≡ true) parts
+    each_listed parts h = each_weaker IsOwned (λ part. lists (map id xs) part.0 ≡ true) (λ part own. own.listed) parts h
 
     owners : (parts : List Whole) → AllByRecursion IsOwned parts → List X
     owners [] h = []
@@ -79,38 +87,38 @@ module _ {X A : Type 0} (id : X → Bucket) (weight : X → ℤ) (amounts : Buck
     not_among k (l ∷ ks) x h e = ap (λ t. t || has ks (id x)) (not_later k l (bucket_id_of (id x)) h.0 e) ∙ not_among k ks x h.1 e
 
     -- the owners of the parts are the buckets that have a part
-    sums : (parts : List Whole) (h : AllByRecursion IsOwned parts) → IsStrictlySortedBy bucket_id_cmp (ids parts) → Alike (filter (λ x. has (ids parts) (id x)) xs) (owners parts h)
+    sums : (parts : List Whole) (h : AllByRecursion IsOwned parts) → IsStrictlySortedBy bucket_id_cmp (listed_ids parts) → Alike (filter (λ x. has (listed_ids parts) (id x)) xs) (owners parts h)
     unfolding IsStrictlySortedBy owners
     sums [] h s = λ f. ap (total_by f) (filter_none (λ x. false) xs (never xs))
     sums (part ∷ parts) h s = λ f.
-        total_split f (is_at id part.0) (λ x. has (ids parts) (id x)) (λ x e. not_among part.0 (ids parts) x s.0 e) xs
-        ∙ ap (λ ys. total_by f ys +ℤ total_by f (filter (λ x. has (ids parts) (id x)) xs)) (h.0.alone)
+        total_split f (is_at id (bucket_id_of part.0)) (λ x. has (listed_ids parts) (id x)) (λ x e. not_among (bucket_id_of part.0) (listed_ids parts) x s.0 e) xs
+        ∙ ap (λ ys. total_by f ys +ℤ total_by f (filter (λ x. has (listed_ids parts) (id x)) xs)) (h.0.alone)
         ∙ omega (arith, ints, sums parts h.1 s.1 f)
 
-    parts_are : (parts : List Whole) (h : AllByRecursion IsOwned parts) → parts_in parts ≡ map part_at (owners parts h)
+    parts_are : (parts : List Whole) (h : AllByRecursion IsOwned parts) → as_parts parts ≡ map part_at (owners parts h)
     unfolding owners
     parts_are [] h = refl
-    parts_are (part ∷ parts) h = ap (λ ps. ps ++ parts_in parts) h.0.is ∙ ap (λ ps. part_at h.0.of ∷ ps) (parts_are parts h.1)
+    parts_are (part ∷ parts) h = let rest = parts_are parts h.1 in λ i. record { at = h.0.at i; value = h.0.value i } ∷ rest i
 
     -- a margin over the parts, which hangs on sums alone, is that over the buckets that have one
-    pub margin_of_parts : (M : List (Part Bucket) → ℤ) → ((ps qs : List (Part Bucket)) → Alike ps qs → M ps ≡ M qs) → (parts : List Whole) → AllByRecursion IsOwned parts → IsStrictlySortedBy bucket_id_cmp (ids parts)
-        → M (parts_in parts) ≡ M (filter (λ q. has (ids parts) q.at) (map (λ x. record { at = id x; value = V x (amounts (id x)) }) xs))
+    pub margin_of_parts : (M : List (Part Bucket) → ℤ) → ((ps qs : List (Part Bucket)) → Alike ps qs → M ps ≡ M qs) → (parts : List Whole) → AllByRecursion IsOwned parts → IsStrictlySortedBy bucket_id_cmp (listed_ids parts)
+        → M (as_parts parts) ≡ M (filter (λ q. has (listed_ids parts) q.at) (map (λ x. record { at = id x; value = V x (amounts (id x)) }) xs))
     margin_of_parts M alike parts h s =
-        let kept = filter (λ x. has (ids parts) (id x)) xs in
+        let kept = filter (λ x. has (listed_ids parts) (id x)) xs in
         ap M (parts_are parts h)
         ∙ sym (alike (map part_at kept) (map part_at (owners parts h)) (alike_map part_at kept (owners parts h) (sums parts h s)))
-        ∙ ap M (map-filter part_at (λ q. has (ids parts) q.at) xs)
+        ∙ ap M (map-filter part_at (λ q. has (listed_ids parts) q.at) xs)
 
     -- ---- what their buckets have
 
-    pub share_is : (f : X → ℤ) (part : Whole) (h : IsOwned part) → total_by f (filter (is_at id part.0) xs) ≡ f h.of
+    pub share_is : (f : X → ℤ) (part : Whole) (h : IsOwned part) → total_by f (filter (is_at id (bucket_id_of part.0)) xs) ≡ f h.of
     share_is f part h = ap (total_by f) h.alone ∙ +ℤ_idr (f h.of)
 
-    shares_are : (f : X → ℤ) (parts : List Whole) (h : AllByRecursion IsOwned parts) → total_by (λ part. total_by f (filter (is_at id part.0) xs)) parts ≡ total_by f (owners parts h)
+    shares_are : (f : X → ℤ) (parts : List Whole) (h : AllByRecursion IsOwned parts) → total_by (λ part. total_by f (filter (is_at id (bucket_id_of part.0)) xs)) parts ≡ total_by f (owners parts h)
     unfolding owners
     shares_are f [] h = refl
     shares_are f (part ∷ parts) h = omega (arith, ints, share_is f part h.0, shares_are f parts h.1)
 
     -- it is at most what all listed ones have
-    pub shares_within : (f : X → ℤ) → AllByRecursion (λ x. pos 0 ≤ℤ f x) xs → (parts : List Whole) → AllByRecursion IsOwned parts → IsStrictlySortedBy bucket_id_cmp (ids parts) → total_by (λ part. total_by f (filter (is_at id part.0) xs)) parts ≤ℤ total_by f xs
-    shares_within f low parts h s = omega (arith, ints, shares_are f parts h, sums parts h s f, total_kept f (λ x. has (ids parts) (id x)) xs low)
+    pub shares_within : (f : X → ℤ) → AllByRecursion (λ x. pos 0 ≤ℤ f x) xs → (parts : List Whole) → AllByRecursion IsOwned parts → IsStrictlySortedBy bucket_id_cmp (listed_ids parts) → total_by (λ part. total_by f (filter (is_at id (bucket_id_of part.0)) xs)) parts ≤ℤ total_by f xs
+    shares_within f low parts h s = omega (arith, ints, shares_are f parts h, sums parts h s f, total_kept f (λ x. has (listed_ids parts) (id x)) xs low)

@@ -6,6 +6,7 @@ use Rattle.std.specs.List.Sorted.{IsStrictlySortedBy}
 use Rattle.std.proofs.lemmas.Int.{ints}
 use Rattle.std.proofs.lemmas.List.Sums.{sum_by-cons}
 use Rattle.class_rates.specs.SimmKinds.declared.bucket.Bucket.{Bucket}
+use Rattle.class_rates.specs.SimmKinds.Factors.{bucket_id_of}
 use Rattle.class_rates.specs.SimmKinds.Order.{bucket_id_cmp}
 use Rattle.class_rates.specs.SimmRules.declared.values.BucketMargin.{BucketMargin}
 use Rattle.class_rates.specs.SimmRules.Sums.{total_by}
@@ -16,7 +17,8 @@ use Rattle.class_margin.specs.names_delta.Values.{IsSized}
 use Rattle.class_margin.proofs.delta.Bounds.{was_value, HasClass}
 use Rattle.class_margin.proofs.delta.Listed.{is_at}
 use Rattle.class_margin.proofs.delta.Owned.{size, sizes_low, IsOwned, share_is, shares_within}
-use Rattle.class_margin.proofs.Valued.{Whole, ids}
+use Rattle.class_margin.proofs.value.Sorts.{listed_ascend}
+use Rattle.class_margin.proofs.Valued.{Whole, listed_ids}
 
 -- what is known of the value of a bucket
 pub record IsSizedIn {X A : Type 0} (weight : X → ℤ) (x : X) (amounts : List (Amount A)) (m : BucketMargin) : Type 0 where
@@ -42,7 +44,7 @@ module _ {X A : Type 0} (id : X → Bucket) (weight : X → ℤ) (amounts : Buck
   most x = sizes x *ℤ pos 346999999 +ℤ pos (2000 * 10 ^ 10)
 
   abbrev most_of : Whole → ℤ
-  most_of part = total_by most (filter (is_at id part.0) xs)
+  most_of part = total_by most (filter (is_at id (bucket_id_of part.0)) xs)
 
   one_small : (part : Whole) → Own part → (pos (unsigned_abs (part.1).k) *ℤ pos (10 ^ 10)) ≤ℤ most_of part
   one_small part h =
@@ -53,14 +55,14 @@ module _ {X A : Type 0} (id : X → Bucket) (weight : X → ℤ) (amounts : Buck
   all_small [] h = omega (arith, ints)
   all_small (part ∷ parts) h = omega (arith, ints, one_small part h.0, all_small parts h.1, sum_by-cons (λ (q : Whole). unsigned_abs (q.1).k) part parts)
 
-  pub parts_small : (parts : List Whole) → AllByRecursion Own parts → IsStrictlySortedBy bucket_id_cmp (ids parts) → sum_by (λ part. unsigned_abs (part.1).k) parts ≤ 4 * 10 ^ 15
+  pub parts_small : (parts : List Whole) → AllByRecursion Own parts → IsStrictlySortedBy bucket_id_cmp (listed_ids parts) → sum_by (λ part. unsigned_abs (part.1).k) parts ≤ 4 * 10 ^ 15
   parts_small parts h s =
       let lows : AllByRecursion (λ x. pos 0 ≤ℤ most x) xs = each_weaker (λ x. pos 0 ≤ℤ sizes x) (λ x. pos 0 ≤ℤ most x) (λ x low. omega (arith, ints, low)) xs (sizes_low id weight amounts xs its) in
       omega (arith, ints, all_small parts h, shares_within id weight amounts xs its V (IsSizedIn weight) most lows parts h s, total_scaled sizes xs, its.total, its.few)
 
-  pub parts_sized : (parts : List Whole) → AllByRecursion Own parts → IsStrictlySortedBy bucket_id_cmp (ids parts) → AreSized parts
+  pub parts_sized : (parts : List Whole) → AllByRecursion Own parts → IsStrictlySortedBy bucket_id_cmp (listed_ids parts) → AreSized parts
   parts_sized parts h s = record {
-    ascends = s;
+    ascends = listed_ascend parts s;
     not_negative = each_weaker Own (λ part. pos 0 ≤ℤ (part.1).k) (λ part o. let own : IsSizedIn weight o.of (amounts (id o.of)) part.1 = o.known in own.sized.not_negative) parts h;
     held = each_weaker Own (λ part. unsigned_abs (part.1).s ≤ unsigned_abs (part.1).k) (λ part o. let own : IsSizedIn weight o.of (amounts (id o.of)) part.1 = o.known in own.sized.held) parts h;
     in_range = omega (arith, parts_small parts h s);

@@ -1,14 +1,12 @@
 -- The margin over currencies by the places of their buckets is the rule's.
 use Rattle.std.proofs.Common.{◌≡◌, ℕ, suc, ◌<◌, ◌≤◌, List, [], ◌∷◌, map, length, get_or, Bool, true, false, ◌==◌, if◌then◌else◌, refl, sym, ap, ◌∙◌, subst, ℤ, pos, ◌+ℤ◌, ◌*ℤ◌, ◌≤ℤ◌, unsigned_abs, All, arith}
-use Rattle.std.specs.declared.cmp.Ordering.TheVariants.{Less}
 use Rattle.std.specs.List.{AllByRecursion}
 use Rattle.std.specs.List.Sorted.{IsStrictlySortedBy}
 use Rattle.std.proofs.lemmas.Cmp.{nat_list_cmp_total}
 use Rattle.std.proofs.lemmas.List.{get_or-map, length-map}
 use Rattle.std.proofs.lemmas.List.Elements.{All-from_recursion}
-use Rattle.class_rates.specs.SimmKinds.declared.kinds.BucketId.{BucketId}
-use Rattle.class_rates.specs.SimmKinds.declared.kinds.BucketId.TheVariants as id
-use Rattle.class_rates.specs.SimmKinds.Order.{name_cmp, same_name, bucket_id_cmp}
+use Rattle.std.proofs.lemmas.Simd.{map-map}
+use Rattle.class_rates.specs.SimmKinds.Order.{name_cmp, same_name}
 use Rattle.class_rates.specs.SimmRules.declared.values.BucketMargin.{BucketMargin}
 use Rattle.class_rates.specs.SimmRules.Params.{Params}
 use Rattle.class_rates.specs.SimmRules.Lookups.{six}
@@ -25,7 +23,8 @@ use Rattle.class_rates.specs.WeightedBucket.declared.weighed.Weighed.{Weighed}
 use Rattle.class_rates.specs.WeightedBucket.Correlated.{no_factor, cr_at}
 use Rattle.class_rates.proofs.WeightedBucket.Correlations.{correlation-symmetric, correlation-small}
 use Rattle.class_margin.specs.rates_delta.Range.{IsPart}
-use Rattle.class_margin.specs.rates_delta.Parts.{parts_of, margin_over, IsCurrency, AreParts}
+use Rattle.class_margin.specs.Parts.{as_parts}
+use Rattle.class_margin.specs.rates_delta.Parts.{margin_over, AreParts}
 use Rattle.class_margin.specs.rates_delta.Gamma.{as_factor, gamma_at}
 use Rattle.class_rates.proofs.MeasuredBucket.Lists.{each_map}
 use Rattle.class_margin.proofs.rates_delta.Lists.{same_place_by}
@@ -40,15 +39,15 @@ each_weaker : {X : Type 0} (P Q : X → Type 0) → ((x : X) → P x → Q x) �
 each_weaker P Q f [] h = tt
 each_weaker P Q f (x ∷ xs) h = (f x h.0, each_weaker P Q f xs h.1)
 
-abbrev pub values_of : List (BucketId × BucketMargin) → List BucketMargin
+abbrev pub values_of : List (List ℕ × BucketMargin) → List BucketMargin
 values_of buckets = map (λ b. b.1) buckets
 
 -- what holds of a part holds of each value
-pub each_value : (Q : BucketMargin → Type 0) → ((b : BucketMargin) → IsPart b → Q b) → (buckets : List (BucketId × BucketMargin)) (values : List BucketMargin) → AreParts buckets → values ≡ values_of buckets → All Q values
+pub each_value : (Q : BucketMargin → Type 0) → ((b : BucketMargin) → IsPart b → Q b) → (buckets : List (List ℕ × BucketMargin)) (values : List BucketMargin) → AreParts buckets → values ≡ values_of buckets → All Q values
 each_value Q f buckets values parts is =
     All-from_recursion Q values
     (subst (AllByRecursion Q) (sym is)
-    (each_map Q (λ (b : BucketId × BucketMargin). b.1) buckets (each_weaker (λ (b : BucketId × BucketMargin). IsPart b.1) (λ b. Q b.1) (λ b its. f b.1 its) buckets (each_from_all (λ (b : BucketId × BucketMargin). IsPart b.1) buckets parts.each))))
+    (each_map Q (λ (b : List ℕ × BucketMargin). b.1) buckets (each_weaker (λ (b : List ℕ × BucketMargin). IsPart b.1) (λ b. Q b.1) (λ b its. f b.1 its) buckets (each_from_all (λ (b : List ℕ × BucketMargin). IsPart b.1) buckets parts.each))))
 
 -- ---- the correlations
 
@@ -76,28 +75,11 @@ value_in b = b.value
 abbrev name_in : Part (List ℕ) → List ℕ
 name_in b = b.at
 
-values_are : (buckets : List (BucketId × BucketMargin)) → AllByRecursion (λ b. IsCurrency b.0) buckets → values_of buckets ≡ map value_in (parts_of buckets)
-values_are [] h = refl
-values_are ((id.Number n, value) ∷ buckets) h = absurd h.0
-values_are ((id.Residual, value) ∷ buckets) h = absurd h.0
-values_are ((id.Currency currency, value) ∷ buckets) h = ap (λ rest. value ∷ rest) (values_are buckets h.1)
-values_are ((id.Single, value) ∷ buckets) h = absurd h.0
+values_are : (buckets : List (List ℕ × BucketMargin)) → values_of buckets ≡ map value_in (as_parts buckets)
+values_are buckets = sym (map-map value_in (λ (b : List ℕ × BucketMargin). record { at = b.0; value = b.1 }) buckets)
 
-names_are : (buckets : List (BucketId × BucketMargin)) → AllByRecursion (λ b. IsCurrency b.0) buckets → map (λ b. b.0) buckets ≡ map (λ b. id.Currency (name_in b)) (parts_of buckets)
-names_are [] h = refl
-names_are ((id.Number n, value) ∷ buckets) h = absurd h.0
-names_are ((id.Residual, value) ∷ buckets) h = absurd h.0
-names_are ((id.Currency currency, value) ∷ buckets) h = ap (λ rest. id.Currency currency ∷ rest) (names_are buckets h.1)
-names_are ((id.Single, value) ∷ buckets) h = absurd h.0
-
-after : (currency : List ℕ) (ks : List (Part (List ℕ))) → AllByRecursion (λ b. bucket_id_cmp (id.Currency currency) b ≡ Less) (map (λ b. id.Currency (name_in b)) ks) → AllByRecursion (λ name. name_cmp currency name ≡ Less) (map name_in ks)
-after currency [] h = tt
-after currency (k ∷ ks) h = (h.0, after currency ks h.1)
-
-names_ascend : (ks : List (Part (List ℕ))) → IsStrictlySortedBy bucket_id_cmp (map (λ b. id.Currency (name_in b)) ks) → IsStrictlySortedBy name_cmp (map name_in ks)
-unfolding IsStrictlySortedBy
-names_ascend [] s = tt
-names_ascend (k ∷ ks) s = (after (name_in k) ks s.0, names_ascend ks s.1)
+names_are : (buckets : List (List ℕ × BucketMargin)) → map (λ b. b.0) buckets ≡ map name_in (as_parts buckets)
+names_are buckets = sym (map-map name_in (λ (b : List ℕ × BucketMargin). record { at = b.0; value = b.1 }) buckets)
 
 -- ---- the margin
 
@@ -105,12 +87,9 @@ chosen : (t : Bool) (c a b : ℤ) → (if t then pos 0 else (if t then one else 
 chosen true c a b = refl
 chosen false c a b = refl
 
-module _ (p : Params) (buckets : List (BucketId × BucketMargin)) (its : AreParts buckets) where
+module _ (p : Params) (buckets : List (List ℕ × BucketMargin)) (its : AreParts buckets) where
   abbrev ks : List (Part (List ℕ))
-  ks = parts_of buckets
-
-  are_currencies : AllByRecursion (λ b. IsCurrency b.0) buckets
-  are_currencies = each_from_all (λ (b : BucketId × BucketMargin). IsCurrency b.0) buckets its.currencies
+  ks = as_parts buckets
 
   abbrev none : Part (List ℕ)
   none = record { at = []; value = record { q = pos 0; k = pos 0; s = pos 0; sum = pos 0; gross = pos 0; cr = record { 0 = pos 0 } } }
@@ -124,11 +103,11 @@ module _ (p : Params) (buckets : List (BucketId × BucketMargin)) (its : ArePart
 
   tells : (i j : ℕ) → i < length ks → j < length ks → same (get_or ks i none) (get_or ks j none) ≡ (i == j)
   tells i j l m =
-      same_place_by name_cmp nat_list_cmp_total name_in ks i j none (names_ascend ks (subst (IsStrictlySortedBy bucket_id_cmp) (names_are buckets are_currencies) its.ascend)) l m
+      same_place_by name_cmp nat_list_cmp_total name_in ks i j none (subst (IsStrictlySortedBy name_cmp) (names_are buckets) its.ascend) l m
 
   module _ (gamma : ℤ) (values : List BucketMargin) (is_gamma : gamma ≡ six p.ir.gamma) (are_values : values ≡ values_of buckets) where
     values_in : values ≡ map value_in ks
-    values_in = are_values ∙ values_are buckets are_currencies
+    values_in = are_values ∙ values_are buckets
 
     cr_is : (i : ℕ) → i < length ks → cr_at (map as_factor values) i ≡ ((get_or ks i none).value).cr.0
     cr_is i l =

@@ -20,7 +20,9 @@ use Rattle.class_rates.specs.FactorBook.declared.holding.Holding.{Holding}
 use Rattle.class_rates.specs.FactorBook.Factors.{net_of}
 use Rattle.class_rates.specs.FactorBook.Address.{book_side}
 use Rattle.class_rates.specs.FactorBook.Address.{same_side}
-use Rattle.class_margin.specs.rates_delta.Bucket.{nets_of, is_rate, buckets_at}
+use Rattle.class_rates.specs.FactorBook.Places.{is_key_on}
+use Rattle.class_rates.proofs.FactorBook.Buckets.{own}
+use Rattle.class_margin.specs.names_delta.Values.{nets_in}
 use Rattle.class_margin.specs.rates_delta.Parts.{currencies_of}
 use Rattle.class_rates.proofs.MeasuredBucket.Selected.{select_none, select_some}
 use Rattle.class_margin.proofs.rates_delta.Lists.{different-map}
@@ -75,7 +77,7 @@ module _ (product : ProductClass) where
   currency_in a = id.Currency (a.of).currency
 
   abbrev kept : List (FactorKey × Holding) → List (FactorKey × Holding)
-  kept fs = filter (λ f. is_rate product f.0) fs
+  kept fs = filter (λ f. is_key_on product class.IR side.Delta f.0) fs
 
   none_more : (f : FactorKey × Holding) (fs : List (FactorKey × Holding)) (ss : List Sensitivity) (t : Bool) → as_rate (risk f.0.factor) ≡ None → map currency_in (select as_rate ss) ≡ map bucket_in fs
       → map currency_in (select as_rate (cond t (net_of f ∷ ss) ss)) ≡ map bucket_in (cond (t && false) (f ∷ fs) fs)
@@ -88,18 +90,18 @@ module _ (product : ProductClass) where
       ap (map currency_in) (select_some as_rate (net_of f) ss r e) ∙ ap (λ rest. id.Currency r.currency ∷ rest) i ∙ ap (λ b. b ∷ map bucket_in fs) (sym (rate_bucket f.0.factor r e))
   some_more f fs ss r false e i = i
 
-  all_are : (fs : List (FactorKey × Holding)) → map currency_in (select as_rate (nets_of product fs)) ≡ map bucket_in (kept fs)
+  all_are : (fs : List (FactorKey × Holding)) → map currency_in (select as_rate (nets_in product fs)) ≡ map bucket_in (kept fs)
   all_are [] = refl
   all_are (f ∷ fs) = by (as_rate (risk f.0.factor)) refl (all_are fs)
     where
       tested : (o : Option RateIn) → as_rate (risk f.0.factor) ≡ o → cond (same_product f.0.product product && is_some o) (f ∷ kept fs) (kept fs) ≡ kept (f ∷ fs)
       tested o e = ap (λ t. cond (same_product f.0.product product && t) (f ∷ kept fs) (kept fs)) (sym (rate_test f.0.factor ∙ ap is_some e))
 
-      by : (o : Option RateIn) → as_rate (risk f.0.factor) ≡ o → map currency_in (select as_rate (nets_of product fs)) ≡ map bucket_in (kept fs) → map currency_in (select as_rate (nets_of product (f ∷ fs))) ≡ map bucket_in (kept (f ∷ fs))
-      by None e i = none_more f (kept fs) (nets_of product fs) (same_product f.0.product product) e i ∙ ap (map bucket_in) (tested None e)
-      by (Some r) e i = some_more f (kept fs) (nets_of product fs) r (same_product f.0.product product) e i ∙ ap (map bucket_in) (tested (Some r) e)
+      by : (o : Option RateIn) → as_rate (risk f.0.factor) ≡ o → map currency_in (select as_rate (nets_in product fs)) ≡ map bucket_in (kept fs) → map currency_in (select as_rate (nets_in product (f ∷ fs))) ≡ map bucket_in (kept (f ∷ fs))
+      by None e i = none_more f (kept fs) (nets_in product fs) (same_product f.0.product product) e i ∙ ap (map bucket_in) (tested None e)
+      by (Some r) e i = some_more f (kept fs) (nets_in product fs) r (same_product f.0.product product) e i ∙ ap (map bucket_in) (tested (Some r) e)
 
-  pub buckets_are : (fs : List (FactorKey × Holding)) → buckets_at product fs ≡ map id.Currency (currencies_of (nets_of product fs))
+  pub buckets_are : (fs : List (FactorKey × Holding)) → different bucket_id_cmp (map (λ (f : FactorKey × Holding). bucket_of f.0.factor) (own product class.IR side.Delta fs)) ≡ map id.Currency (currencies_of (nets_in product fs))
   buckets_are fs =
-      sym (different-map name_cmp bucket_id_cmp id.Currency (λ a b. refl) (map (λ (a : Amount RateIn). (a.of).currency) (select as_rate (nets_of product fs)))
-      ∙ ap (different bucket_id_cmp) (map-map id.Currency (λ (a : Amount RateIn). (a.of).currency) (select as_rate (nets_of product fs)) ∙ all_are fs))
+      sym (different-map name_cmp bucket_id_cmp id.Currency (λ a b. refl) (map (λ (a : Amount RateIn). (a.of).currency) (select as_rate (nets_in product fs)))
+      ∙ ap (different bucket_id_cmp) (map-map id.Currency (λ (a : Amount RateIn). (a.of).currency) (select as_rate (nets_in product fs)) ∙ all_are fs))

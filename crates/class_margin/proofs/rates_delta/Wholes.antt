@@ -11,9 +11,7 @@ use Rattle.std.proofs.lemmas.Map.Lookups.{exact_bytes}
 use Rattle.std.proofs.lemmas.List.Sorted.{sum_by-IsPermutation}
 use Rattle.std.proofs.lemmas.List.Sums.{sum_by-cons, sum_by-append}
 use Rattle.std.proofs.lemmas.Simd.{map-map}
-use Rattle.class_rates.specs.SimmKinds.declared.kinds.BucketId.{BucketId}
-use Rattle.class_rates.specs.SimmKinds.declared.kinds.BucketId.TheVariants as id
-use Rattle.class_rates.specs.SimmKinds.Order.{name_cmp, same_name, bucket_id_cmp}
+use Rattle.class_rates.specs.SimmKinds.Order.{name_cmp, same_name}
 use Rattle.class_rates.specs.SimmRules.declared.values.BucketMargin.{BucketMargin}
 use Rattle.class_rates.specs.SimmRules.Params.{Params}
 use Rattle.class_rates.specs.SimmRules.Net.{Sensitivity}
@@ -26,28 +24,25 @@ use Rattle.class_rates.proofs.FactorBook.Sorting.{any_different, different_ascen
 use Rattle.class_rates.proofs.FactorBook.Grouping.{grouped_all}
 use Rattle.class_rates.specs.SimmRules.Gross.{size_by}
 use Rattle.class_rates.proofs.SimmKinds.Variants.{is_eq-Equal}
-use Rattle.class_rates.proofs.MeasuredBucket.Lists.{each_weaker, kept_pass}
+use Rattle.class_rates.proofs.MeasuredBucket.Lists.{each_weaker, kept_pass, map-itself}
 use Rattle.class_rates.proofs.MeasuredBucket.Sizes.{size_one, size_all, size_is}
 use Rattle.class_rates.proofs.RateColumns.{weight_positive}
 use Rattle.class_margin.specs.rates_delta.Range.{IsBucket, IsClass, IsPart}
-use Rattle.class_margin.specs.rates_delta.Parts.{parts_of, margin_over, IsCurrency, AreParts, currencies_of, buckets_of}
+use Rattle.class_margin.specs.Parts.{as_parts}
+use Rattle.class_margin.specs.rates_delta.Parts.{margin_over, AreParts, currencies_of, buckets_of}
 use Rattle.book_range.proofs.Lists.{filter_agrees}
-use Rattle.class_margin.proofs.rates_delta.Lists.{all_map, map_ascends}
+use Rattle.class_margin.proofs.rates_delta.Lists.{all_map}
 use Rattle.class_margin.proofs.rates_delta.Sums.{sum_by-map, sum_by-below, sum_by-shifted, sum_by-scaled, sum_by-ones, sum_by-filter, sum_by-agrees}
 use Rattle.class_margin.proofs.rates_delta.Values.{is_part, margin_close}
 
 -- ---- the rule's parts
 
 module _ (p : Params) (ss : List Sensitivity) where
-  abbrev bucket_at : List ℕ → BucketId × BucketMargin
-  bucket_at currency = (id.Currency currency, currency_value p currency (rates_in currency ss))
+  abbrev bucket_at : List ℕ → List ℕ × BucketMargin
+  bucket_at currency = (currency, currency_value p currency (rates_in currency ss))
 
-  parts_at : (currencies : List (List ℕ)) → parts_of (map bucket_at currencies) ≡ map (λ currency. record { at = currency; value = currency_value p currency (rates_in currency ss) }) currencies
-  parts_at [] = refl
-  parts_at (currency ∷ currencies) = ap (λ rest. record { at = currency; value = currency_value p currency (rates_in currency ss) } ∷ rest) (parts_at currencies)
-
-  parts_are : parts_of (buckets_of p ss) ≡ rate_parts p ss
-  parts_are = parts_at (currencies_of ss)
+  parts_are : as_parts (buckets_of p ss) ≡ rate_parts p ss
+  parts_are = map-map (λ (b : List ℕ × BucketMargin). record { at = b.0; value = b.1 }) bucket_at (currencies_of ss)
 
   pub whole : margin_over p (buckets_of p ss) ≡ rate_delta p ss
   whole = ap (outer same_name (across_currencies p)) parts_are
@@ -132,17 +127,16 @@ module _ (p : Params) (ss : List Sensitivity) (facts : IsParams p) (weighed : (c
 
   margins_small : sum_by (λ b. unsigned_abs (b.1).k) (buckets_of p ss) < 84 * 10 ^ 14
   margins_small =
-      omega (arith, margins_close, weighted_in, its.few, sum_by-map (λ (b : BucketId × BucketMargin). unsigned_abs (b.1).k) (bucket_at p ss) (currencies_of ss))
+      omega (arith, margins_close, weighted_in, its.few, sum_by-map (λ (b : List ℕ × BucketMargin). unsigned_abs (b.1).k) (bucket_at p ss) (currencies_of ss))
 
-  in_order : IsStrictlySortedBy bucket_id_cmp (map (λ b. b.0) (buckets_of p ss))
+  in_order : IsStrictlySortedBy name_cmp (map (λ b. b.0) (buckets_of p ss))
   in_order =
-      subst (IsStrictlySortedBy bucket_id_cmp) (sym (map-map (λ (b : BucketId × BucketMargin). b.0) (bucket_at p ss) (currencies_of ss)))
-      (map_ascends name_cmp bucket_id_cmp id.Currency (λ a b. refl) (currencies_of ss) (different_ascends name_cmp nat_list_cmp_total (map (λ (a : Amount RateIn). (a.of).currency) (select as_rate ss))))
+      subst (IsStrictlySortedBy name_cmp) (sym (map-map (λ (b : List ℕ × BucketMargin). b.0) (bucket_at p ss) (currencies_of ss) ∙ map-itself (λ currency. (bucket_at p ss currency).0) (λ currency. refl) (currencies_of ss)))
+      (different_ascends name_cmp nat_list_cmp_total (map (λ (a : Amount RateIn). (a.of).currency) (select as_rate ss)))
 
   pub are_parts : AreParts (buckets_of p ss)
   are_parts = record {
-    currencies = All-from_recursion (λ (b : BucketId × BucketMargin). IsCurrency b.0) (buckets_of p ss) (all_map (λ (b : BucketId × BucketMargin). IsCurrency b.0) (bucket_at p ss) (currencies_of ss) (λ currency. tt));
     ascend = in_order;
-    each = All-from_recursion (λ (b : BucketId × BucketMargin). IsPart b.1) (buckets_of p ss) (all_map (λ (b : BucketId × BucketMargin). IsPart b.1) (bucket_at p ss) (currencies_of ss) (λ currency. is_part p facts weighed currency (of currency) (of_it currency) (is_bucket currency)));
+    each = All-from_recursion (λ (b : List ℕ × BucketMargin). IsPart b.1) (buckets_of p ss) (all_map (λ (b : List ℕ × BucketMargin). IsPart b.1) (bucket_at p ss) (currencies_of ss) (λ currency. is_part p facts weighed currency (of currency) (of_it currency) (is_bucket currency)));
     small = margins_small;
   }

@@ -4,7 +4,6 @@ use Rattle.std.specs.Prelude.{IsSomeAnd}
 use Rattle.std.specs.List.{list_all}
 use Rattle.class_rates.specs.SimmKinds.declared.kinds.ProductClass.{ProductClass}
 use Rattle.class_rates.specs.SimmKinds.declared.bucket.Bucket.{Bucket}
-use Rattle.class_rates.specs.SimmKinds.declared.bucket.Bucket.TheVariants as bucket
 use Rattle.class_rates.specs.SimmKinds.declared.key.FactorKey.{FactorKey}
 use Rattle.class_rates.specs.SimmKinds.declared.row.CrifRow.{CrifRow}
 use Rattle.class_rates.specs.SimmKinds.Batch.{is_in_range}
@@ -12,21 +11,15 @@ use Rattle.class_rates.specs.SimmRules.Admits.{lists}
 use Rattle.class_rates.specs.SimmRules.Params.{Params, CreditBucket, PricedBucket}
 use Rattle.class_rates.specs.SimmRules.Net.{Sensitivity}
 use Rattle.class_rates.specs.SimmRules.declared.classes.CreditClass.{CreditClass}
-use Rattle.class_rates.specs.SimmRules.declared.classes.CreditClass.TheVariants.{Qualifying, NonQualifying}
 use Rattle.class_rates.specs.SimmRules.declared.classes.PricedClass.{PricedClass}
-use Rattle.class_rates.specs.SimmRules.declared.classes.PricedClass.TheVariants.{Equities, Commodities}
 use Rattle.class_rates.specs.SimmRules.Rates.{RateIn, rate_weight, rates_in}
 use Rattle.class_rates.specs.SimmRules.Credit.{credit_params, listed_credit}
 use Rattle.class_rates.specs.SimmRules.Priced.{priced_params, listed_priced}
 use Rattle.class_rates.specs.SimmRules.ForeignExchange.{fx_weight}
 use Rattle.class_rates.specs.SimmParams.Facts.{IsParams}
-use Rattle.class_rates.specs.SimmRules.declared.classes.CreditClass.TheVariants as credit
-use Rattle.class_rates.specs.SimmRules.declared.classes.PricedClass.TheVariants as priced
 use Rattle.class_rates.specs.SimmParams.ListedBuckets.{credit_bucket_of, priced_bucket_of}
-use Rattle.class_margin.specs.delta.At.{BucketAt}
 use Rattle.class_rates.specs.FactorBook.declared.holding.Holding.{Holding}
 use Rattle.class_rates.specs.FactorBook.Factors.{factors_of, IsBook}
-use Rattle.class_rates.specs.FactorBook.Filing.{filed_at}
 use Rattle.class_rates.specs.FactorBook.Places.{factors_at}
 use Rattle.class_rates.specs.MeasuredBucket.Runs.{AreRunsInRange}
 use Rattle.book_range.specs.Bounded.{IsBounded, IsMarginable}
@@ -52,24 +45,17 @@ use Rattle.class_rates.specs.FactorBook.declared.slot.Slot.TheVariants as slot
 use Rattle.class_rates.specs.FactorBook.declared.place.Place.{Place}
 use Rattle.class_rates.specs.FactorBook.declared.place.Stand.{Stand}
 use Rattle.class_rates.specs.FactorBook.declared.place.Stand.TheVariants as stand
-use Rattle.class_rates.specs.FactorBook.Place.{slot_bucket, slot_class}
 use Rattle.class_margin.specs.value.Place.{IsReady}
 use Rattle.class_margin.specs.value.Delta.{IsDeltaReady}
 use Rattle.class_margin.specs.value.Volatile.{IsVolatileReady}
-use Rattle.class_margin.specs.delta.Buckets.{delta_place}
 use Rattle.class_margin.specs.names_delta.Values.{nets_in, IsInRange}
 use Rattle.class_margin.specs.rates_delta.Range.{IsBucket, IsClass}
 use Rattle.class_margin.specs.volatilities.Ranges.{alone}
-use Rattle.class_margin.specs.volatility.Vega.{volatility_place}
 use Rattle.class_margin.proofs.names_delta.Shrinking.{SizesAreNetted}
 use Rattle.class_margin.proofs.delta.Bounds.{indices_range, currencies_range, rates_range, credit_class as delta_credit, priced_class as delta_priced}
-use Rattle.class_margin.proofs.delta.InBook.{IsOwn}
-use Rattle.class_margin.proofs.delta.Margined.{own_there}
-use Rattle.class_margin.proofs.value.Own.{at_class}
+use Rattle.class_margin.proofs.value.Admitted.{held_there, IsHeld, StandsHeld}
 use Rattle.class_margin.proofs.volatility.Bounds.{pairs_range}
-use Rattle.class_margin.proofs.volatility.InBook.{IsOwn as IsVolatileOwn}
 use Rattle.class_margin.proofs.delta.Owned.{ready}
-use Rattle.class_margin.proofs.volatility.Margined.{own_fits}
 use Rattle.class_margin.proofs.volatility.Parts.{some_and}
 use Rattle.class_margin.proofs.volatility.Ready.{each_range, credit_found, priced_found}
 
@@ -115,18 +101,11 @@ module _ (p : Params) (facts : IsParams p) (weights : AreWeights p) (held : List
       subst (AreIndices p) (sym (indices_there product fs))
       (record { ascends = indices_ascend product fs book; range = indices_range p facts held bounded product sizes })
 
-  -- the bucket of a slot that its class has
-  delta_ready : (s : Slot) → IsOwn p (slot_class s) (slot_bucket s) → IsDeltaReady p s (filed_at (delta_place (at_class product (slot_class s) (slot_bucket s))) fs)
-  delta_ready (slot.Rates currency) own = rates_ready currency
-  delta_ready (slot.Credit credit.Qualifying (bucket.Number n)) own = credit_ready Qualifying (bucket.Number n) (own refl)
-  delta_ready (slot.Credit credit.Qualifying bucket.Residual) own = credit_ready Qualifying bucket.Residual (own refl)
-  delta_ready (slot.Credit credit.NonQualifying (bucket.Number n)) own = credit_ready NonQualifying (bucket.Number n) own
-  delta_ready (slot.Credit credit.NonQualifying bucket.Residual) own = credit_ready NonQualifying bucket.Residual own
-  delta_ready (slot.Priced priced.Equities (bucket.Number n)) own = priced_ready Equities (bucket.Number n) own
-  delta_ready (slot.Priced priced.Equities bucket.Residual) own = priced_ready Equities bucket.Residual own
-  delta_ready (slot.Priced priced.Commodities (bucket.Number n)) own = priced_ready Commodities (bucket.Number n) own
-  delta_ready (slot.Priced priced.Commodities bucket.Residual) own = priced_ready Commodities bucket.Residual own
-  delta_ready slot.Exchange own = exchange_ready
+  delta_ready : (s : Slot) → IsHeld p s → IsDeltaReady p s (factors_at (record { product = product; stand = stand.Delta s }) fs)
+  delta_ready (slot.Rates currency) h = rates_ready currency
+  delta_ready (slot.Credit c b) h = credit_ready c b h
+  delta_ready (slot.Priced c b) h = priced_ready c b h
+  delta_ready slot.Exchange h = exchange_ready
 
   -- ---- vega and curvature
 
@@ -152,42 +131,20 @@ module _ (p : Params) (facts : IsParams p) (weights : AreWeights p) (held : List
       subst (ArePairs p) (sym (pairs_there product fs))
       (record { ascends = pair_volatilities_ascend product fs book; range = pairs_range p facts held bounded amounts product sizes })
 
-  volatile_ready : (s : Slot) → IsVolatileOwn p (slot_class s) (slot_bucket s) → IsVolatileReady p s (filed_at (volatility_place (at_class product (slot_class s) (slot_bucket s))) fs)
-  volatile_ready (slot.Rates currency) own = volatile_rates currency
-  volatile_ready (slot.Credit credit.Qualifying (bucket.Number n)) own = volatile_credit Qualifying (bucket.Number n) own
-  volatile_ready (slot.Credit credit.Qualifying bucket.Residual) own = volatile_credit Qualifying bucket.Residual own
-  volatile_ready (slot.Credit credit.NonQualifying (bucket.Number n)) own = volatile_credit NonQualifying (bucket.Number n) own
-  volatile_ready (slot.Credit credit.NonQualifying bucket.Residual) own = volatile_credit NonQualifying bucket.Residual own
-  volatile_ready (slot.Priced priced.Equities (bucket.Number n)) own = volatile_priced Equities (bucket.Number n) own
-  volatile_ready (slot.Priced priced.Equities bucket.Residual) own = volatile_priced Equities bucket.Residual own
-  volatile_ready (slot.Priced priced.Commodities (bucket.Number n)) own = volatile_priced Commodities (bucket.Number n) own
-  volatile_ready (slot.Priced priced.Commodities bucket.Residual) own = volatile_priced Commodities bucket.Residual own
-  volatile_ready slot.Exchange own = volatile_exchange
+  volatile_ready : (s : Slot) → IsHeld p s → IsVolatileReady p s (factors_at (record { product = product; stand = stand.Volatility s }) fs)
+  volatile_ready (slot.Rates currency) h = volatile_rates currency
+  volatile_ready (slot.Credit c b) h = volatile_credit c b h
+  volatile_ready (slot.Priced c b) h = volatile_priced c b h
+  volatile_ready slot.Exchange h = volatile_exchange
+
+  ready_at : (s : Stand) → StandsHeld p s → IsReady p s (factors_at (record { product = product; stand = s }) fs)
+  ready_at (stand.Delta s) h = delta_ready s h
+  ready_at stand.BaseCorrelation h = indices_ready
+  ready_at (stand.Volatility s) h = volatile_ready s h
 
 -- ---- each place that has a factor
 
-module _ (p : Params) (facts : IsParams p) (weights : AreWeights p) (fs : List (FactorKey × Holding)) (its : IsMarginable p fs) (sizes : SizesAreNetted its.held) (product : ProductClass) where
-  abbrev of_stand : Stand → Place
-  of_stand s = record { product = product; stand = s }
-
-  delta_measurable : (s : Slot) → factors_at (of_stand (stand.Delta s)) fs ≢ [] → IsDeltaReady p s (factors_at (of_stand (stand.Delta s)) fs)
-  delta_measurable s some =
-      let at : BucketAt = at_class product (slot_class s) (slot_bucket s) in
-      subst (λ f. IsDeltaReady p s (filed_at (delta_place at) f)) (sym its.are)
-      (delta_ready p facts weights its.held its.bounded its.amounts product sizes s (own_there p fs its at some))
-
-  base_measurable : AreIndices p (index_nets (factors_at (of_stand stand.BaseCorrelation) fs))
-  base_measurable =
-      subst (λ f. AreIndices p (index_nets (factors_at (base_place product) f))) (sym its.are)
-      (indices_ready p facts weights its.held its.bounded its.amounts product sizes)
-
-  volatility_measurable : (s : Slot) → factors_at (of_stand (stand.Volatility s)) fs ≢ [] → IsVolatileReady p s (factors_at (of_stand (stand.Volatility s)) fs)
-  volatility_measurable s some =
-      let at : BucketAt = at_class product (slot_class s) (slot_bucket s) in
-      subst (λ f. IsVolatileReady p s (filed_at (volatility_place at) f)) (sym its.are)
-      (volatile_ready p facts weights its.held its.bounded its.amounts product sizes s (own_fits p fs its at some))
-
-  pub measurable : (s : Stand) → factors_at (of_stand s) fs ≢ [] → IsReady p s (factors_at (of_stand s) fs)
-  measurable (stand.Delta s) some = delta_measurable s some
-  measurable stand.BaseCorrelation some = base_measurable
-  measurable (stand.Volatility s) some = volatility_measurable s some
+pub measurable : (p : Params) → IsParams p → AreWeights p → (fs : List (FactorKey × Holding)) (its : IsMarginable p fs) → SizesAreNetted its.held → (place : Place) → factors_at place fs ≢ [] → IsReady p place.stand (factors_at place fs)
+measurable p facts weights fs its sizes place some =
+    subst (λ f. IsReady p place.stand (factors_at place f)) (sym its.are)
+    (ready_at p facts weights its.held its.bounded its.amounts place.product sizes place.stand (held_there p place fs its some))

@@ -3,8 +3,6 @@ use Rattle.std.proofs.Common.{◌≡◌, ℕ, List, [], ◌∷◌, map, Bool, fa
 use Rattle.std.specs.List.{filter}
 use Rattle.class_rates.specs.MhUnits.Rounding.{clamp}
 use Rattle.class_rates.proofs.MhUnits.Roundings.{root_square}
-use Rattle.class_rates.specs.SimmKinds.declared.kinds.BucketId.{BucketId}
-use Rattle.class_rates.specs.SimmKinds.declared.kinds.BucketId.TheVariants as id
 use Rattle.class_rates.specs.SimmKinds.declared.bucket.Bucket.{Bucket}
 use Rattle.class_rates.specs.SimmKinds.Order.{same_name, same_pair}
 use Rattle.class_rates.specs.SimmRules.declared.values.BucketMargin.{BucketMargin}
@@ -20,7 +18,8 @@ use Rattle.class_rates.specs.SimmRules.Rates.{volatilities_in, volatility_curren
 use Rattle.class_rates.specs.SimmRules.Credit.{as_credit_volatility, same_point, credit_rho, listed_credit, credit_vega_value, credit_vega_parts, credit_vega}
 use Rattle.class_rates.specs.SimmRules.ForeignExchange.{as_pair_volatility, pair_rho, fx_vega_value, fx_vega}
 use Rattle.class_rates.specs.SimmRules.Priced.{as_price_volatility, name_rho, listed_priced, price_vega_value, price_vega_parts, price_vega}
-use Rattle.class_margin.specs.rates_delta.Parts.{parts_of, margin_over as over_currencies}
+use Rattle.class_margin.specs.Parts.{as_parts}
+use Rattle.class_margin.specs.rates_delta.Parts.{margin_over as over_currencies}
 use Rattle.class_rates.proofs.MeasuredBucket.Lists.{each_always, each_map}
 use Rattle.class_margin.proofs.names_delta.Empty.{no_value, kept_margin}
 use Rattle.class_margin.specs.vega.Combine.{currency_buckets}
@@ -31,7 +30,7 @@ module _ (p : Params) (ss : List Sensitivity) where
   abbrev value_at : List ℕ → BucketMargin
   value_at currency = currency_vega_value p currency (volatilities_in currency ss)
 
-  parts_at : (currencies : List (List ℕ)) → parts_of (map {B = BucketId × BucketMargin} (λ currency. (id.Currency currency, value_at currency)) currencies) ≡ map (λ currency. record { at = currency; value = value_at currency }) currencies
+  parts_at : (currencies : List (List ℕ)) → as_parts (map {B = List ℕ × BucketMargin} (λ currency. (currency, value_at currency)) currencies) ≡ map (λ currency. record { at = currency; value = value_at currency }) currencies
   parts_at [] = refl
   parts_at (currency ∷ currencies) = ap (λ rest. record { at = currency; value = value_at currency } ∷ rest) (parts_at currencies)
 

@@ -20,11 +20,11 @@ use Rattle.class_rates.specs.FactorBook.declared.holding.Holding.{Holding}
 use Rattle.class_rates.specs.FactorBook.Factors.{net_of}
 use Rattle.class_rates.specs.FactorBook.Address.{book_side}
 use Rattle.class_rates.specs.FactorBook.Address.{same_side}
-use Rattle.class_margin.specs.delta.At.{is_on}
+use Rattle.class_rates.specs.FactorBook.Places.{is_key_on}
+use Rattle.class_rates.proofs.FactorBook.Buckets.{own}
 use Rattle.class_margin.specs.names_delta.Values.{nets_in}
 use Rattle.class_rates.proofs.MeasuredBucket.Selected.{select_none, select_some}
 use Rattle.class_margin.proofs.rates_delta.Lists.{different-map}
-use Rattle.class_margin.specs.vega.Combine.{volatility_buckets}
 
 -- ---- volatilities among the factors
 
@@ -76,7 +76,7 @@ module _ (product : ProductClass) where
   currency_in a = id.Currency (a.of).currency
 
   abbrev kept : List (FactorKey × Holding) → List (FactorKey × Holding)
-  kept fs = filter (λ f. is_on (record { product = product; class = class.IR; side = side.Volatility }) f.0) fs
+  kept fs = filter (λ f. is_key_on product class.IR side.Volatility f.0) fs
 
   none_more : (f : FactorKey × Holding) (fs : List (FactorKey × Holding)) (ss : List Sensitivity) (t : Bool) → as_rate_volatility (risk f.0.factor) ≡ None → map currency_in (select as_rate_volatility ss) ≡ map bucket_in fs
       → map currency_in (select as_rate_volatility (cond t (net_of f ∷ ss) ss)) ≡ map bucket_in (cond (t && false) (f ∷ fs) fs)
@@ -100,7 +100,7 @@ module _ (product : ProductClass) where
       by None e i = none_more f (kept fs) (nets_in product fs) (same_product f.0.product product) e i ∙ ap (map bucket_in) (tested None e)
       by (Some v) e i = some_more f (kept fs) (nets_in product fs) v (same_product f.0.product product) e i ∙ ap (map bucket_in) (tested (Some v) e)
 
-  pub buckets_are : (fs : List (FactorKey × Holding)) → volatility_buckets (record { product = product; class = class.IR }) fs ≡ map id.Currency (volatility_currencies (nets_in product fs))
+  pub buckets_are : (fs : List (FactorKey × Holding)) → different bucket_id_cmp (map (λ (f : FactorKey × Holding). bucket_of f.0.factor) (own product class.IR side.Volatility fs)) ≡ map id.Currency (volatility_currencies (nets_in product fs))
   buckets_are fs =
       sym (different-map name_cmp bucket_id_cmp id.Currency (λ a b. refl) (map (λ (a : Amount VolatilityIn). (a.of).currency) (select as_rate_volatility (nets_in product fs)))
       ∙ ap (different bucket_id_cmp) (map-map id.Currency (λ (a : Amount VolatilityIn). (a.of).currency) (select as_rate_volatility (nets_in product fs)) ∙ all_are fs))

@@ -6,9 +6,7 @@ use Rattle.std.proofs.lemmas.Cmp.{nat_list_cmp_total}
 use Rattle.std.proofs.lemmas.Int.{ints}
 use Rattle.std.proofs.lemmas.List.Elements.{All-from_recursion}
 use Rattle.std.proofs.lemmas.Simd.{map-map}
-use Rattle.class_rates.specs.SimmKinds.declared.kinds.BucketId.{BucketId}
-use Rattle.class_rates.specs.SimmKinds.declared.kinds.BucketId.TheVariants as id
-use Rattle.class_rates.specs.SimmKinds.Order.{name_cmp, same_name, bucket_id_cmp}
+use Rattle.class_rates.specs.SimmKinds.Order.{name_cmp, same_name}
 use Rattle.class_rates.specs.SimmRules.declared.values.BucketMargin.{BucketMargin}
 use Rattle.class_rates.specs.SimmRules.Params.{Params}
 use Rattle.class_rates.specs.SimmRules.Sums.{total_by}
@@ -21,12 +19,12 @@ use Rattle.class_rates.specs.SimmRules.Rates.{VolatilityIn, as_rate_volatility, 
 use Rattle.class_rates.specs.SimmParams.Facts.{IsParams}
 use Rattle.class_rates.specs.SimmParams.Weighed.{AreRatesWeighed}
 use Rattle.class_rates.proofs.FactorBook.Sorting.{different_ascends}
-use Rattle.class_margin.specs.rates_delta.Parts.{IsCurrency, AreParts}
+use Rattle.class_margin.specs.rates_delta.Parts.{AreParts}
 use Rattle.class_margin.specs.rates_delta.Range.{IsPart}
-use Rattle.class_margin.proofs.rates_delta.Lists.{all_map, map_ascends}
+use Rattle.class_margin.proofs.rates_delta.Lists.{all_map}
 use Rattle.class_margin.proofs.rates_delta.Sums.{sum_by-agrees, sum_by-ones, sum_by-shifted}
 use Rattle.class_margin.specs.names_delta.Values.{IsInRange, IsSmall}
-use Rattle.class_rates.proofs.MeasuredBucket.Lists.{each_always}
+use Rattle.class_rates.proofs.MeasuredBucket.Lists.{each_always, map-itself}
 use Rattle.class_rates.proofs.MeasuredBucket.Sizes.{sum_by-map, sum_by-below, sum_by-scaled, sum_by-filter, total_size, size_is}
 use Rattle.class_rates.proofs.MeasuredBucket.Thick.{net_thick, cr_size, cr_low, cr_below, weighted_close}
 use Rattle.class_margin.specs.volatilities.Ranges.{alone}
@@ -161,21 +159,20 @@ module _ (p : Params) (facts : IsParams p) (weighed : (currency : List ℕ) → 
         sum_by-ones all,
       )
 
-  abbrev bucket_at : List ℕ → BucketId × BucketMargin
-  bucket_at currency = (id.Currency currency, currency_vega_value p currency (of currency))
+  abbrev bucket_at : List ℕ → List ℕ × BucketMargin
+  bucket_at currency = (currency, currency_vega_value p currency (of currency))
 
   margins_small : sum_by (λ b. unsigned_abs (b.1).k) (currency_buckets p ss) < 84 * 10 ^ 14
-  margins_small = omega (arith, margins_close, all_small, its.few, sum_by-map (λ (b : BucketId × BucketMargin). unsigned_abs (b.1).k) bucket_at currencies)
+  margins_small = omega (arith, margins_close, all_small, its.few, sum_by-map (λ (b : List ℕ × BucketMargin). unsigned_abs (b.1).k) bucket_at currencies)
 
-  in_order : IsStrictlySortedBy bucket_id_cmp (map (λ b. b.0) (currency_buckets p ss))
+  in_order : IsStrictlySortedBy name_cmp (map (λ b. b.0) (currency_buckets p ss))
   in_order =
-      subst (IsStrictlySortedBy bucket_id_cmp) (sym (map-map (λ (b : BucketId × BucketMargin). b.0) bucket_at currencies))
-      (map_ascends name_cmp bucket_id_cmp id.Currency (λ a b. refl) currencies (different_ascends name_cmp nat_list_cmp_total (map (λ (a : Amount VolatilityIn). (a.of).currency) all)))
+      subst (IsStrictlySortedBy name_cmp) (sym (map-map (λ (b : List ℕ × BucketMargin). b.0) bucket_at currencies ∙ map-itself (λ currency. (bucket_at currency).0) (λ currency. refl) currencies))
+      (different_ascends name_cmp nat_list_cmp_total (map (λ (a : Amount VolatilityIn). (a.of).currency) all))
 
   pub are_parts : AreParts (currency_buckets p ss)
   are_parts = record {
-    currencies = All-from_recursion (λ (b : BucketId × BucketMargin). IsCurrency b.0) (currency_buckets p ss) (all_map (λ (b : BucketId × BucketMargin). IsCurrency b.0) bucket_at currencies (λ currency. tt));
     ascend = in_order;
-    each = All-from_recursion (λ (b : BucketId × BucketMargin). IsPart b.1) (currency_buckets p ss) (all_map (λ (b : BucketId × BucketMargin). IsPart b.1) bucket_at currencies is_part);
+    each = All-from_recursion (λ (b : List ℕ × BucketMargin). IsPart b.1) (currency_buckets p ss) (all_map (λ (b : List ℕ × BucketMargin). IsPart b.1) bucket_at currencies is_part);
     small = margins_small;
   }

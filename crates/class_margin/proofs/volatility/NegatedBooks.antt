@@ -1,6 +1,5 @@
 -- A book with all sensitivities negated: it can be margined where the book can, and has the same buckets.
 use Rattle.std.proofs.Common.{◌≡◌, ◌^◌, ◌≤◌, List, map, length, ℤ, pos, ◌≤ℤ◌, sym, ap, ◌∙◌, subst}
-use Rattle.std.specs.List.{filter}
 use Rattle.std.proofs.lemmas.List.{length-map}
 use Rattle.std.proofs.lemmas.Simd.{map-map}
 use Rattle.class_rates.specs.SimmKinds.declared.kinds.ProductClass.{ProductClass}
@@ -15,12 +14,11 @@ use Rattle.class_rates.specs.SimmRules.Gross.{delta_size, vega_size}
 use Rattle.class_rates.specs.SimmRules.Sums.{different}
 use Rattle.class_rates.specs.SimmRules.Net.{Sensitivity, sensitivities, in_product}
 use Rattle.class_rates.specs.FactorBook.declared.holding.Holding.{Holding}
-use Rattle.class_margin.specs.declared.class_at.ClassAt.{ClassAt}
-use Rattle.class_margin.specs.delta.At.{SideAt}
+use Rattle.class_rates.specs.FactorBook.declared.place.BookSide.{BookSide}
 use Rattle.class_rates.specs.FactorBook.declared.place.Place.{Place}
 use Rattle.class_rates.specs.FactorBook.Factors.{factors_of, net_of}
-use Rattle.class_rates.specs.FactorBook.Places.{stands_at, factors_at}
-use Rattle.class_margin.specs.delta.At.{is_on}
+use Rattle.class_rates.specs.FactorBook.Places.{factors_at, is_key_on, stands_at}
+use Rattle.class_rates.proofs.FactorBook.Buckets.{own}
 use Rattle.book_range.specs.Bounded.{IsBounded, IsMarginable}
 use Rattle.negated_book.specs.Negated.{negated_row, negated, negated_nets, negated_factor, negated_factors}
 use Rattle.negated_book.specs.Turned.{IsEven}
@@ -30,10 +28,8 @@ use Rattle.negated_book.proofs.Rows.{admitted-stay, amounts-stay}
 use Rattle.negated_book.proofs.Range.{delta_size-even, vega_size-even}
 use Rattle.negated_book.proofs.Factors.{factors_of-negated, nets_of-negated}
 use Rattle.class_margin.specs.names_delta.Values.{nets_in}
-use Rattle.class_margin.specs.vega.Combine.{volatility_buckets}
-use Rattle.class_margin.specs.volatility.Vega.{volatility_side}
 
-factors_at-negated : (place : Place) (fs : List (FactorKey × Holding)) → factors_at place (negated_factors fs) ≡ negated_factors (factors_at place fs)
+pub factors_at-negated : (place : Place) (fs : List (FactorKey × Holding)) → factors_at place (negated_factors fs) ≡ negated_factors (factors_at place fs)
 factors_at-negated place fs = filter-map negated_factor (λ f. stands_at place f.0) fs
 
 -- ---- it can be margined
@@ -74,8 +70,8 @@ marginable p fs its = record {
 pub nets_in-negated : (product : ProductClass) (fs : List (FactorKey × Holding)) → nets_in product (negated_factors fs) ≡ negated_nets (nets_in product fs)
 nets_in-negated product fs = ap (in_product product) (nets_of-negated fs) ∙ in_product-negated product (map net_of fs)
 
-pub volatility_buckets-negated : (at : ClassAt) (fs : List (FactorKey × Holding)) → volatility_buckets at (negated_factors fs) ≡ volatility_buckets at fs
-volatility_buckets-negated at fs =
-    let side : SideAt = volatility_side at in
+pub buckets-negated : (c : ProductClass) (k : RiskClass) (s : BookSide) (fs : List (FactorKey × Holding))
+    → different bucket_id_cmp (map (λ (f : FactorKey × Holding). bucket_of f.0.factor) (own c k s (negated_factors fs))) ≡ different bucket_id_cmp (map (λ (f : FactorKey × Holding). bucket_of f.0.factor) (own c k s fs))
+buckets-negated c k s fs =
     let bucket : FactorKey × Holding → BucketId = λ f. bucket_of f.0.factor in
-    ap (different bucket_id_cmp) (ap (map bucket) (filter-map negated_factor (λ f. is_on side f.0) fs) ∙ map-map bucket negated_factor (filter (λ f. is_on side f.0) fs))
+    ap (different bucket_id_cmp) (ap (map bucket) (filter-map negated_factor (λ f. is_key_on c k s f.0) fs) ∙ map-map bucket negated_factor (own c k s fs))

@@ -1,18 +1,18 @@
 //! Classes whose margin is one part over all buckets: interest rates, with a bucket for each
 //! currency, and foreign exchange, with one in all.
 ghost use Rattle.std.specs.Prelude.{◌≡◌, ◌+◌, ◌*◌, ◌^◌, ◌≤◌, IfOk, pos, ◌≤ℤ◌, unsigned_abs};
-ghost use Rattle.std.specs.List.{AllByRecursion};
 ghost use Rattle.class_rates.specs.SimmParams.Ranges.{ir_hvrs, IsWithin};
-ghost use Rattle.class_margin.specs.rates_delta.Parts.{IsCurrency};
 ghost use Rattle.class_margin.specs.curvature.Combine.{over_currencies, over_ratio, over_single};
-ghost use Rattle.class_margin.specs.curvature.Combine.{margins_size, gross_size, AreSized};
+ghost use Rattle.class_margin.specs.curvature.Combine.{margins_size, gross_size};
+ghost use Rattle.class_margin.specs.curvature.Combine.{AreCurrencyParts, AreSized};
 
 use crate::curvature::part::{margin_over, part_over};
-use crate::rates_delta::values_of;
+use crate::parts::values_of;
 use crate::table::{Gamma, GammaTable, Scaling};
+use class_rates::factor_book::Slot;
 use class_rates::mh_units::{Cents, Rate4, div_up};
 use class_rates::pair_sum::outer_root;
-use class_rates::simm_kinds::BucketId;
+use class_rates::simm_kinds::Currency;
 use class_rates::simm_params::Params;
 use class_rates::simm_rules::BucketMargin;
 use std::alloc::{AllocError, Global};
@@ -22,10 +22,9 @@ use std::alloc::{AllocError, Global};
 pub fn over_currencies(
     alloc: Global,
     params: &Params,
-    parts: &[(BucketId, BucketMargin)],
+    parts: &[(Currency, BucketMargin)],
 ) -> Result<Cents, AllocError>
-    requires currencies { AllByRecursion (λ part. IsCurrency part.0) parts.now }
-    requires sized { AreSized parts.now }
+    requires { AreCurrencyParts parts.now }
     ensures value { IfOk result (λ m.
         m.0 ≡ over_ratio (over_currencies params.now parts.now) params.now.ir.hvr) }
     ensures low { IfOk result (λ m. pos 0 ≤ℤ m.0) }
@@ -41,10 +40,9 @@ pub fn over_currencies(
 fn currency_part(
     alloc: Global,
     params: &Params,
-    parts: &[(BucketId, BucketMargin)],
+    parts: &[(Currency, BucketMargin)],
 ) -> Result<i128, AllocError>
-    requires currencies { AllByRecursion (λ part. IsCurrency part.0) parts.now }
-    requires sized { AreSized parts.now }
+    requires { AreCurrencyParts parts.now }
     ensures value { IfOk result (λ m. m ≡ over_currencies params.now parts.now) }
     ensures low { IfOk result (λ m. pos 0 ≤ℤ m) }
     ensures size { IfOk result (λ m.
@@ -78,13 +76,12 @@ fn over_ratio(margin: i128, hvr: Rate4) -> i128
 pub fn over_single(
     alloc: Global,
     params: &Params,
-    parts: &[(BucketId, BucketMargin)],
+    parts: &[(Slot, BucketMargin)],
 ) -> Result<Cents, AllocError>
     requires { AreSized parts.now }
     ensures value { IfOk result (λ m. m.0 ≡ over_single params.now parts.now) }
     ensures low { IfOk result (λ m. pos 0 ≤ℤ m.0) }
-    ensures size { IfOk result (λ m.
-        m.0 ≤ℤ pos (25 * (gross_size parts.now + 10 * margins_size parts.now))) }
+    ensures size { IfOk result (λ m. m.0 ≤ℤ pos (14 * 10 ^ 14)) }
 {
     let values = values_of(alloc, parts)?;
     let root = margin_over(values.as_slice());

@@ -1,14 +1,14 @@
-ghost use Rattle.std.specs.Prelude.{◌≡◌, ◌<◌, ◌*◌, ◌^◌, IfOk, sum_by, pos, ◌≤ℤ◌, unsigned_abs};
-ghost use Rattle.std.specs.List.{AllByRecursion};
-ghost use Rattle.class_rates.specs.SimmKinds.Factors.{listed_id};
-ghost use Rattle.class_margin.specs.names_delta.Combine.{listed_in, parts_in, part_in, residual_k};
-ghost use Rattle.class_margin.specs.names_delta.Combine.{named_margin, IsListed, AreSized};
+ghost use Rattle.std.specs.Prelude.{◌≡◌, ◌∷◌, [], ◌<◌, ◌*◌, ◌^◌, IfOk, sum_by, pos, ◌≤ℤ◌};
+ghost use Rattle.std.specs.Prelude.{unsigned_abs};
+ghost use Rattle.class_margin.specs.Parts.{as_parts};
+ghost use Rattle.class_margin.specs.names_delta.Combine.{listed_in, named_margin, residual_k};
+ghost use Rattle.class_margin.specs.names_delta.Combine.{AreListed, AreSized};
 
 use crate::listed::{ListedClass, number_parts};
 use crate::table::{Gamma, GammaTable, Scaling};
 use class_rates::mh_units::Cents;
 use class_rates::pair_sum::outer_root;
-use class_rates::simm_kinds::BucketId;
+use class_rates::simm_kinds::Bucket;
 use class_rates::simm_params::Params;
 use class_rates::simm_rules::BucketMargin;
 use std::alloc::{AllocError, Global};
@@ -21,10 +21,9 @@ pub fn combine(
     alloc: Global,
     params: &Params,
     class: ListedClass,
-    parts: &[(BucketId, BucketMargin)],
+    parts: &[(Bucket, BucketMargin)],
 ) -> Result<Cents, AllocError>
-    requires listed { AllByRecursion
-        (λ part. IsListed (listed_in params.now class) (listed_id part.0)) parts.now }
+    requires listed { AreListed (listed_in params.now class) parts.now }
     requires sized { AreSized parts.now }
     ensures value { IfOk result (λ m. m.0 ≡ named_margin params.now class parts.now) }
     ensures low { IfOk result (λ m. pos 0 ≤ℤ m.0) }
@@ -42,9 +41,9 @@ pub fn combine(
 }
 
 // The margin of the residual bucket, which diversifies with no other.
-fn residual(parts: &[(BucketId, BucketMargin)]) -> i128
+fn residual(parts: &[(Bucket, BucketMargin)]) -> i128
     requires { sum_by (λ part. unsigned_abs (part.1).k) parts.now < 84 * 10 ^ 14 }
-    ensures { result ≡ residual_k (parts_in parts.now) }
+    ensures { result ≡ residual_k (as_parts parts.now) }
 {
     let mut total = 0;
     for part in parts {
@@ -53,10 +52,10 @@ fn residual(parts: &[(BucketId, BucketMargin)]) -> i128
     total
 }
 
-fn residual_margin(part: &(BucketId, BucketMargin)) -> i128
-    ensures { result ≡ residual_k (part_in part.now) }
+fn residual_margin(part: &(Bucket, BucketMargin)) -> i128
+    ensures { result ≡ residual_k (as_parts (part.now ∷ [])) }
 {
-    if let BucketId::Residual = part.0 {
+    if let Bucket::Residual = part.0 {
         part.1.k
     } else {
         0

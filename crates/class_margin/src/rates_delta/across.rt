@@ -1,12 +1,13 @@
 //! The margin over the currencies of a product class.
-ghost use Rattle.std.specs.Prelude.{◌≡◌, map, sum_by, IfOk, pos, ◌≤ℤ◌, unsigned_abs};
+ghost use Rattle.std.specs.Prelude.{◌≡◌, sum_by, IfOk, pos, ◌≤ℤ◌, unsigned_abs};
 ghost use Rattle.class_margin.specs.rates_delta.Parts.{AreParts, margin_over};
 
+use crate::parts::values_of;
 use crate::ratios::Ratios;
 use crate::table::{Gamma, GammaTable, Scaling};
 use class_rates::mh_units::Cents;
 use class_rates::pair_sum::outer_root;
-use class_rates::simm_kinds::BucketId;
+use class_rates::simm_kinds::Currency;
 use class_rates::simm_params::Params;
 use class_rates::simm_rules::BucketMargin;
 use std::alloc::{AllocError, Global};
@@ -17,7 +18,7 @@ use std::alloc::{AllocError, Global};
 pub fn combine(
     alloc: Global,
     params: &Params,
-    parts: &[(BucketId, BucketMargin)],
+    parts: &[(Currency, BucketMargin)],
 ) -> Result<Cents, AllocError>
     requires { AreParts parts.now }
     ensures value { IfOk result (λ m. m.0 ≡ margin_over params.now parts.now) }
@@ -32,14 +33,4 @@ pub fn combine(
         scaling: Scaling::Concentrated(Ratios { buckets }),
     };
     Ok(Cents(outer_root(buckets, &correlation)))
-}
-
-/// The values of buckets, side by side. Want of memory is the only error.
-pub fn values_of(
-    alloc: Global,
-    parts: &[(BucketId, BucketMargin)],
-) -> Result<Vec<BucketMargin>, AllocError>
-    ensures { IfOk result (λ values. values.items ≡ map (λ b. b.1) parts.now) }
-{
-    parts.iter().map(|part| part.1).collect(alloc)
 }

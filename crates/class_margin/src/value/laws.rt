@@ -7,7 +7,6 @@ ghost use Rattle.class_rates.specs.FactorBook.Places.{factors_at, lent_at};
 ghost use Rattle.book_range.specs.Bounded.{IsMarginable};
 ghost use Rattle.class_margin.specs.value.Place.{IsMeasurable};
 
-use crate::rates_delta::currencies_make_delta;
 use class_rates::factor_book::factors_are_netted;
 use class_rates::simm_params::Params;
 
@@ -19,6 +18,6 @@ pub fn places_can_be_measured(params: &Params)
         → factors_at place factors ≢ [] → IsMeasurable params.now (lent_at factors place) }
 {
     params.facts();
+    params.rate_facts();
     factors_are_netted();
-    currencies_make_delta(params);
 }

@@ -9,7 +9,7 @@ use Rattle.class_rates.specs.SimmRules.Across.{outer}
 use Rattle.class_rates.specs.SimmRules.Bucket.{combined}
 use Rattle.class_rates.specs.SimmRules.Lookups.{six}
 use Rattle.class_rates.proofs.MhUnits.Roundings.{correlation_size}
-use Rattle.class_margin.specs.rates_delta.Parts.{parts_of}
+use Rattle.class_margin.specs.Parts.{as_parts}
 use Rattle.class_margin.specs.curvature.Combine.{gamma_across, gross_size, margins_size}
 use Rattle.class_margin.specs.curvature.Part.{part_over}
 use Rattle.class_margin.proofs.curvature.Currencies.{values_of, values_are, all_values, values_size, currencies_root, even-symmetric, even-small}
@@ -108,11 +108,11 @@ returns-clause-value c =
     let part = c.part_over.result in
     let fits : FitsSigned w128 part = search rules in
     same128 part fits ∙ c.part_over.ensures.value ∙ ap (λ z. part_over z c.as_slice-2.result.now (passed root)) c.lambda_base.ensures.value
-    ∙ ap (λ ms. part_over p.lambda_base ms (passed root)) (again ∙ values_are ps c.requires.currencies)
-    ∙ ap (part_over p.lambda_base (map (λ b. b.value) (parts_of ps)))
-    (root_is ∙ c.outer_root-root.ensures.value ∙ currencies_root (gamma_across p) (combined c.in_millionths-between.result.0 c.in_millionths-between.result.0) ps c.as_slice.result.now c.requires.currencies sized.ascends made
+    ∙ ap (λ ms. part_over p.lambda_base ms (passed root)) (again ∙ values_are ps)
+    ∙ ap (part_over p.lambda_base (map (λ b. b.value) (as_parts ps)))
+    (root_is ∙ c.outer_root-root.ensures.value ∙ currencies_root (gamma_across p) (combined c.in_millionths-between.result.0 c.in_millionths-between.result.0) ps c.as_slice.result.now c.requires.ascends made
     (ap (λ z. combined z z) (c.in_millionths-between.ensures.value ∙ ap six c.rate_gamma.ensures.value)))
-    ∙ part_is p.lambda_base (parts_of ps) (outer same_name (λ b d. gamma_across p) (parts_of ps))
+    ∙ part_is p.lambda_base (as_parts ps) (outer same_name (λ b d. gamma_across p) (as_parts ps))
 
 pub returns-clause-low : goal.returns-clause-low
 returns-clause-low c =

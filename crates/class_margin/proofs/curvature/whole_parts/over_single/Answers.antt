@@ -6,10 +6,10 @@ use Rattle.class_rates.proofs.MhUnits.Integers.{same128}
 use Rattle.class_rates.specs.SimmRules.declared.values.BucketMargin.{BucketMargin}
 use Rattle.class_rates.specs.SimmRules.Sums.{total_by}
 use Rattle.class_rates.proofs.FactorBook.Sums.{total_by-map}
-use Rattle.class_rates.specs.SimmKinds.declared.kinds.BucketId.{BucketId}
-use Rattle.class_margin.specs.curvature.Combine.{as_parts, gross_size, margins_size}
+use Rattle.class_rates.specs.FactorBook.declared.slot.Slot.{Slot}
+use Rattle.class_margin.specs.Parts.{as_parts}
 use Rattle.class_margin.specs.curvature.Part.{margin_over, part_over}
-use Rattle.class_margin.proofs.curvature.Currencies.{values_of, single_values, all_values, by_values, values_size}
+use Rattle.class_margin.proofs.curvature.Currencies.{values_of, values_are, all_values, by_values, values_size}
 use Rattle.class_margin.proofs.curvature.Lambdas.{passed}
 use Rattle.class_margin.proofs.curvature.Totals.{part_is, bound_from, margins_low}
 use Rattle.class_margin.proofs.curvature.whole_parts.over_single.Goals as goal
@@ -92,9 +92,9 @@ returns-clause-value c =
     let part = c.part_over.result in
     let fits : FitsSigned w128 part = search rules in
     same128 part fits ∙ c.part_over.ensures.value ∙ ap (λ z. part_over z c.as_slice-2.result.now (passed root)) c.lambda_base.ensures.value
-    ∙ ap (λ ms. part_over p.lambda_base ms (passed root)) (again ∙ single_values ps)
+    ∙ ap (λ ms. part_over p.lambda_base ms (passed root)) (again ∙ values_are ps)
     ∙ ap (part_over p.lambda_base (map (λ b. b.value) (as_parts ps)))
-    (root_is ∙ c.margin_over-root.ensures.value ∙ ap margin_over made ∙ total_by-map (λ (m : BucketMargin). m.k) (λ (part : BucketId × BucketMargin). part.1) ps)
+    (root_is ∙ c.margin_over-root.ensures.value ∙ ap margin_over made ∙ total_by-map (λ (m : BucketMargin). m.k) (λ (part : Slot × BucketMargin). part.1) ps)
     ∙ part_is p.lambda_base (as_parts ps) (total_by (λ part. (part.1).k) ps)
 
 pub returns-clause-low : goal.returns-clause-low
@@ -127,10 +127,11 @@ returns-clause-size c =
     let again : c.as_slice-2.result.now ≡ values_of ps = c.as_slice-2.ensures.value ∙ c.in_ok-values.ensures in
     let part = c.part_over.result in
     let fits : FitsSigned w128 part = search rules in
-    subst (λ z. z ≤ℤ pos (25 * (gross_size ps + 10 * margins_size ps))) (sym (same128 part fits))
+    subst (λ z. z ≤ℤ pos (14 * 10 ^ 14)) (sym (same128 part fits))
     (omega (
       arith,
       ints,
+      sized.small,
       values_size (λ m. unsigned_abs m.gross) ps (values_of ps) refl,
       values_size (λ m. unsigned_abs m.k) ps (values_of ps) refl,
       bound_from (values_of ps) c.as_slice.result.now c.as_slice-2.result.now root part made again low (omega (arith, ints, low, c.margin_over-root.ensures.size))

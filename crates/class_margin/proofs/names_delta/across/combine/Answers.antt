@@ -7,7 +7,8 @@ use Rattle.class_rates.proofs.MhUnits.Integers.{same128}
 use Rattle.class_rates.specs.SimmKinds.Order.{same_bucket}
 use Rattle.class_rates.specs.SimmRules.declared.values.BucketMargin.{BucketMargin}
 use Rattle.class_rates.specs.SimmRules.Across.{outer, numbered, gamma_among}
-use Rattle.class_margin.specs.names_delta.Combine.{listed_in, gamma_in, parts_in}
+use Rattle.class_margin.specs.Parts.{as_parts}
+use Rattle.class_margin.specs.names_delta.Combine.{listed_in, gamma_in}
 use Rattle.class_margin.proofs.curvature.Splits.{gamma_small}
 use Rattle.class_margin.proofs.names_delta.Parts.{size, sizes_numbered, split_sizes, each_numbered, whole_sum, outer_is, numbered_ascend, gamma-symmetric, gamma-small}
 use Rattle.class_margin.proofs.names_delta.across.combine.Goals as goal
@@ -57,8 +58,8 @@ returns-clause-value c =
     ap (λ z. cast_signed w128 (cast_unsigned w128 (z +ℤ cast_signed w128 (cast_unsigned w128 c.residual.result)))) (same128 c.outer_root-outer.result sum.first)
     ∙ ap (λ z. cast_signed w128 (cast_unsigned w128 (c.outer_root-outer.result +ℤ z))) (same128 c.residual.result sum.second)
     ∙ same128 (c.outer_root-outer.result +ℤ c.residual.result) sum.both
-    ∙ ap (λ z. z +ℤ c.residual.result) (c.outer_root-outer.ensures.value ∙ outer_is (listed_in c.args.params.now c.args.class) (gamma_in c.args.params.now c.args.class) (numbered (parts_in ps)) c.as_slice.result.now c.in_ok-numbered.numbered.places.items (numbered_ascend ps c.requires.sized.ascends) made c.in_ok-numbered.ensures.places)
-    ∙ ap (λ z. outer same_bucket (gamma_among (listed_in c.args.params.now c.args.class) (gamma_in c.args.params.now c.args.class)) (numbered (parts_in ps)) +ℤ z) c.residual.ensures
+    ∙ ap (λ z. z +ℤ c.residual.result) (c.outer_root-outer.ensures.value ∙ outer_is (listed_in c.args.params.now c.args.class) (gamma_in c.args.params.now c.args.class) (numbered (as_parts ps)) c.as_slice.result.now c.in_ok-numbered.numbered.places.items (numbered_ascend ps c.requires.sized.ascends) made c.in_ok-numbered.ensures.places)
+    ∙ ap (λ z. outer same_bucket (gamma_among (listed_in c.args.params.now c.args.class) (gamma_in c.args.params.now c.args.class)) (numbered (as_parts ps)) +ℤ z) c.residual.ensures
 
 pub returns-clause-low : goal.returns-clause-low
 returns-clause-low c =

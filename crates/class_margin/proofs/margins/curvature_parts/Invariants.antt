@@ -1,6 +1,0 @@
-use Rattle.std.proofs.Common.{◌≡◌, take}
-use Rattle.class_margin.specs.value.Values.{curvature_parts}
-use Rattle.class_margin.proofs.margins.curvature_parts.Given as goal
-
-abbrev pub invariant-loop-value : goal.invariant-loop-value
-invariant-loop-value l = l.parts.items ≡ curvature_parts (take l.value-index l.values)
